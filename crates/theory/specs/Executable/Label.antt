@@ -1,0 +1,34 @@
+-- Document 01, "Label": one word for each line of the reduced query, shared variables shown.
+use mathlib.Core.Bool.{Bool, true, false, cond}
+use mathlib.Core.List.{List, [], _∷_, map}
+use Prim.Native.Nat.{ℕ, _+_, _*_, _/_, _%_, _^_}
+use Rattle.theory.specs.Query.{Line, Query}
+use Rattle.theory.specs.Executable.Test.{all, any}
+use Rattle.theory.specs.Executable.Reduce.{reduce}
+use Rattle.theory.specs.Executable.Show.{show}
+use Rattle.theory.specs.Executable.Cover.{covers}
+
+-- bit k of a word
+abbrev pub bit : ℕ → ℕ → ℕ
+bit w k = w / 2 ^ k % 2
+
+-- the views that cover a line, as a word: view n at bit n − 1
+unfoldable pub viewBits : List Line → Line → ℕ
+unfolding covers
+viewBits [] A = 0
+viewBits (v ∷ vs) A = cond (covers v A) 1 0 + 2 * viewBits vs A
+
+-- "the low 32 bits hold the table number and the high 32 bits the views, view n at bit 31 + n"
+unfoldable pub label : List Line → Line → ℕ
+unfolding viewBits
+label vs A = A .table + 2 ^ 32 * viewBits vs A
+
+-- "One word of 64 bits for each reduced line"
+unfoldable pub labels : List Line → Query → List ℕ
+unfolding label reduce show
+labels vs Q = map (label vs) (show (reduce Q))
+
+-- "A partition settles a query when each label holds one of its views."
+unfoldable pub settles : List Line → Query → Bool
+unfolding all any covers reduce show
+settles vs Q = all (λ A. any (λ v. covers v A) vs) (show (reduce Q))
