@@ -1,2 +1,4 @@
 pub mod Printed
 pub mod Lists
+pub mod Find
+pub mod Tuples
