@@ -1,0 +1,2 @@
+-- Each executable definition of `specs/Executable` is its relation.
+pub mod Test
