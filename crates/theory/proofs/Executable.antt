@@ -1,2 +1,3 @@
 -- Each executable definition of `specs/Executable` is its relation.
 pub mod Test
+pub mod Reduce

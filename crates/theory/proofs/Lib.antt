@@ -6,3 +6,7 @@ pub mod Executable
 pub mod Pigeonhole
 pub mod Endomorphism
 pub mod Terms
+pub mod Match
+pub mod Determine
+pub mod Archive
+pub mod Reduce

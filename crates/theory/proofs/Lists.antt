@@ -3,7 +3,7 @@ use mathlib.Core.Path.{_≡_, refl, sym, ap, _∙_}
 use mathlib.Core.Logic.{_⊎_, inl, inr, ⊎-elim, _≢_}
 use mathlib.Core.Option.{Option, none, some, Option·some-injective}
 use mathlib.Core.List.{List, [], _∷_, _++_, map, zip, zipWith, List·Memᴰ·head, List·Memᴰ·tail, List·Memᴰ·not-nil, List·Memᴰ·cases-cons, Memᴰ·cast, List·Permᴰ, List·Permᴰ·nil, List·Permᴰ·cons, List·Permᴰ·swap, List·Permᴰ·trans, Permᴰ·refl}
-use Prim.Native.Nat.{ℕ, zero, suc, _<_, zero-le, suc-le-suc}
+use Prim.Native.Nat.{ℕ, zero, suc, _≤_, _<_, zero-le, suc-le-suc}
 use native.Mathlib.Nat.{not-suc-le-zero, le-of-suc-le-suc, suc-inj, suc-ne-zero}
 use native.Mathlib.Omega.{arith}
 use lib.ListN.{length, getD, getElem?}
@@ -65,6 +65,15 @@ module _ {X : Type 0} where
   length-without i [] h = absurd (not-suc-le-zero h)
   length-without zero (y ∷ l) h = refl
   length-without (suc i) (y ∷ l) h = ap suc (length-without i l (le-of-suc-le-suc h))
+
+  -- a later place, after one is taken out, was one further on
+  pub without-twice : (i j : ℕ) (l : List X) {x : X} → x ∈ without j (without i l) → i ≤ j → x ∈ without (suc j) l
+  without-twice i j [] m h = m
+  without-twice zero j (y ∷ l) m h = List·Memᴰ·tail m
+  without-twice (suc i) zero (y ∷ l) m h = absurd (not-suc-le-zero h)
+  without-twice (suc i) (suc j) (y ∷ l) m h =
+      ⊎-elim (λ e. List·Memᴰ·head e) (λ t. List·Memᴰ·tail (without-twice i j l t (le-of-suc-le-suc h)))
+      (List·Memᴰ·cases-cons m)
 
   -- ---- lists without repeats
 

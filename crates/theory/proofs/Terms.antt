@@ -1,12 +1,11 @@
 -- Facts on terms and their images, and decided equality of terms and lines.
-use mathlib.Core.Path.{_≡_, refl, ap}
-use mathlib.Core.List.{List-discrete}
+use mathlib.Core.Path.{_≡_, refl}
 use Prim.Native.Nat.{ℕ}
 use native.Mathlib.Decide.{ℕ-discrete}
 use native.Mathlib.Omega.{arith}
 use Rattle.theory.specs.Query.{Term, Term-discrete, constant, shown, hidden, Line}
 use Rattle.theory.specs.Reduce.{image}
-use Rattle.theory.proofs.Tuples.{tuple-path}
+use Rattle.theory.proofs.Tuples.{tuple-discrete}
 
 pub term-discrete : Discrete Term
 term-discrete = Term-discrete ℕ-discrete
@@ -21,9 +20,4 @@ from-hidden g (shown n) k e = absurd (let z : _≡_ {A = ℕ} 0 1 = cc in omega 
 from-hidden g (hidden n) k e = (n, refl)
 
 pub line-discrete : Discrete Line
-line-discrete A B = go (ℕ-discrete (A .table) (B .table)) (List-discrete term-discrete (A .columns) (B .columns))
-  where
-    go : Dec (A .table ≡ B .table) → Dec (A .columns ≡ B .columns) → Dec (A ≡ B)
-    go (yes e) (yes f) = yes (tuple-path e f)
-    go (yes e) (no n) = no (λ p. n (ap (λ (x : Line). x .columns) p))
-    go (no n) d = no (λ p. n (ap (λ (x : Line). x .table) p))
+line-discrete = tuple-discrete term-discrete

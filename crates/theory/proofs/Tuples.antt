@@ -1,14 +1,23 @@
 -- Facts on lines and rows: changed column by column, and compared column by column, by place or as pairs of a zip.
 use mathlib.Core.Path.{_≡_, refl, sym, ap, ap₂, _∙_}
 use mathlib.Core.Logic.{⊎-elim}
-use mathlib.Core.List.{List, [], _∷_, map, map-map, zip, zipWith, List·Memᴰ·head, List·Memᴰ·tail, List·Memᴰ·not-nil, List·Memᴰ·cases-cons}
+use mathlib.Core.List.{List, [], _∷_, map, map-map, List-discrete, zip, zipWith, List·Memᴰ·head, List·Memᴰ·tail, List·Memᴰ·not-nil, List·Memᴰ·cases-cons}
 use Prim.Native.Nat.{ℕ, zero, suc, _<_, zero-le, suc-le-suc}
 use native.Mathlib.Nat.{not-suc-le-zero, le-of-suc-le-suc, suc-inj, suc-ne-zero}
-use lib.ListN.{length, getD, length-map}
+use native.Mathlib.Decide.{ℕ-discrete}
+use lib.ListN.{length, getD}
 use Rattle.theory.specs.Query.{Tuple, over, _∈_}
 
 pub tuple-path : {X : Type 0} {A B : Tuple X} → A .table ≡ B .table → A .columns ≡ B .columns → A ≡ B
 tuple-path e f = λ i. record { table = e i; columns = f i }
+
+pub tuple-discrete : {X : Type 0} → Discrete X → Discrete (Tuple X)
+tuple-discrete dec A B = go (ℕ-discrete (A .table) (B .table)) (List-discrete dec (A .columns) (B .columns))
+  where
+    go : Dec (A .table ≡ B .table) → Dec (A .columns ≡ B .columns) → Dec (A ≡ B)
+    go (yes e) (yes f) = yes (tuple-path e f)
+    go (yes e) (no n) = no (λ p. n (ap (λ (x : Tuple _). x .columns) p))
+    go (no n) d = no (λ p. n (ap (λ (x : Tuple _). x .table) p))
 
 -- ---- lists changed element by element
 
