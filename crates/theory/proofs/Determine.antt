@@ -1,3 +1,7 @@
 -- Determinacy is settling: document 01, "Determining" against "Showing" and "Covering".
 pub mod Inside
-pub mod Covered
+pub mod Sufficient
+pub mod Freeze
+pub mod Marked
+pub mod Archives
+pub mod Necessary

@@ -10,3 +10,10 @@ pub mod Match
 pub mod Determine
 pub mod Archive
 pub mod Reduce
+pub mod Bits
+pub mod Count
+pub mod Cover
+pub mod Rewrite
+pub mod Show
+pub mod Alike
+pub mod Fixed

@@ -1,4 +1,4 @@
--- Document 01, "Reducing": the lines left give the same answers, and none of them may go (DESIGN, T1).
+-- Document 01, "Reducing": the lines left give the same answers, and none of them may go.
 use mathlib.Core.Path.{_≡_, refl, sym, _∙_}
 use mathlib.Core.Logic.{_↔_, ⊎-elim, Iff·rfl, Iff·trans}
 use mathlib.Core.Option.{some, Option·some-injective}
@@ -47,7 +47,7 @@ value-image m s h (shown n) = refl
 value-image m s h (hidden n) = refl
 
 -- Where a map sends Q to R, an answer of R is one of Q: a hidden variable takes the value of its image.
-sent-answers : (m : ℕ → Term) {Q R : Query} → Sends m Q R → (D : Archive) (s : ℕ → ℕ) → Answer R D s → Answer Q D s
+pub sent-answers : (m : ℕ → Term) {Q R : Query} → Sends m Q R → (D : Archive) (s : ℕ → ℕ) → Answer R D s → Answer Q D s
 sent-answers m f D s r =
     let (h, g) = r in
     (λ n. value s h (m n),

@@ -1,12 +1,12 @@
 -- Facts on lines and rows: changed column by column, and compared column by column, by place or as pairs of a zip.
-use mathlib.Core.Path.{_≡_, refl, sym, ap, ap₂, _∙_}
+use mathlib.Core.Path.{_≡_, refl, sym, ap, ap₂, _∙_, subst}
 use mathlib.Core.Logic.{⊎-elim}
 use mathlib.Core.List.{List, [], _∷_, map, map-map, List-discrete, zip, zipWith, List·Memᴰ·head, List·Memᴰ·tail, List·Memᴰ·not-nil, List·Memᴰ·cases-cons}
-use Prim.Native.Nat.{ℕ, zero, suc, _<_, zero-le, suc-le-suc}
+use Prim.Native.Nat.{ℕ, zero, suc, _-_, _≤_, _<_, zero-le, suc-le-suc}
 use native.Mathlib.Nat.{not-suc-le-zero, le-of-suc-le-suc, suc-inj, suc-ne-zero}
 use native.Mathlib.Decide.{ℕ-discrete}
-use lib.ListN.{length, getD}
-use Rattle.theory.specs.Query.{Tuple, over, _∈_}
+use lib.ListN.{length, getD, length-map}
+use Rattle.theory.specs.Query.{Tuple, over, _∈_, Fits}
 
 pub tuple-path : {X : Type 0} {A B : Tuple X} → A .table ≡ B .table → A .columns ≡ B .columns → A ≡ B
 tuple-path e f = λ i. record { table = e i; columns = f i }
@@ -106,3 +106,23 @@ map-self f (x ∷ l) h = ap₂ _∷_ (h x (List·Memᴰ·head refl)) (map-self f
 
 pub over-self : {X : Type 0} (f : X → X) (A : Tuple X) → ((x : X) → x ∈ A .columns → f x ≡ x) → over f A ≡ A
 over-self f A h = tuple-path refl (map-self f (A .columns) h)
+
+-- what two functions make of a list is the same only where they agree on its elements
+pub same-map : {X Y : Type 0} (f g : X → Y) (l : List X) → map f l ≡ map g l → (x : X) → x ∈ l → f x ≡ g x
+same-map f g [] e x m = absurd (List·Memᴰ·not-nil m)
+same-map f g (y ∷ l) e x m =
+    ⊎-elim (λ q. let z : f y ≡ g y = cc in ap f q ∙ z ∙ sym (ap g q)) (λ t. same-map f g l (cc) x t) (List·Memᴰ·cases-cons m)
+
+-- ---- fitting goes by table and width
+
+pub fits-like : {X Y : Type 0} {widths : List ℕ} {A : Tuple X} {B : Tuple Y} → A .table ≡ B .table
+    → length (A .columns) ≡ length (B .columns) → Fits widths A → Fits widths B
+fits-like {widths = ws} t w f =
+    record {
+      first = subst (λ (n : ℕ). 1 ≤ n) t (f .first);
+      last = subst (λ (n : ℕ). n ≤ length ws) t (f .last);
+      width = sym w ∙ f .width ∙ ap (λ (n : ℕ). getD ws (n - 1) 0) t
+    }
+
+pub fits-over : {X Y : Type 0} {widths : List ℕ} (f : X → Y) (A : Tuple X) → Fits widths A → Fits widths (over f A)
+fits-over f A k = fits-like refl (sym (length-map (A .columns) f)) k
