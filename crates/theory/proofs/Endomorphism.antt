@@ -10,9 +10,9 @@ use native.Mathlib.Omega.{arith}
 use lib.ListN.{length-map, getElem?}
 use Rattle.theory.specs.Query.{Term, constant, shown, hidden, over, Line, Query, _∈_}
 use Rattle.theory.specs.Reduce.{image, Sends, Reduced}
-use Rattle.theory.proofs.Lists.{place, place-below, without-cases}
+use Rattle.theory.proofs.Lists.{place, place-below, without-cases, map-no-repeats}
 use Rattle.theory.proofs.Terms.{hidden-one, from-hidden, line-discrete}
-use Rattle.theory.proofs.Pigeonhole.{OneToOne, pigeonhole, member, distinct, distinct-repeats, mem-distinct, distinct-mem, map-repeats}
+use Rattle.theory.proofs.Pigeonhole.{OneToOne, pigeonhole, member, distinct, distinct-repeats, mem-distinct, distinct-mem}
 
 -- the hidden variable stands in the query
 abbrev pub Stands : ℕ → Query → Type 0
@@ -105,7 +105,7 @@ module _ {R : Query} (reduced : Reduced R) {g : ℕ → Term} (sends : Sends g R
   on-variables : OneToOne g ns (map hidden ns)
   unfolding ns
   on-variables =
-      pigeonhole g ns (map hidden ns) (map-repeats hidden hidden-one ns (distinct-repeats ℕ-discrete (variables R)))
+      pigeonhole g ns (map hidden ns) (map-no-repeats hidden ns (λ n k i j. hidden-one n k) (distinct-repeats ℕ-discrete (variables R)))
       (le-of-eq (sym (length-map ns hidden)))
       (λ y m.
       let k = Memᴰ·of-map hidden ns m in

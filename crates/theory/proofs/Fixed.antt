@@ -13,10 +13,10 @@ use Rattle.theory.specs.Show.{Shared}
 use Rattle.theory.specs.Cover.{at, IsHidden}
 use Rattle.theory.specs.Executable.Show.{showTerm, show}
 use Rattle.theory.specs.Executable.Label.{label}
-use Rattle.theory.proofs.Lists.{place, at-place, without-other, NoRepeats, none-repeats, one-more, head-repeats, tail-repeats, same-elements}
+use Rattle.theory.proofs.Lists.{place, at-place, without-other, map-no-repeats, same-elements}
 use Rattle.theory.proofs.Tuples.{tuple-path, map-same, getD-map, getD-mem, over-over, over-same}
 use Rattle.theory.proofs.Terms.{from-hidden}
-use Rattle.theory.proofs.Reduce.{image-twice, sends-twice, reduced-reduced, reduced-subset, reduced-map, reduced-place, reduced-no-repeats}
+use Rattle.theory.proofs.Reduce.{image-twice, sends-twice, reduced-reduced, reduced-subset, reduced-clear, reduced-map, reduced-place, reduced-no-repeats}
 use Rattle.theory.proofs.Endomorphism.{Stands, hits, hidden-stay, one-to-one}
 use Rattle.theory.proofs.Executable.Show.{show-shared, show-unshared, show-shows}
 use Rattle.theory.proofs.Show.{show-one-to-one}
@@ -32,14 +32,6 @@ module _ {X Y : Type 0} (f : X → Y) where
   map-apart (x ∷ xs) (y ∷ ys) one e =
       ap₂ _∷_ (one x y (List·Memᴰ·head refl) (List·Memᴰ·head refl) (cc))
       (map-apart xs ys (λ z w i j. one z w (List·Memᴰ·tail i) (List·Memᴰ·tail j)) (cc))
-
-  map-no-repeats : (l : List X) → ((x y : X) → x ∈ l → y ∈ l → f x ≡ f y → x ≡ y) → NoRepeats l → NoRepeats (map f l)
-  map-no-repeats [] one r = none-repeats
-  map-no-repeats (x ∷ l) one r =
-      one-more
-      (λ m. let k = Memᴰ·of-map f l m in
-      head-repeats r (Memᴰ·cast (one x (k .0) (List·Memᴰ·head refl) (List·Memᴰ·tail (k .1)) (sym (k .2))) (k .1)))
-      (map-no-repeats l (λ y z i j. one y z (List·Memᴰ·tail i) (List·Memᴰ·tail j)) (tail-repeats r))
 
 -- ---- shared variables of a reduced query
 
@@ -249,9 +241,6 @@ module _ {R₁ R₂ : Query} (reduced₁ : Reduced R₁) (reduced₂ : Reduced R
 
 -- ---- two reduced forms of one query
 
-clear-inside : {Q R : Query} → ((A : Line) → A ∈ R → A ∈ Q) → NoClash Q → NoClash R
-clear-inside inside clear n A B i j = clear n A B (inside A i) (inside B j)
-
 -- What does not tell lines apart that differ in the numbers of their variables alone is fixed by the query.
 pub reduced-forms-alike : {X : Type 0} (f : Line → X) → ((A B : Line) → Alike A B → f A ≡ f B) → {Q R₁ R₂ : Query}
     → NoClash Q → ReducesTo Q R₁ → ReducesTo Q R₂ → List·Permᴰ (map f (show R₁)) (map f (show R₂))
@@ -259,7 +248,7 @@ reduced-forms-alike f invariant clear r₁ r₂ =
     let (a, to) = reduced-map r₂ in
     let (b, from) = reduced-map r₁ in
     forms-alike (reduced-reduced r₁) (reduced-reduced r₂) a b (λ A i. to A (reduced-subset r₁ A i))
-    (λ A i. from A (reduced-subset r₂ A i)) (clear-inside (reduced-subset r₁) clear) (clear-inside (reduced-subset r₂) clear)
+    (λ A i. from A (reduced-subset r₂ A i)) (reduced-clear r₁ clear) (reduced-clear r₂ clear)
     f invariant
 
 pub labels-fixed : (vs : List Line) {Q R₁ R₂ : Query} → NoClash Q → ReducesTo Q R₁ → ReducesTo Q R₂

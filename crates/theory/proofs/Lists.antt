@@ -1,12 +1,12 @@
--- Facts on lists that the kit's libraries lack: places, a list without one of its places, lists without repeats, zips.
+-- Facts on lists that the kit's libraries lack: places, a list without one of its places, lists without repeats.
 use mathlib.Core.Path.{_≡_, refl, sym, ap, _∙_}
 use mathlib.Core.Logic.{_⊎_, inl, inr, ⊎-elim, _≢_}
 use mathlib.Core.Option.{Option, none, some, Option·some-injective}
-use mathlib.Core.List.{List, [], _∷_, _++_, map, zip, zipWith, List·Memᴰ·head, List·Memᴰ·tail, List·Memᴰ·not-nil, List·Memᴰ·cases-cons, Memᴰ·cast, List·Permᴰ, List·Permᴰ·nil, List·Permᴰ·cons, List·Permᴰ·swap, List·Permᴰ·trans, Permᴰ·refl}
+use mathlib.Core.List.{List, [], _∷_, map, List·Memᴰ·head, List·Memᴰ·tail, List·Memᴰ·not-nil, List·Memᴰ·cases-cons, Memᴰ·cast, Memᴰ·of-map, List·Permᴰ, List·Permᴰ·nil, List·Permᴰ·cons, List·Permᴰ·swap, List·Permᴰ·trans, Permᴰ·refl}
 use Prim.Native.Nat.{ℕ, zero, suc, _≤_, _<_, zero-le, suc-le-suc}
 use native.Mathlib.Nat.{not-suc-le-zero, le-of-suc-le-suc, suc-inj, suc-ne-zero}
 use native.Mathlib.Omega.{arith}
-use lib.ListN.{length, getD, getElem?}
+use lib.ListN.{length, getElem?}
 use Rattle.theory.specs.Query.{_∈_}
 use Rattle.theory.specs.Reduce.{without}
 
@@ -129,3 +129,12 @@ module _ {X : Type 0} where
       (λ z m. ⊎-elim (λ e. absurd (place-unique ys (p .0) ry (p .1) (Memᴰ·cast (sym e) m))) (λ k. k)
       (List·Memᴰ·cases-cons (from z (without-subset (p .0) ys m))))))
       (permuted-out ys (p .0) (p .1))
+
+-- a function that is one to one on a list without repeats keeps it so
+pub map-no-repeats : {X Y : Type 0} (f : X → Y) (l : List X) → ((x y : X) → x ∈ l → y ∈ l → f x ≡ f y → x ≡ y) → NoRepeats l → NoRepeats (map f l)
+map-no-repeats f [] one r = none-repeats
+map-no-repeats f (x ∷ l) one r =
+    one-more
+    (λ m. let k = Memᴰ·of-map f l m in
+    head-repeats r (Memᴰ·cast (one x (k .0) (List·Memᴰ·head refl) (List·Memᴰ·tail (k .1)) (sym (k .2))) (k .1)))
+    (map-no-repeats f l (λ y z i j. one y z (List·Memᴰ·tail i) (List·Memᴰ·tail j)) (tail-repeats r))

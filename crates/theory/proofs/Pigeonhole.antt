@@ -2,7 +2,7 @@
 use mathlib.Core.Path.{_≡_, refl, sym, ap, _∙_}
 use mathlib.Core.Logic.{⊎-elim}
 use mathlib.Core.Option.{some, Option·some-injective}
-use mathlib.Core.List.{List, [], _∷_, map, List·Memᴰ·head, List·Memᴰ·tail, List·Memᴰ·not-nil, List·Memᴰ·cases-cons, Memᴰ·cast, Memᴰ·of-map}
+use mathlib.Core.List.{List, [], _∷_, List·Memᴰ·head, List·Memᴰ·tail, List·Memᴰ·not-nil, List·Memᴰ·cases-cons, Memᴰ·cast}
 use Prim.Native.Nat.{ℕ, suc, _≤_}
 use native.Mathlib.Nat.{not-suc-le-zero}
 use native.Mathlib.Omega.{arith}
@@ -127,10 +127,3 @@ module _ {X : Type 0} (dec : Discrete X) where
   distinct-mem (y ∷ l) m =
       ⊎-elim (λ e. List·Memᴰ·head e) (λ t. List·Memᴰ·tail (distinct-mem l t))
       (List·Memᴰ·cases-cons (unless-cases y (distinct l) (member y (distinct l)) m))
-
--- a one-to-one function keeps a list without repeats so
-pub map-repeats : {X Y : Type 0} (f : X → Y) → ((x x′ : X) → f x ≡ f x′ → x ≡ x′) → (l : List X) → NoRepeats l → NoRepeats (map f l)
-map-repeats f one [] r = none-repeats
-map-repeats f one (x ∷ l) r =
-    one-more (λ m. let k = Memᴰ·of-map f l m in head-repeats r (Memᴰ·cast (one x (k .0) (sym (k .2))) (k .1)))
-    (map-repeats f one l (tail-repeats r))

@@ -1,9 +1,9 @@
 -- Covering is rewriting, the half that the desk needs: a view that covers a line rewrites it, and a view that rewrites a
 -- line determines it.
 use mathlib.Core.Path.{_≡_, refl, sym, ap, _∙_, subst}
-use mathlib.Core.Logic.{⊎-elim}
-use mathlib.Core.List.{List, [], _∷_, zip, List·Memᴰ·head, List·Memᴰ·not-nil, List·Memᴰ·cases-cons, List·Memᴰ·eq-of-singleton, Memᴰ·cast}
-use Prim.Native.Nat.{ℕ, suc, _+_, _<_}
+use mathlib.Core.Logic.{ite, if-pos, if-neg}
+use mathlib.Core.List.{List, [], _∷_, zip, List·Memᴰ·head, List·Memᴰ·eq-of-singleton, Memᴰ·cast}
+use Prim.Native.Nat.{ℕ, _+_, _<_}
 use native.Mathlib.Omega.{arith}
 use lib.ListN.{length, length-map}
 use Rattle.theory.specs.Query.{Term, constant, shown, hidden, over, Line, _∈_}
@@ -13,7 +13,7 @@ use Rattle.theory.specs.Cover.{at, IsHidden, Covers, choose, Rewrites}
 use Rattle.theory.specs.Executable.Test.{number}
 use Rattle.theory.proofs.Find.{find, found}
 use Rattle.theory.proofs.Tuples.{tuple-path, getD-map, map-places, zip-place, place-zip, getD-mem, mem-getD, over-over, over-same}
-use Rattle.theory.proofs.Terms.{term-discrete}
+use Rattle.theory.proofs.Terms.{term-discrete, hidden-decided, above-terms, number-below}
 use Rattle.theory.proofs.Pigeonhole.{member}
 use Rattle.theory.proofs.Reduce.{sent-answers}
 use Rattle.theory.proofs.Match.{answer-of, of-answer}
@@ -58,18 +58,6 @@ module _ (A B : Line) (same-width : length (A .columns) ≡ length (B .columns))
 
 -- ---- hidden numbers moved clear
 
--- above the number of each of the terms
-above : List Term → ℕ
-above [] = 0
-above (t ∷ l) = suc (number t) + above l
-
-number-below : {t : Term} (l : List Term) → t ∈ l → number t < above l
-unfolding above
-number-below [] m = absurd (List·Memᴰ·not-nil m)
-number-below {t} (u ∷ l) m =
-    ⊎-elim (λ e. let z : number t ≡ number u = ap number e in omega arith) (λ i. let z = number-below l i in omega arith)
-    (List·Memᴰ·cases-cons m)
-
 move : ℕ → Term → Term
 move K (constant c) = constant c
 move K (shown n) = shown n
@@ -109,11 +97,6 @@ move-stays K (constant c) n = refl
 move-stays K (shown c) n = refl
 move-stays K (hidden k) n = absurd (n tt)
 
-is-hidden : (t : Term) → Dec (IsHidden t)
-is-hidden (constant c) = no (λ i. i)
-is-hidden (shown n) = no (λ i. i)
-is-hidden (hidden n) = yes tt
-
 choose-hidden : (σ : ℕ → Term) (t : Term) → IsHidden t → choose σ t ≡ t
 choose-hidden σ (constant c) i = refl
 choose-hidden σ (shown n) i = absurd i
@@ -123,7 +106,7 @@ choose-hidden σ (hidden n) i = refl
 
 module _ (v A : Line) (c : Covers v A) where
   K : ℕ
-  K = above (v .columns)
+  K = above-terms (v .columns)
 
   -- the line's term where the view has the shown variable, clear of the view's hidden variables
   chosen : ℕ → Term
@@ -152,7 +135,7 @@ module _ (v A : Line) (c : Covers v A) where
       → choose chosen (at v p) ≡ choose chosen (at v q) → ⊥
   unfolding K
   apart p q l k n i e =
-      move-clear K (at A p) (at v q) i (number-below (v .columns) (getD-mem (v .columns) q (constant 0) k))
+      move-clear K (at A p) (at v q) i (number-below (v .columns) (at v q) (getD-mem (v .columns) q (constant 0) k))
       (sym (opened p l n) ∙ e ∙ closed q i)
 
   clear : (n k : ℕ) → shown n ∈ v .columns → hidden k ∈ v .columns → chosen n ≡ hidden k → ⊥
@@ -164,7 +147,7 @@ module _ (v A : Line) (c : Covers v A) where
 
   chosen-equal : (p q : ℕ) → p < length (v .columns) → q < length (v .columns) → at A p ≡ at A q
       → choose chosen (at v p) ≡ choose chosen (at v q)
-  chosen-equal p q l k e = go (is-hidden (at v p)) (is-hidden (at v q))
+  chosen-equal p q l k e = go (hidden-decided (at v p)) (hidden-decided (at v q))
     where
       go : Dec (IsHidden (at v p)) → Dec (IsHidden (at v q)) → choose chosen (at v p) ≡ choose chosen (at v q)
       go (yes i) d = ap (choose chosen) (c .rules p q l k .only i e)
@@ -173,7 +156,7 @@ module _ (v A : Line) (c : Covers v A) where
 
   equal-chosen : (p q : ℕ) → p < length (v .columns) → q < length (v .columns)
       → choose chosen (at v p) ≡ choose chosen (at v q) → at A p ≡ at A q
-  equal-chosen p q l k e = go (is-hidden (at v p)) (is-hidden (at v q))
+  equal-chosen p q l k e = go (hidden-decided (at v p)) (hidden-decided (at v q))
     where
       go : Dec (IsHidden (at v p)) → Dec (IsHidden (at v q)) → at A p ≡ at A q
       go (yes i) (yes j) = equals p q l k (sym (closed p i) ∙ e ∙ closed q j)
@@ -228,20 +211,6 @@ covers-rewrites widths v A c =
 
 -- ---- a view that rewrites a line determines it
 
-either : {P : Type 0} → Dec P → ℕ → ℕ → ℕ
-either (yes p) x y = x
-either (no n) x y = y
-
-either-yes : {P : Type 0} (d : Dec P) (x y : ℕ) → P → either d x y ≡ x
-unfolding either
-either-yes (yes p) x y h = refl
-either-yes (no n) x y h = absurd (n h)
-
-either-no : {P : Type 0} (d : Dec P) (x y : ℕ) → (P → ⊥) → either d x y ≡ y
-unfolding either
-either-no (yes p) x y h = absurd (h p)
-either-no (no n) x y h = refl
-
 module _ (v : Line) (σ : ℕ → Term)
     (clear : (n k : ℕ) → shown n ∈ v .columns → hidden k ∈ v .columns → σ n ≡ hidden k → ⊥) where
   value-choose : (s h : ℕ → ℕ) (t : Term) → value s h (choose σ t) ≡ value (λ n. value s h (σ n)) h t
@@ -251,7 +220,7 @@ module _ (v : Line) (σ : ℕ → Term)
 
   -- g at the view's hidden variables, h elsewhere
   patch : (g h : ℕ → ℕ) → ℕ → ℕ
-  patch g h k = either (member term-discrete (hidden k) (v .columns)) (g k) (h k)
+  patch g h k = ite (member term-discrete (hidden k) (v .columns)) (g k) (h k)
 
   -- what is chosen for a shown variable keeps its value
   patch-clear : (s g h : ℕ → ℕ) (n : ℕ) → shown n ∈ v .columns → (t : Term) → σ n ≡ t → value s (patch g h) t ≡ value s h t
@@ -259,14 +228,14 @@ module _ (v : Line) (σ : ℕ → Term)
   patch-clear s g h n i (constant c) e = refl
   patch-clear s g h n i (shown k) e = refl
   patch-clear s g h n i (hidden k) e =
-      either-no (member term-discrete (hidden k) (v .columns)) (g k) (h k) (λ j. clear n k i j e)
+      if-neg (member term-discrete (hidden k) (v .columns)) (λ j. clear n k i j e) (g k) (h k)
 
   patched : (s g h : ℕ → ℕ) (t : Term) → t ∈ v .columns
       → value s (patch g h) (choose σ t) ≡ value (λ n. value s h (σ n)) g t
   unfolding patch
   patched s g h (constant c) m = refl
   patched s g h (shown n) m = patch-clear s g h n m (σ n) refl
-  patched s g h (hidden k) m = either-yes (member term-discrete (hidden k) (v .columns)) (g k) (h k) m
+  patched s g h (hidden k) m = if-pos (member term-discrete (hidden k) (v .columns)) m (g k) (h k)
 
   -- Archives that agree on the view agree on what is chosen from it.
   chosen-agree : (D E : Archive) → Agree v D E → (s : ℕ → ℕ) → Answer (over (choose σ) v ∷ []) D s

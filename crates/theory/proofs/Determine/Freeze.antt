@@ -1,7 +1,7 @@
 -- Terms as numbers, for archives that stand for a query: different terms become different numbers, and a number may carry a
 -- mark that is taken off again.
 use mathlib.Core.Path.{_≡_, refl, sym, ap, _∙_}
-use mathlib.Core.Logic.{⊎-elim}
+use mathlib.Core.Logic.{⊎-elim, ite, if-pos, if-neg}
 use mathlib.Core.List.{List, [], _∷_, List·Memᴰ·not-nil, List·Memᴰ·cases-cons}
 use Prim.Native.Nat.{ℕ, suc, _+_, _-_, _*_, _%_, _≤_, _<_}
 use native.Mathlib.Nat.{mod-eq-of-lt, add-mul-mod-self-left, mul-suc, eq-of-mul-eq-mul-left, add-left-cancel, suc-inj}
@@ -10,23 +10,13 @@ use native.Mathlib.Omega.{arith}
 use Rattle.theory.specs.Query.{Term, constant, shown, hidden, Line, _∈_}
 use Rattle.theory.specs.Archive.{value}
 use Rattle.theory.specs.Executable.Test.{number}
+use Rattle.theory.proofs.Terms.{above-terms, number-below}
 
 -- ---- a number above those of all terms
 
-terms-above : List Term → ℕ
-terms-above [] = 0
-terms-above (t ∷ l) = number t + 1 + terms-above l
-
 pub above : List Line → ℕ
 above [] = 1
-above (A ∷ l) = terms-above (A .columns) + above l
-
-terms-above-of : (l : List Term) (t : Term) → t ∈ l → number t < terms-above l
-unfolding terms-above
-terms-above-of [] t m = absurd (List·Memᴰ·not-nil m)
-terms-above-of (u ∷ l) t m =
-    ⊎-elim (λ e. let f : number t ≡ number u = ap number e in omega arith)
-    (λ k. let f = terms-above-of l t k in omega (arith, f)) (List·Memᴰ·cases-cons m)
+above (A ∷ l) = above-terms (A .columns) + above l
 
 pub above-of : (l : List Line) (A : Line) (t : Term) → A ∈ l → t ∈ A .columns → number t < above l
 unfolding above
@@ -34,8 +24,8 @@ above-of [] A t m k = absurd (List·Memᴰ·not-nil m)
 above-of (B ∷ l) A t m k =
     ⊎-elim
     (λ e.
-    let f = terms-above-of (A .columns) t k in
-    let g : terms-above (A .columns) ≡ terms-above (B .columns) = ap (λ (C : Line). terms-above (C .columns)) e in
+    let f = number-below (A .columns) t k in
+    let g : above-terms (A .columns) ≡ above-terms (B .columns) = ap (λ (C : Line). above-terms (C .columns)) e in
     omega (arith, f, g))
     (λ n. let f = above-of l A t n k in omega (arith, f)) (List·Memᴰ·cases-cons m)
 
@@ -66,32 +56,18 @@ module _ (N : ℕ) where
   frozen-below (shown n) l = omega arith
   frozen-below (hidden n) l = omega arith
 
-  if : {P : Type 0} → Dec P → Term → Term → Term
-  if (yes p) t u = t
-  if (no n) t u = u
-
-  if-yes : {P : Type 0} (d : Dec P) (t u : Term) → P → if d t u ≡ t
-  unfolding if
-  if-yes (yes p) t u h = refl
-  if-yes (no n) t u h = absurd (n h)
-
-  if-no : {P : Type 0} (d : Dec P) (t u : Term) → (P → ⊥) → if d t u ≡ u
-  unfolding if
-  if-no (yes p) t u h = absurd (h p)
-  if-no (no n) t u h = refl
-
   -- the term that a number stands for
   thaw : ℕ → Term
-  thaw x = if (decLt x N) (constant x) (if (decLt x (N + N)) (shown (x - N)) (hidden (x - (N + N))))
+  thaw x = ite (decLt x N) (constant x) (ite (decLt x (N + N)) (shown (x - N)) (hidden (x - (N + N))))
 
   thaw-frozen : (t : Term) → number t < N → thaw (frozen t) ≡ t
   unfolding thaw s₀ h₀ number
-  thaw-frozen (constant c) l = if-yes (decLt c N) _ _ l
+  thaw-frozen (constant c) l = if-pos (decLt c N) l _ _
   thaw-frozen (shown n) l =
-      if-no (decLt (N + n) N) _ _ (λ k. omega arith) ∙ if-yes (decLt (N + n) (N + N)) _ _ (omega arith)
+      if-neg (decLt (N + n) N) (λ k. omega arith) _ _ ∙ if-pos (decLt (N + n) (N + N)) (omega arith) _ _
       ∙ ap shown (omega arith)
   thaw-frozen (hidden n) l =
-      if-no (decLt (N + N + n) N) _ _ (λ k. omega arith) ∙ if-no (decLt (N + N + n) (N + N)) _ _ (λ k. omega arith)
+      if-neg (decLt (N + N + n) N) (λ k. omega arith) _ _ ∙ if-neg (decLt (N + N + n) (N + N)) (λ k. omega arith) _ _
       ∙ ap hidden (omega arith)
 
   pub frozen-one : (t u : Term) → number t < N → number u < N → frozen t ≡ frozen u → t ≡ u

@@ -23,8 +23,3 @@ pub record CoversIn (R : Query) (v A : Line) : Type 0 where
   pub table : v .table ≡ A .table
   pub width : length (v .columns) ≡ length (A .columns)
   pub rules : (p q : ℕ) → p < length (v .columns) → q < length (v .columns) → RulesIn R (at v p) (at v q) (at A p) (at A q)
-
-pub hidden-decided : (t : Term) → Dec (IsHidden t)
-hidden-decided (constant c) = no (λ h. h)
-hidden-decided (shown n) = no (λ h. h)
-hidden-decided (hidden n) = yes tt

@@ -19,7 +19,7 @@ use Rattle.theory.specs.Cover.{at, IsHidden}
 use Rattle.theory.specs.Executable.Test.{number}
 use Rattle.theory.proofs.Lists.{place, at-place, without-subset, without-other}
 use Rattle.theory.proofs.Tuples.{over-over, over-same, over-self, getD-map, getD-mem}
-use Rattle.theory.proofs.Terms.{hidden-one, from-hidden}
+use Rattle.theory.proofs.Terms.{from-hidden, is-hidden}
 use Rattle.theory.proofs.Reduce.{reduced-place}
 use Rattle.theory.proofs.Endomorphism.{Stands, hits, hidden-stay, one-to-one}
 use Rattle.theory.proofs.Match.{cell, row-cell}
@@ -236,11 +236,6 @@ module _ (vs : List Line) (R : Query) (reduced : Reduced R) (i : ℕ) (A : Line)
     same-view (shown n) t x m l l′ e f q = absurd (omega (arith, frozen-below N t l′, marked-above N x m, q, e))
     same-view (hidden n) t x m l l′ e f q =
         ap hidden (marked-one N x m n (above-positive (R ++ vs)) (q ∙ ap (λ (y : ℕ). marked N y n) (e ∙ sym f)))
-
-    is-hidden : (t : Term) → IsHidden t → (m : ℕ) × (t ≡ hidden m)
-    is-hidden (constant c) x = absurd x
-    is-hidden (shown n) x = absurd x
-    is-hidden (hidden n) x = (n, refl)
 
     rules-at : (p q : ℕ) → p < length (k .v .columns) → q < length (k .v .columns)
         → RulesIn R (at (k .v) p) (at (k .v) q) (at A p) (at A q)

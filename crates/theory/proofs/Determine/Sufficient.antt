@@ -16,10 +16,10 @@ use Rattle.theory.specs.Show.{Shared}
 use Rattle.theory.specs.Cover.{at, IsHidden}
 use Rattle.theory.proofs.Lists.{at-place, none≢some}
 use Rattle.theory.proofs.Find.{Functional, find, found}
-use Rattle.theory.proofs.Terms.{term-discrete}
+use Rattle.theory.proofs.Terms.{term-discrete, hidden-decided}
 use Rattle.theory.proofs.Tuples.{tuple-path, getD-mem, place-zip, map-zip}
 use Rattle.theory.proofs.Match.{cell, row-cell, answer-of, of-answer, Matchable, Matches, matches}
-use Rattle.theory.proofs.Determine.Inside.{Unshared, RulesIn, CoversIn, hidden-decided}
+use Rattle.theory.proofs.Determine.Inside.{Unshared, CoversIn}
 
 -- ---- one line
 

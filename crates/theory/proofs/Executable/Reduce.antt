@@ -5,18 +5,18 @@ use mathlib.Core.Bool.{Bool, true, false, cond, _&&_}
 use mathlib.Core.List.{List, [], _∷_, _++_, zip, List·Memᴰ·head, List·Memᴰ·tail, List·Memᴰ·not-nil, List·Memᴰ·cases-cons, List·Memᴰ·append-cases, Memᴰ·append-left, Memᴰ·append-right, Memᴰ·cast}
 use Prim.Native.Nat.{ℕ, zero, suc, _≤_, _<_, zero-le, suc-le-suc}
 use native.Mathlib.Nat.{le-refl, eq-or-lt-of-le}
-use native.Mathlib.Decide.{ℕ-discrete}
 use native.Mathlib.Omega.{arith}
 use lib.Dec.{T, eqb}
 use lib.ListN.{length, length-map}
 use mir.Facts.{eqb-yes, yes-eqb}
-use Rattle.theory.specs.Query.{Term, constant, shown, hidden, Term-discrete, over, Line, Query, _∈_}
+use Rattle.theory.specs.Query.{Term, constant, shown, hidden, over, Line, Query, _∈_}
 use Rattle.theory.specs.Reduce.{image, Sends, without, MayGo, ReducesTo, done, take-out}
 use Rattle.theory.specs.Executable.Test.{all, same}
 use Rattle.theory.specs.Executable.Reduce.{keeps, agrees, mappable, sendable, mayGo, reduceBelow, reduce}
 use Rattle.theory.proofs.Lists.{length-without, without-twice}
 use Rattle.theory.proofs.Find.{Functional, find, found}
 use Rattle.theory.proofs.Tuples.{tuple-path, map-zip, zip-map}
+use Rattle.theory.proofs.Terms.{term-discrete}
 use Rattle.theory.proofs.Reduce.{sends-twice}
 use Rattle.theory.proofs.Executable.Test.{and-iff, implies-iff, all-iff, any-iff, same-iff}
 
@@ -38,14 +38,14 @@ keeps-from m (hidden n) u e = tt
 
 -- the map that the pairs give, by looking up a hidden variable
 pairsMap : List (Term × Term) → ℕ → Term
-pairsMap zs n = find (Term-discrete ℕ-discrete) (constant 0) (hidden n) zs
+pairsMap zs n = find term-discrete (constant 0) (hidden n) zs
 
 pairs-map : (zs : List (Term × Term)) → Functional zs → (t u : Term) → _∈_ {X = Term × Term} (t, u) zs → T (keeps (t, u))
     → image (pairsMap zs) t ≡ u
 unfolding pairsMap keeps
 pairs-map zs f (constant c) u i k = same-iff (constant c) u .0 k
 pairs-map zs f (shown n) u i k = same-iff (shown n) u .0 k
-pairs-map zs f (hidden n) u i k = found (Term-discrete ℕ-discrete) (constant 0) zs f (hidden n, u) i
+pairs-map zs f (hidden n) u i k = found term-discrete (constant 0) zs f (hidden n, u) i
 
 -- the test of one pair among all
 test-iff : (zs : List (Term × Term)) (y : Term × Term)
