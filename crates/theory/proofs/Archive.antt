@@ -15,7 +15,8 @@ value-at-shown s t h (hidden n) e = refl
 pub answer-at-shown : (Q : Query) (D : Archive) (s t : ℕ → ℕ)
     → ((n : ℕ) (A : Line) → A ∈ Q → shown n ∈ A .columns → s n ≡ t n) → Answer Q D s → Answer Q D t
 answer-at-shown Q D s t e r =
-    let (h, f) = r in
-    (h,
-     λ A a. Memᴰ·cast
-     (sym (over-same (value s h) (value t h) A (λ u k. value-at-shown s t h u (λ n q. e n A a (Memᴰ·cast q k))))) (f A a))
+    let (h, f) = r in (
+      h,
+      λ A a. Memᴰ·cast
+          (sym (over-same (value s h) (value t h) A (λ u k. value-at-shown s t h u (λ n q. e n A a (Memᴰ·cast q k))))) (f A a),
+    )

@@ -17,7 +17,7 @@ rules-trans {v} {v′} {a} {a′} r s t =
       constants = λ c e. s .constants c (r .constants c e);
       equals = λ x e. equal-terms v v′ a a′ s t (r .equals x e);
       hides = λ x. s .hides (r .hides x);
-      only = λ x e. r .only x (s .only (r .hides x) e)
+      only = λ x e. r .only x (s .only (r .hides x) e);
     }
 
 pub covers-trans : {u v A : Line} → Covers u v → Covers v A → Covers u A
@@ -26,7 +26,7 @@ covers-trans {u} {v} c d =
       table = c .table ∙ d .table;
       width = c .width ∙ d .width;
       rules = λ p q h l.
-        rules-trans (c .rules p q h l) (d .rules p q (within p h) (within q l)) (d .rules q p (within q l) (within p h))
+          rules-trans (c .rules p q h l) (d .rules p q (within p h) (within q l)) (d .rules q p (within q l) (within p h));
     }
   where
     within : (p : ℕ) → p < length (u .columns) → p < length (v .columns)
@@ -37,5 +37,5 @@ covers-self A =
     record {
       table = refl;
       width = refl;
-      rules = λ p q h l. record { constants = λ c e. e; equals = λ x e. e; hides = λ x. x; only = λ x e. e }
+      rules = λ p q h l. record { constants = λ c e. e; equals = λ x e. e; hides = λ x. x; only = λ x e. e };
     }

@@ -6,18 +6,17 @@ pub mod Freeze
 pub mod Marked
 pub mod Archives
 pub mod Necessary
-
 use mathlib.Core.Path.{_≡_, refl, sym, _∙_, subst}
-use mathlib.Core.Logic.{_↔_, _≢_, Iff·symm, Iff·trans}
+use mathlib.Core.Logic.{_↔_, Iff·symm}
 use mathlib.Core.Option.{some}
-use mathlib.Core.List.{List, [], _∷_, List·Memᴰ·head, List·Memᴰ·not-nil, List·Memᴰ·eq-of-singleton, Memᴰ·cast, Memᴰ·map, Memᴰ·of-map}
-use Prim.Native.Nat.{ℕ, zero, suc, _<_}
+use mathlib.Core.List.{List, [], _∷_, List·Memᴰ·head, List·Memᴰ·not-nil, List·Memᴰ·eq-of-singleton, Memᴰ·map, Memᴰ·of-map}
+use Prim.Native.Nat.{ℕ, zero, suc}
 use native.Mathlib.Nat.{not-suc-le-zero, le-of-suc-le-suc}
 use lib.Dec.{T}
-use lib.ListN.{length, getElem?}
+use lib.ListN.{getElem?}
 use Rattle.theory.specs.Query.{Term, constant, shown, hidden, over, Line, Query, _∈_, NoClash, Fits}
-use Rattle.theory.specs.Archive.{Archive, AllFit, Answer, SameAnswers, Determines}
-use Rattle.theory.specs.Reduce.{MayGo, Reduced, ReducesTo}
+use Rattle.theory.specs.Archive.{Archive, AllFit, Answer, Determines}
+use Rattle.theory.specs.Reduce.{Reduced, ReducesTo}
 use Rattle.theory.specs.Show.{Shared}
 use Rattle.theory.specs.Cover.{at, IsHidden, Covers, Rewrites}
 use Rattle.theory.specs.Executable.Test.{any}
@@ -25,7 +24,7 @@ use Rattle.theory.specs.Executable.Reduce.{reduce}
 use Rattle.theory.specs.Executable.Show.{showTerm, show}
 use Rattle.theory.specs.Executable.Cover.{covers}
 use Rattle.theory.specs.Executable.Label.{settles}
-use Rattle.theory.proofs.Lists.{none≢some, place-below}
+use Rattle.theory.proofs.Lists.{none≢some}
 use Rattle.theory.proofs.Cover.{equal-terms}
 use Rattle.theory.proofs.Rewrite.{covers-rewrites, rewrites-determines}
 use Rattle.theory.proofs.Reduce.{reduced-answers, reduced-reduced, reduced-subset, reduced-clear}
@@ -59,7 +58,7 @@ determines-iff-covered widths vs {Q} {R} clear fits r = (to, from)
     to d A m =
         let b = Memᴰ·of-map (over (showTerm R)) R m in
         let c = determined-covers widths vs R (reduced-reduced r) (λ B k. fits B (reduced-subset r B k))
-          (determines-like widths vs (reduced-answers r) d) (b .0) (b .1) in
+        (determines-like widths vs (reduced-answers r) d) (b .0) (b .1) in
         (c .0, c .1, subst (Covers (c .0)) (b .2) (covers-shown R clear-R (c .0) (b .0) (b .1) .1 (c .2)))
 
     from : ((A : Line) → A ∈ show R → (v : Line) × (v ∈ vs) × Covers v A) → Determines widths vs Q
@@ -76,11 +75,12 @@ pub settles-iff-determines : (widths : List ℕ) (vs : List Line) (Q : Query) �
 unfolding settles
 settles-iff-determines widths vs Q clear fits =
     let k = determines-iff-covered widths vs clear fits (reduce-reduces Q) in
-    let a = all-iff (λ A. any (λ v. covers v A) vs) (show (reduce Q)) in
-    ( (λ t. k .1 (λ A m.
-      let r = any-iff (λ v. covers v A) vs .0 (a .0 t A m) in (r .0, r .1, covers-iff (r .0) A .0 (r .2))))
-    , λ d. a .1 (λ A m.
-      let r = k .0 d A m in any-iff (λ v. covers v A) vs .1 (r .0, r .1, covers-iff (r .0) A .1 (r .2))) )
+    let a = all-iff (λ A. any (λ v. covers v A) vs) (show (reduce Q)) in (
+      (λ t. k .1 (λ A m.
+          let r = any-iff (λ v. covers v A) vs .0 (a .0 t A m) in (r .0, r .1, covers-iff (r .0) A .0 (r .2)))),
+      λ d. a .1 (λ A m.
+          let r = k .0 d A m in any-iff (λ v. covers v A) vs .1 (r .0, r .1, covers-iff (r .0) A .1 (r .2))),
+    )
 
 -- more views determine more
 pub determines-grows : (widths : List ℕ) (vs ws : List Line) (Q : Query) → ((v : Line) → v ∈ vs → v ∈ ws)
@@ -107,43 +107,45 @@ module _ (A : Line) where
   hidden-unshared (hidden n) = (λ h. none-shared n, λ h. tt)
 
   covers-alone : (v : Line) → Covers v A ↔ CoversIn (A ∷ []) v A
-  covers-alone v =
-      ( (λ c. record {
-          table = c .table;
-          width = c .width;
-          rules = λ p q l m.
-              let r = c .rules p q l m in
-              record {
-                constants = r .constants;
-                equals = equal-terms _ _ _ _ r (c .rules q p m l);
-                hides = λ h. hidden-unshared (at A p) .0 (r .hides h);
-                only = r .only
-              }
-        })
-      , λ c. record {
-          table = c .table;
-          width = c .width;
-          rules = λ p q l m.
-              let r = c .rules p q l m in
-              record {
-                constants = r .constants;
-                equals = λ x e. r .equals e;
-                hides = λ h. hidden-unshared (at A p) .1 (r .hides h);
-                only = r .only
-              }
-        } )
+  covers-alone v = (
+    (λ c. record {
+      table = c .table;
+      width = c .width;
+      rules = λ p q l m.
+          let r = c .rules p q l m in
+          record {
+            constants = r .constants;
+            equals = equal-terms _ _ _ _ r (c .rules q p m l);
+            hides = λ h. hidden-unshared (at A p) .0 (r .hides h);
+            only = r .only;
+          };
+    }),
+    λ c. record {
+      table = c .table;
+      width = c .width;
+      rules = λ p q l m.
+          let r = c .rules p q l m in
+          record {
+            constants = r .constants;
+            equals = λ x e. r .equals e;
+            hides = λ h. hidden-unshared (at A p) .1 (r .hides h);
+            only = r .only;
+          };
+    },
+  )
 
 -- a single view determines a single line exactly when it covers it
 pub view-determines-line : (widths : List ℕ) (v A : Line) → Fits widths A → Determines widths (v ∷ []) (A ∷ []) ↔ Covers v A
-view-determines-line widths v A fits =
-    ( (λ d.
+view-determines-line widths v A fits = (
+  (λ d.
       let c = determined-covers widths (v ∷ []) (A ∷ []) (one-reduced A)
-        (λ B m. subst (Fits widths) (sym (List·Memᴰ·eq-of-singleton m)) fits) d A (List·Memᴰ·head refl) in
+      (λ B m. subst (Fits widths) (sym (List·Memᴰ·eq-of-singleton m)) fits) d A (List·Memᴰ·head refl) in
       covers-alone A v .1
-      (subst (λ (u : Line). CoversIn (A ∷ []) u A) (List·Memᴰ·eq-of-singleton (c .1)) (c .2)))
-    , λ c. covered-determines widths (v ∷ []) (A ∷ [])
+      (subst (λ (u : Line). CoversIn (A ∷ []) u A) (List·Memᴰ·eq-of-singleton (c .1)) (c .2))),
+  λ c. covered-determines widths (v ∷ []) (A ∷ [])
       (λ B m.
-      (v, List·Memᴰ·head refl, subst (CoversIn (A ∷ []) v) (sym (List·Memᴰ·eq-of-singleton m)) (covers-alone A v .0 c))) )
+      (v, List·Memᴰ·head refl, subst (CoversIn (A ∷ []) v) (sym (List·Memᴰ·eq-of-singleton m)) (covers-alone A v .0 c))),
+)
 
 -- "This must be proved the same as rewriting"
 pub covers-iff-rewrites : (widths : List ℕ) (v A : Line) → Fits widths A → Covers v A ↔ Rewrites widths v A

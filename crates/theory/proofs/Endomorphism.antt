@@ -78,14 +78,15 @@ module _ {R : Query} (reduced : Reduced R) {g : ℕ → Term} (sends : Sends g R
       go (yes k) = Memᴰ·of-map (over (image g)) R k
       go (no n) =
           absurd
-          (reduced (p .0)
-          ( place-below R (p .0) (p .1)
-          , g
-          , λ B k.
-            ⊎-elim
-            (λ e. absurd
-            (n (Memᴰ·cast (Option·some-injective A (over (image g) B) (sym (p .1) ∙ e)) (Memᴰ·map (over (image g)) k))))
-            (λ t. t) (without-cases (p .0) R (sends B k)) ))
+          (reduced (p .0) (
+            place-below R (p .0) (p .1),
+            g,
+            λ B k.
+                ⊎-elim
+                (λ e. absurd
+                (n (Memᴰ·cast (Option·some-injective A (over (image g) B) (sym (p .1) ∙ e)) (Memᴰ·map (over (image g)) k))))
+                (λ t. t) (without-cases (p .0) R (sends B k)),
+          ))
 
   -- a hidden variable is the image of one
   from-variable : (k : ℕ) → Stands k R → (n : ℕ) × Stands n R × (g n ≡ hidden k)

@@ -12,12 +12,13 @@ use Rattle.theory.specs.Reduce.{image, Sends, Reduced, ReducesTo}
 use Rattle.theory.specs.Show.{Shared}
 use Rattle.theory.specs.Cover.{at, IsHidden}
 use Rattle.theory.specs.Executable.Show.{showTerm, show}
-use Rattle.theory.specs.Executable.Label.{label}
+use Rattle.theory.specs.Executable.Label.{label, labels}
 use Rattle.theory.proofs.Lists.{place, at-place, without-other, map-no-repeats, same-elements}
 use Rattle.theory.proofs.Tuples.{tuple-path, map-same, getD-map, getD-mem, over-over, over-same}
 use Rattle.theory.proofs.Terms.{from-hidden}
 use Rattle.theory.proofs.Reduce.{image-twice, sends-twice, reduced-reduced, reduced-subset, reduced-clear, reduced-map, reduced-place, reduced-no-repeats}
 use Rattle.theory.proofs.Endomorphism.{Stands, hits, hidden-stay, one-to-one}
+use Rattle.theory.proofs.Executable.Reduce.{reduce-reduces}
 use Rattle.theory.proofs.Executable.Show.{show-shared, show-unshared, show-shows}
 use Rattle.theory.proofs.Show.{show-one-to-one}
 use Rattle.theory.proofs.Alike.{Alike, alike-label}
@@ -254,3 +255,8 @@ reduced-forms-alike f invariant clear r₁ r₂ =
 pub labels-fixed : (vs : List Line) {Q R₁ R₂ : Query} → NoClash Q → ReducesTo Q R₁ → ReducesTo Q R₂
     → List·Permᴰ (map (label vs) (show R₁)) (map (label vs) (show R₂))
 labels-fixed vs = reduced-forms-alike (label vs) (λ A B. alike-label vs)
+
+-- whichever reduced form is taken, its labels are the definition's
+pub labels-of-any-form : (vs : List Line) {Q R : Query} → NoClash Q → ReducesTo Q R → List·Permᴰ (labels vs Q) (map (label vs) (show R))
+unfolding labels
+labels-of-any-form vs {Q} clear r = labels-fixed vs clear (reduce-reduces Q) r

@@ -1,10 +1,10 @@
 -- Rows cell by cell, and when a view matches a row: some valuation turns it into the row. This is decided.
 use mathlib.Core.Path.{_≡_, refl, sym, ap, _∙_}
-use mathlib.Core.List.{List, [], _∷_, map, zip, List·Memᴰ·head, List·Memᴰ·eq-of-singleton, Memᴰ·cast}
+use mathlib.Core.List.{List, [], _∷_, zip, List·Memᴰ·head, List·Memᴰ·eq-of-singleton, Memᴰ·cast}
 use Prim.Native.Nat.{ℕ, _<_}
 use native.Mathlib.Decide.{ℕ-discrete}
 use lib.ListN.{length, getD, length-map}
-use Rattle.theory.specs.Query.{Term, constant, shown, hidden, over, Line, _∈_}
+use Rattle.theory.specs.Query.{Term, constant, shown, hidden, Line, _∈_}
 use Rattle.theory.specs.Archive.{Row, Archive, value, row, Answer}
 use Rattle.theory.specs.Cover.{at}
 use Rattle.theory.proofs.Find.{Functional, find, found}
@@ -80,13 +80,13 @@ module _ (v : Line) (a : Row) where
   pub matchable : Matches v a → Matchable v a
   matchable k =
       let cells : (p : ℕ) → p < length (v .columns) → cell a p ≡ value (k .s) (k .h) (at v p) =
-        λ p l. sym (ap (λ (b : Row). cell b p) (k .same)) ∙ row-cell (k .s) (k .h) v p l
+      λ p l. sym (ap (λ (b : Row). cell b p) (k .same)) ∙ row-cell (k .s) (k .h) v p l
       in
       record {
         table = ap (λ (b : Row). b .table) (k .same);
         width = sym (length-map (v .columns) (value (k .s) (k .h))) ∙ ap (λ (b : Row). length (b .columns)) (k .same);
         constants = λ p c l e. cells p l ∙ ap (value (k .s) (k .h)) e;
-        equals = λ p q l m e. cells p l ∙ ap (value (k .s) (k .h)) e ∙ sym (cells q m)
+        equals = λ p q l m e. cells p l ∙ ap (value (k .s) (k .h)) e ∙ sym (cells q m);
       }
 
 pub match-decided : (v : Line) (a : Row) → Dec (Matches v a)

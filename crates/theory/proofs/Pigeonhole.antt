@@ -3,13 +3,13 @@ use mathlib.Core.Path.{_≡_, refl, sym, ap, _∙_}
 use mathlib.Core.Logic.{⊎-elim}
 use mathlib.Core.Option.{some, Option·some-injective}
 use mathlib.Core.List.{List, [], _∷_, List·Memᴰ·head, List·Memᴰ·tail, List·Memᴰ·not-nil, List·Memᴰ·cases-cons, Memᴰ·cast}
-use Prim.Native.Nat.{ℕ, suc, _≤_}
+use Prim.Native.Nat.{ℕ, _≤_}
 use native.Mathlib.Nat.{not-suc-le-zero}
 use native.Mathlib.Omega.{arith}
 use lib.ListN.{length, getElem?}
 use Rattle.theory.specs.Query.{_∈_}
 use Rattle.theory.specs.Reduce.{without}
-use Rattle.theory.proofs.Lists.{place, place-below, without-subset, without-cases, length-without, NoRepeats, none-repeats, one-more, head-repeats, tail-repeats}
+use Rattle.theory.proofs.Lists.{place, place-below, without-cases, length-without, NoRepeats, none-repeats, one-more, head-repeats, tail-repeats}
 
 -- ---- the argument
 
@@ -26,7 +26,7 @@ module _ {X Y : Type 0} (f : X → Y) where
   nothing [] h =
       record {
         into = λ x m. absurd (List·Memᴰ·not-nil m);
-        one-to-one = λ x x′ m. absurd (List·Memᴰ·not-nil m)
+        one-to-one = λ x x′ m. absurd (List·Memᴰ·not-nil m);
       }
   nothing (x ∷ xs) h = absurd (not-suc-le-zero h)
 
@@ -37,11 +37,12 @@ module _ {X Y : Type 0} (f : X → Y) where
 
     rest-onto : Onto xs (y ∷ ys) → Onto (without i xs) ys
     rest-onto onto z m =
-        let r = onto z (List·Memᴰ·tail m) in
-        ( r .0
-        , ⊎-elim (λ e. absurd (apart (Memᴰ·cast (sym hit ∙ ap f (sym (at-place (r .0) e)) ∙ r .2) m))) (λ k. k)
-          (without-cases i xs (r .1))
-        , r .2 )
+        let r = onto z (List·Memᴰ·tail m) in (
+          r .0,
+          ⊎-elim (λ e. absurd (apart (Memᴰ·cast (sym hit ∙ ap f (sym (at-place (r .0) e)) ∙ r .2) m))) (λ k. k)
+              (without-cases i xs (r .1)),
+          r .2,
+        )
 
     whole : OneToOne (without i xs) ys → OneToOne xs (y ∷ ys)
     whole rest =
@@ -56,7 +57,7 @@ module _ {X Y : Type 0} (f : X → Y) where
               (λ k. ⊎-elim
               (λ b. absurd (apart (Memᴰ·cast (sym hit ∙ ap f (sym (at-place x′ b)) ∙ sym e) (rest .into x k))))
               (λ k′. rest .one-to-one x x′ k k′ e) (without-cases i xs m′))
-              (without-cases i xs m)
+              (without-cases i xs m);
         }
 
   pub pigeonhole : (xs : List X) (ys : List Y) → NoRepeats ys → length xs ≤ length ys → Onto xs ys → OneToOne xs ys

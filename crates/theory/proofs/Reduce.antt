@@ -49,12 +49,13 @@ value-image m s h (hidden n) = refl
 -- Where a map sends Q to R, an answer of R is one of Q: a hidden variable takes the value of its image.
 pub sent-answers : (m : ℕ → Term) {Q R : Query} → Sends m Q R → (D : Archive) (s : ℕ → ℕ) → Answer R D s → Answer Q D s
 sent-answers m f D s r =
-    let (h, g) = r in
-    (λ n. value s h (m n),
-     λ A a. Memᴰ·cast
-     (sym (over-over (value s h) (image m) A
-     ∙ over-same (λ t. value s h (image m t)) (value s (λ n. value s h (m n))) A (λ t i. value-image m s h t)))
-     (g (over (image m) A) (f A a)))
+    let (h, g) = r in (
+      λ n. value s h (m n),
+      λ A a. Memᴰ·cast
+          (sym (over-over (value s h) (image m) A
+          ∙ over-same (λ t. value s h (image m t)) (value s (λ n. value s h (m n))) A (λ t i. value-image m s h t)))
+          (g (over (image m) A) (f A a)),
+    )
 
 pub may-go-answers : (Q : Query) (i : ℕ) → MayGo Q i → (D : Archive) (s : ℕ → ℕ) → Answer Q D s ↔ Answer (without i Q) D s
 may-go-answers Q i g D s =
@@ -85,10 +86,12 @@ reduced-map (take-out i g r) = let k = reduced-map r in (λ n. image (k .0) (g .
 -- A line stands only once: a second could go, by the map that leaves every variable as it is.
 pub reduced-place : {R : Query} → Reduced R → (i : ℕ) (A : Line) → getElem? R i ≡ some A → A ∈ without i R → ⊥
 reduced-place {R} red i A e a =
-    red i
-    (place-below R i e, hidden,
-     λ B b. Memᴰ·cast (line-self B)
-     (⊎-elim (λ f. Memᴰ·cast (Option·some-injective B A (sym f ∙ e)) a) (λ k. k) (without-cases i R b)))
+    red i (
+      place-below R i e,
+      hidden,
+      λ B b. Memᴰ·cast (line-self B)
+          (⊎-elim (λ f. Memᴰ·cast (Option·some-injective B A (sym f ∙ e)) a) (λ k. k) (without-cases i R b)),
+    )
 
 pub reduced-no-repeats : {R : Query} → Reduced R → NoRepeats R
 reduced-no-repeats {R} red = no-repeats R (λ i j A e f. go i j A e f (ℕ-discrete i j))

@@ -121,7 +121,7 @@ fits-like {widths = ws} t w f =
     record {
       first = subst (λ (n : ℕ). 1 ≤ n) t (f .first);
       last = subst (λ (n : ℕ). n ≤ length ws) t (f .last);
-      width = sym w ∙ f .width ∙ ap (λ (n : ℕ). getD ws (n - 1) 0) t
+      width = sym w ∙ f .width ∙ ap (λ (n : ℕ). getD ws (n - 1) 0) t;
     }
 
 pub fits-over : {X Y : Type 0} {widths : List ℕ} (f : X → Y) (A : Tuple X) → Fits widths A → Fits widths (over f A)

@@ -2,7 +2,6 @@
 --
 -- Values are natural numbers of any size. An archive is any finite list of rows, used through membership alone: order and
 -- repeats play no part, and rows of tables and values that nobody asks for are allowed.
-use mathlib.Core.Path.{_≡_}
 use mathlib.Core.List.{List, [], _∷_}
 use mathlib.Core.Logic.{_↔_}
 use Prim.Native.Nat.{ℕ}

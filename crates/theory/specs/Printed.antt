@@ -1,7 +1,7 @@
 -- Document 01, "The program and its first file": its policy, and its rows marked (P) with their words in full.
 use mathlib.Core.List.{List, [], _∷_}
 use Prim.Native.Nat.{ℕ}
-use Rattle.theory.specs.Query.{constant, shown, hidden, Line, Query}
+use Rattle.theory.specs.Query.{Term, constant, shown, hidden, Line, Query}
 
 -- "1 3", "2 2"
 unfoldable pub widths : List ℕ
@@ -48,7 +48,7 @@ query6 =
     ∷ []
 
 -- a query of one line
-one : ℕ → List Rattle.theory.specs.Query.Term → Query
+one : ℕ → List Term → Query
 one t ts = record { table = t; columns = ts } ∷ []
 
 -- a query and its words
@@ -71,9 +71,9 @@ printed =
     ∷ record { query = query6; words = 12_884_901_889 ∷ [] }
     ∷ record {
       query =
-        record { table = 1; columns = shown 1 ∷ constant 4 ∷ hidden 2 ∷ [] }
-        ∷ record { table = 1; columns = shown 3 ∷ constant 5 ∷ hidden 2 ∷ [] }
-        ∷ [];
-      words = 4_294_967_297 ∷ 4_294_967_297 ∷ []
+          record { table = 1; columns = shown 1 ∷ constant 4 ∷ hidden 2 ∷ [] }
+          ∷ record { table = 1; columns = shown 3 ∷ constant 5 ∷ hidden 2 ∷ [] }
+          ∷ [];
+      words = 4_294_967_297 ∷ 4_294_967_297 ∷ [];
     }
     ∷ []

@@ -8,7 +8,6 @@ use Prim.Native.Nat.{ℕ, _≤_, _-_}
 use lib.ListN.{length, getD}
 
 infix 40 _∈_
-
 -- "A term is a mark and a numeral: `#` a constant, `!` a shown variable, `?` a hidden one."
 pub data Term : Type 0 where
   constant : ℕ → Term

@@ -58,14 +58,15 @@ module _ (vs : List Line) (R : Query) (i : ℕ) (A : Line) where
   -- no view tells them apart
   agree : getElem? R i ≡ some A → (v : Line) → v ∈ vs → Agree v with-A without-A
   unfolding without-A
-  agree e v m s =
-      ( (λ x.
+  agree e v m s = (
+    (λ x.
         let k = of-answer x in
         ⊎-elim
         (λ q. answer-of (mark (room vs R) (freeze vs R A) (k .0))
         (Memᴰ·append-right (map (freeze vs R) (without i R)) (marked-of (room vs R) (freeze vs R A) vs v s (k .0) m q)))
-        (λ t. answer-of (k .0) t) (only e (row s (k .0) v) (k .1)))
-      , λ x. let k = of-answer x in answer-of (k .0) (less (row s (k .0) v) (k .1)) )
+        (λ t. answer-of (k .0) t) (only e (row s (k .0) v) (k .1))),
+    λ x. let k = of-answer x in answer-of (k .0) (less (row s (k .0) v) (k .1)),
+  )
 
   -- both fit, where the lines of R do
   with-A-fits : {widths : List ℕ} → AllFit widths R → A ∈ R → AllFit widths with-A

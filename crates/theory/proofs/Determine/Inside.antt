@@ -42,9 +42,10 @@ show-hides : (R : Query) (t : Term) → IsHidden (showTerm R t) ↔ Unshared R t
 unfolding showTerm
 show-hides R (constant d) = (λ h. h, λ h. h)
 show-hides R (shown n) = (λ h. h, λ h. h)
-show-hides R (hidden n) =
-    ( ⊎-elim (λ r h. absurd (subst IsHidden (r .1) h)) (λ r h. r .0) (show-shows R (hidden n))
-    , λ u. subst IsHidden (sym (show-unshared R n u)) tt )
+show-hides R (hidden n) = (
+  ⊎-elim (λ r h. absurd (subst IsHidden (r .1) h)) (λ r h. r .0) (show-shows R (hidden n)),
+  λ u. subst IsHidden (sym (show-unshared R n u)) tt,
+)
 
 module _ (R : Query) (clear : NoClash R) (v A : Line) (A-in : A ∈ R) where
   shown-at : (p : ℕ) → p < length (A .columns) → at (over (showTerm R) A) p ≡ showTerm R (at A p)
@@ -52,10 +53,11 @@ module _ (R : Query) (clear : NoClash R) (v A : Line) (A-in : A ∈ R) where
 
   same-term : (p q : ℕ) → p < length (A .columns) → q < length (A .columns)
       → (at (over (showTerm R) A) p ≡ at (over (showTerm R) A) q) ↔ (at A p ≡ at A q)
-  same-term p q l m =
-      ( (λ e. show-one-to-one R clear (at A p) (at A q) A A A-in A-in (getD-mem (A .columns) p (constant 0) l)
-        (getD-mem (A .columns) q (constant 0) m) (sym (shown-at p l) ∙ e ∙ shown-at q m))
-      , λ e. shown-at p l ∙ ap (showTerm R) e ∙ sym (shown-at q m) )
+  same-term p q l m = (
+    (λ e. show-one-to-one R clear (at A p) (at A q) A A A-in A-in (getD-mem (A .columns) p (constant 0) l)
+        (getD-mem (A .columns) q (constant 0) m) (sym (shown-at p l) ∙ e ∙ shown-at q m)),
+    λ e. shown-at p l ∙ ap (showTerm R) e ∙ sym (shown-at q m),
+  )
 
   shown-width : length (over (showTerm R) A .columns) ≡ length (A .columns)
   shown-width = length-map (A .columns) (showTerm R)
@@ -71,8 +73,8 @@ module _ (R : Query) (clear : NoClash R) (v A : Line) (A-in : A ∈ R) where
               constants = λ d e. show-constants R (at A p) d .0 (sym (shown-at p (below l)) ∙ r .constants d e);
               equals = λ e. same-term p q (below l) (below m) .0 (equal-terms _ _ _ _ r (c .rules q p m l) e);
               hides = λ h. show-hides R (at A p) .0 (subst IsHidden (shown-at p (below l)) (r .hides h));
-              only = λ h e. r .only h (same-term p q (below l) (below m) .1 e)
-            }
+              only = λ h e. r .only h (same-term p q (below l) (below m) .1 e);
+            };
       }
     where
       below : {p : ℕ} → p < length (v .columns) → p < length (A .columns)
@@ -89,8 +91,8 @@ module _ (R : Query) (clear : NoClash R) (v A : Line) (A-in : A ∈ R) where
               constants = λ d e. shown-at p (below l) ∙ show-constants R (at A p) d .1 (r .constants d e);
               equals = λ x e. same-term p q (below l) (below m) .1 (r .equals e);
               hides = λ h. subst IsHidden (sym (shown-at p (below l))) (show-hides R (at A p) .1 (r .hides h));
-              only = λ h e. r .only h (same-term p q (below l) (below m) .0 e)
-            }
+              only = λ h e. r .only h (same-term p q (below l) (below m) .0 e);
+            };
       }
     where
       below : {p : ℕ} → p < length (v .columns) → p < length (A .columns)

@@ -7,7 +7,7 @@ use mathlib.Core.Path.{_≡_, refl, sym, ap, _∙_, subst}
 use mathlib.Core.Logic.{_⊎_, inl, inr, ⊎-elim, _≢_}
 use mathlib.Core.Option.{some}
 use mathlib.Core.List.{List, _++_, Memᴰ·append-left, Memᴰ·append-right, Memᴰ·cast, Memᴰ·map, Memᴰ·of-map}
-use Prim.Native.Nat.{ℕ, suc, _*_, _≤_, _<_}
+use Prim.Native.Nat.{ℕ, _≤_, _<_}
 use native.Mathlib.Decide.{ℕ-discrete}
 use native.Mathlib.Omega.{arith}
 use lib.ListN.{length, getElem?, length-map}
@@ -15,7 +15,7 @@ use Rattle.theory.specs.Query.{Term, constant, shown, hidden, over, Line
 use Rattle.theory.specs.Archive.{Row, AllFit, value, row, Answer, Determines}
 use Rattle.theory.specs.Reduce.{image, Sends, without, Reduced}
 use Rattle.theory.specs.Show.{Shared}
-use Rattle.theory.specs.Cover.{at, IsHidden}
+use Rattle.theory.specs.Cover.{at}
 use Rattle.theory.specs.Executable.Test.{number}
 use Rattle.theory.proofs.Lists.{place, at-place, without-subset, without-other}
 use Rattle.theory.proofs.Tuples.{over-over, over-same, over-self, getD-map, getD-mem}
@@ -126,8 +126,8 @@ module _ (vs : List Line) (R : Query) (reduced : Reduced R) (i : ℕ) (A : Line)
       ⊎-elim
       (λ f.
       let on : h n ∈ freeze vs R (f .0) .columns =
-        subst (λ (r : Row). h n ∈ r .columns) {y = freeze vs R (f .0)} (f .2)
-        (Memᴰ·cast (ap h same) (Memᴰ·map (value (s₀ N) h) in-B)) in
+      subst (λ (r : Row). h n ∈ r .columns) {y = freeze vs R (f .0)} (f .2)
+      (Memᴰ·cast (ap h same) (Memᴰ·map (value (s₀ N) h) in-B)) in
       let u = Memᴰ·of-map (frozen N) (f .0 .columns) on in
       let low = frozen-below N (u .0) (small (f .0) (without-subset i R {x = f .0} (f .1)) (u .0) (u .1)) in
       omega (arith, low, u .2, l))
@@ -203,7 +203,7 @@ module _ (vs : List Line) (R : Query) (reduced : Reduced R) (i : ℕ) (A : Line)
           stands = stands;
           n′ = stay .0;
           becomes-hidden = stay .1;
-          A-has = sym (term-A p l) ∙ ap (image g) (f .1) ∙ stay .1
+          A-has = sym (term-A p l) ∙ ap (image g) (f .1) ∙ stay .1;
         }
 
     unshared : (p m : ℕ) → Hides p m → Unshared R (at A p)
@@ -225,8 +225,8 @@ module _ (vs : List Line) (R : Query) (reduced : Reduced R) (i : ℕ) (A : Line)
         let f = hides p m l e in
         let back = from-hidden g (at B q) (f .n′) (term-A q l′ ∙ sym same ∙ f .A-has) in
         let one = one-to-one reduced sends (f .n) (back .0) (f .stands)
-          (B, B-in, Memᴰ·cast (sym (back .1)) (in-B q l′))
-          (f .becomes-hidden ∙ sym (f .A-has) ∙ same ∙ sym (term-A q l′) ∙ ap (image g) (back .1)) in
+        (B, B-in, Memᴰ·cast (sym (back .1)) (in-B q l′))
+        (f .becomes-hidden ∙ sym (f .A-has) ∙ same ∙ sym (term-A q l′) ∙ ap (image g) (back .1)) in
         sym (f .on-mark) ∙ ap h one ∙ sym (ap (value (s₀ N) h) (back .1)) ∙ cell-B q l′
 
     same-view : (u t : Term) (x m : ℕ) → number u < N → number t < N → value (k .s) (k .h) u ≡ frozen N t → x ≡ frozen N t
@@ -253,7 +253,7 @@ module _ (vs : List Line) (R : Query) (reduced : Reduced R) (i : ℕ) (A : Line)
               m .1
               ∙ same-view (at (k .v) q) (at A q) (k .h (m .0)) (m .0) (small-v q l′) (small-A q l′) (cell-A q l′)
               (sym (ap (value (k .s) (k .h)) (m .1)) ∙ cell-A p l ∙ ap (frozen N) e)
-              (same-mark p q (m .0) l l′ (m .1) e)
+              (same-mark p q (m .0) l l′ (m .1) e);
         }
 
     covers-A : CoversIn R (k .v) A

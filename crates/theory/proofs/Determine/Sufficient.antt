@@ -10,15 +10,14 @@ use mathlib.Core.List.{List, [], _∷_, _++_, map, zip, List·Memᴰ·head, List
 use Prim.Native.Nat.{ℕ, zero, suc, _<_}
 use native.Mathlib.Decide.{ℕ-discrete}
 use lib.ListN.{length, getElem?, length-map}
-use Rattle.theory.specs.Query.{Term, constant, shown, hidden, over, Line, Query, _∈_}
+use Rattle.theory.specs.Query.{Term, constant, shown, hidden, Line, Query, _∈_}
 use Rattle.theory.specs.Archive.{Row, Archive, value, row, Answer, Determines}
-use Rattle.theory.specs.Show.{Shared}
 use Rattle.theory.specs.Cover.{at, IsHidden}
 use Rattle.theory.proofs.Lists.{at-place, none≢some}
 use Rattle.theory.proofs.Find.{Functional, find, found}
 use Rattle.theory.proofs.Terms.{term-discrete, hidden-decided}
 use Rattle.theory.proofs.Tuples.{tuple-path, getD-mem, place-zip, map-zip}
-use Rattle.theory.proofs.Match.{cell, row-cell, answer-of, of-answer, Matchable, Matches, matches}
+use Rattle.theory.proofs.Match.{cell, row-cell, answer-of, of-answer, Matches, matches}
 use Rattle.theory.proofs.Determine.Inside.{Unshared, CoversIn}
 
 -- ---- one line
@@ -53,7 +52,7 @@ module _ (R : Query) (s h : ℕ → ℕ) (v A : Line) (c : CoversIn R v A) where
         constants = λ p n l e.
             row-cell s h A p (in-line p l) ∙ ap (value s h) (c .rules p p l l .constants n e);
         equals = λ p q l m e.
-            row-cell s h A p (in-line p l) ∙ ap (value s h) (c .rules p q l m .equals e) ∙ sym (row-cell s h A q (in-line q m))
+            row-cell s h A p (in-line p l) ∙ ap (value s h) (c .rules p q l m .equals e) ∙ sym (row-cell s h A q (in-line q m));
       })
 
   -- a row with the same answer of the view may stand for it
@@ -81,7 +80,7 @@ module _ (R : Query) (s h : ℕ → ℕ) (v A : Line) (c : CoversIn R v A) where
           table = sym (c .table);
           width = sym (c .width) ∙ sym (length-map (v .columns) (value t k′));
           keeps = λ p l u. kept-open p l (λ x. u (c .rules p p (in-view p l) (in-view p l) .hides x));
-          equals = kept-equal
+          equals = kept-equal;
         }
 
 -- ---- all lines together
@@ -92,10 +91,11 @@ chosen : {X Y : Type 0} (P : X → Y → Type 0) (l : List X) → ((x : X) → x
 chosen P [] f = ([], refl, λ z m. absurd (List·Memᴰ·not-nil m))
 chosen {X} {Y} P (x ∷ l) f =
     let c = f x (List·Memᴰ·head refl) in
-    let r = chosen P l (λ y m. f y (List·Memᴰ·tail m)) in
-    ( (x, c .0) ∷ r .0
-    , ap (λ (t : List X). x ∷ t) (r .1)
-    , λ z m. ⊎-elim (λ e. subst (λ (w : X × Y). P (w .0) (w .1)) (sym e) (c .1)) (λ t. r .2 z t) (List·Memᴰ·cases-cons m) )
+    let r = chosen P l (λ y m. f y (List·Memᴰ·tail m)) in (
+      (x, c .0) ∷ r .0,
+      ap (λ (t : List X). x ∷ t) (r .1),
+      λ z m. ⊎-elim (λ e. subst (λ (w : X × Y). P (w .0) (w .1)) (sym e) (c .1)) (λ t. r .2 z t) (List·Memᴰ·cases-cons m),
+    )
 
 -- the terms and values that stand over one another
 cells : List (Line × Row) → List (Term × ℕ)
@@ -162,7 +162,7 @@ module _ (R : Query) (s h : ℕ → ℕ) (ps : List (Line × Row)) (firsts : map
         A-at = line-at y f;
         B-at = line-at z g;
         in-A = Memᴰ·cast d (in-first y f);
-        in-B = Memᴰ·cast e (in-first z g)
+        in-B = Memᴰ·cast e (in-first z g);
       })
 
   functional : Functional (cells ps)
@@ -172,7 +172,7 @@ module _ (R : Query) (s h : ℕ → ℕ) (ps : List (Line × Row)) (firsts : map
       together f w q k =
           let p = place-zip (f .z .0 .columns) (f .z .1 .columns) (constant 0) 0 y (f .in-z) in
           let r = place-zip (f .z .0 .columns) (f .z .1 .columns) (constant 0) 0 z
-            (subst (λ (x : Line × Row). z ∈ zip (x .0 .columns) (x .1 .columns)) q k) in
+          (subst (λ (x : Line × Row). z ∈ zip (x .0 .columns) (x .1 .columns)) q k) in
           p .4
           ∙ keep (f .z) (at-place ps (f .i) (f .z-at)) .equals (p .0) (r .0) (p .1) (r .1) (sym (p .3) ∙ e ∙ r .3)
           ∙ sym (r .4)
@@ -213,13 +213,14 @@ pub record Passes (R : Query) (D E : Archive) (A : Line) : Type 0 where
   pub passes : (s : ℕ → ℕ) → Answer (v ∷ []) D s → Answer (v ∷ []) E s
 
 answers-pass : (R : Query) (D E : Archive) → ((A : Line) → A ∈ R → Passes R D E A) → (s : ℕ → ℕ) → Answer R D s → Answer R E s
-answers-pass R D E pass s x =
-    ( valuation R s h (ps .0) (ps .1) keep
-    , λ A m.
+answers-pass R D E pass s x = (
+  valuation R s h (ps .0) (ps .1) keep,
+  λ A m.
       let w = Memᴰ·of-map (λ (z : Line × Row). z .0) (ps .0) (subst (λ (l : Query). A ∈ l) (sym (ps .1)) m) in
       Memᴰ·cast
       (ap (row s (valuation R s h (ps .0) (ps .1) keep)) (sym (w .2)) ∙ becomes R s h (ps .0) (ps .1) keep (w .0) (w .1))
-      (ps .2 (w .0) (w .1) .0) )
+      (ps .2 (w .0) (w .1) .0),
+)
   where
     h : ℕ → ℕ
     h = x .0
@@ -240,8 +241,9 @@ answers-pass R D E pass s x =
 
 pub covered-determines : (widths : List ℕ) (vs : List Line) (R : Query)
     → ((A : Line) → A ∈ R → (v : Line) × (v ∈ vs) × CoversIn R v A) → Determines widths vs R
-covered-determines widths vs R cover D E fitD fitE agree s =
-    ( answers-pass R D E
-      (λ A m. let c = cover A m in record { v = c .0; covered = c .2; passes = λ t. agree (c .0) (c .1) t .0 }) s
-    , answers-pass R E D
-      (λ A m. let c = cover A m in record { v = c .0; covered = c .2; passes = λ t. agree (c .0) (c .1) t .1 }) s )
+covered-determines widths vs R cover D E fitD fitE agree s = (
+  answers-pass R D E
+      (λ A m. let c = cover A m in record { v = c .0; covered = c .2; passes = λ t. agree (c .0) (c .1) t .0 }) s,
+  answers-pass R E D
+      (λ A m. let c = cover A m in record { v = c .0; covered = c .2; passes = λ t. agree (c .0) (c .1) t .1 }) s,
+)

@@ -20,9 +20,10 @@ isHidden-iff (hidden n) = (λ h. h, λ h. h)
 
 -- the test of "where t and u are equal, so are a and b"
 equal-iff : (t u a b : Term) → T (not (same t u) || same a b) ↔ (t ≡ u → a ≡ b)
-equal-iff t u a b =
-    (λ h e. same-iff a b .0 (implies-iff (same t u) (same a b) .0 h (same-iff t u .1 e)),
-    λ h. implies-iff (same t u) (same a b) .1 (λ k. same-iff a b .1 (h (same-iff t u .0 k))))
+equal-iff t u a b = (
+  λ h e. same-iff a b .0 (implies-iff (same t u) (same a b) .0 h (same-iff t u .1 e)),
+  λ h. implies-iff (same t u) (same a b) .1 (λ k. same-iff a b .1 (h (same-iff t u .0 k))),
+)
 
 obeys-to : (v v′ a a′ : Term) → T (obeys v v′ a a′) → Rules v v′ a a′
 unfolding obeys
@@ -31,14 +32,14 @@ obeys-to (constant c) v′ a a′ h =
       constants = λ d e. same-iff a (constant c) .0 h ∙ e;
       equals = λ x. absurd x;
       hides = λ x. absurd x;
-      only = λ x. absurd x
+      only = λ x. absurd x;
     }
 obeys-to (shown n) v′ a a′ h =
     record {
       constants = λ c e. absurd (subst IsVariable e tt);
       equals = λ x. equal-iff (shown n) v′ a a′ .0 h;
       hides = λ x. absurd x;
-      only = λ x. absurd x
+      only = λ x. absurd x;
     }
 obeys-to (hidden n) v′ a a′ h =
     let r = and-yes (not (same (hidden n) v′) || same a a′) (isHidden a && (not (same a a′) || same (hidden n) v′)) h in
@@ -47,7 +48,7 @@ obeys-to (hidden n) v′ a a′ h =
       constants = λ c e. absurd (subst IsVariable e tt);
       equals = λ x. equal-iff (hidden n) v′ a a′ .0 (r .0);
       hides = λ x. isHidden-iff a .0 (s .0);
-      only = λ x. equal-iff a a′ (hidden n) v′ .0 (s .1)
+      only = λ x. equal-iff a a′ (hidden n) v′ .0 (s .1);
     }
 
 obeys-from : (v v′ a a′ : Term) → Rules v v′ a a′ → T (obeys v v′ a a′)
@@ -77,8 +78,8 @@ module _ (v A : Line) where
         table = eqb-yes (r .0);
         width = eqb-yes (s .0);
         rules = λ p q k l.
-          obeys-iff (at v p) (at v q) (at A p) (at A q) .0
-          (allBelow-iff _ _ .0 (allBelow-iff obeys-at _ .0 (s .1) p k) q l)
+            obeys-iff (at v p) (at v q) (at A p) (at A q) .0
+            (allBelow-iff _ _ .0 (allBelow-iff obeys-at _ .0 (s .1) p k) q l);
       }
 
   covers-from : Covers v A → T (covers v A)

@@ -36,10 +36,11 @@ unfolding viewBits
 viewBits-bit [] A k = (λ h. absurd (no-bit k h), λ r. absurd (none≢some (r .1)))
 viewBits-bit (v ∷ vs) A zero =
     let d = digit-one (covers v A) in
-    let e = lowest-bit (viewBits vs A) (digit-below (covers v A)) in
-    (λ h. (v, refl, covers-iff v A .0 (d .0 (sym e ∙ h))),
-    λ r. e ∙ d .1 (covers-iff v A .1
-    (subst (λ (w : Line). Covers w A) (sym (Option·some-injective v (r .0) (r .1))) (r .2))))
+    let e = lowest-bit (viewBits vs A) (digit-below (covers v A)) in (
+      λ h. (v, refl, covers-iff v A .0 (d .0 (sym e ∙ h))),
+      λ r. e ∙ d .1 (covers-iff v A .1
+          (subst (λ (w : Line). Covers w A) (sym (Option·some-injective v (r .0) (r .1))) (r .2))),
+    )
 viewBits-bit (v ∷ vs) A (suc k) =
     rw (← one-add k, bit-above 1 (viewBits vs A) (digit-below (covers v A)) k) (viewBits-bit vs A k)
 

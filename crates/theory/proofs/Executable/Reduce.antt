@@ -25,9 +25,10 @@ use Rattle.theory.proofs.Executable.Test.{and-iff, implies-iff, all-iff
 agrees-iff : (y z : Term × Term) → T (agrees y z) ↔ (y .0 ≡ z .0 → y .1 ≡ z .1)
 unfolding agrees
 agrees-iff y z =
-    let k = implies-iff (same (y .0) (z .0)) (same (y .1) (z .1)) in
-    (λ h e. same-iff (y .1) (z .1) .0 (k .0 h (same-iff (y .0) (z .0) .1 e)),
-     λ f. k .1 (λ h. same-iff (y .1) (z .1) .1 (f (same-iff (y .0) (z .0) .0 h))))
+    let k = implies-iff (same (y .0) (z .0)) (same (y .1) (z .1)) in (
+      λ h e. same-iff (y .1) (z .1) .0 (k .0 h (same-iff (y .0) (z .0) .1 e)),
+      λ f. k .1 (λ h. same-iff (y .1) (z .1) .1 (f (same-iff (y .0) (z .0) .0 h))),
+    )
 
 -- a map keeps constants and shown variables
 keeps-from : (m : ℕ → Term) (t u : Term) → image m t ≡ u → T (keeps (t, u))
@@ -52,21 +53,24 @@ test-iff : (zs : List (Term × Term)) (y : Term × Term)
     → T (keeps y && all (agrees y) zs) ↔ (T (keeps y) × ((z : Term × Term) → z ∈ zs → y .0 ≡ z .0 → y .1 ≡ z .1))
 test-iff zs y =
     let k = and-iff (keeps y) (all (agrees y) zs) in
-    let a = all-iff (agrees y) zs in
-    (λ h. (k .0 h .0, λ z i. agrees-iff y z .0 (a .0 (k .0 h .1) z i)),
-     λ r. k .1 (r .0, a .1 (λ z i. agrees-iff y z .1 (r .1 z i))))
+    let a = all-iff (agrees y) zs in (
+      λ h. (k .0 h .0, λ z i. agrees-iff y z .0 (a .0 (k .0 h .1) z i)),
+      λ r. k .1 (r .0, a .1 (λ z i. agrees-iff y z .1 (r .1 z i))),
+    )
 
 pub mappable-iff : (zs : List (Term × Term))
     → T (mappable zs) ↔ ((m : ℕ → Term) × ((z : Term × Term) → z ∈ zs → image m (z .0) ≡ z .1))
 unfolding mappable
 mappable-iff zs =
-    let a = all-iff (λ y. keeps y && all (agrees y) zs) zs in
-    (λ h.
-      (pairsMap zs,
-       λ y i. pairs-map zs (λ w z j. test-iff zs w .0 (a .0 h w j) .1 z) (y .0) (y .1) i (test-iff zs y .0 (a .0 h y i) .0)),
-     λ r. a .1
-     (λ y i. test-iff zs y .1
-     (keeps-from (r .0) (y .0) (y .1) (r .1 y i), λ z j e. sym (r .1 y i) ∙ (ap (image (r .0)) e ∙ r .1 z j))))
+    let a = all-iff (λ y. keeps y && all (agrees y) zs) zs in (
+      λ h. (
+        pairsMap zs,
+        λ y i. pairs-map zs (λ w z j. test-iff zs w .0 (a .0 h w j) .1 z) (y .0) (y .1) i (test-iff zs y .0 (a .0 h y i) .0),
+      ),
+      λ r. a .1
+          (λ y i. test-iff zs y .1
+          (keeps-from (r .0) (y .0) (y .1) (r .1 y i), λ z j e. sym (r .1 y i) ∙ (ap (image (r .0)) e ∙ r .1 z j))),
+    )
 
 -- ---- a map of lines
 
@@ -89,32 +93,42 @@ sends-first m A B e f b s C c =
 pub sendable-iff : (zs : List (Term × Term)) (Q R : Query)
     → T (sendable zs Q R) ↔ ((m : ℕ → Term) × ((z : Term × Term) → z ∈ zs → image m (z .0) ≡ z .1) × Sends m Q R)
 unfolding sendable
-sendable-iff zs [] R =
-    (λ h. let r = mappable-iff zs .0 h in (r .0, r .1, λ A a. absurd (List·Memᴰ·not-nil a)),
-     λ r. mappable-iff zs .1 (r .0, r .1))
-sendable-iff zs (A ∷ Q) R =
-    (λ h.
+sendable-iff zs [] R = (
+  λ h. let r = mappable-iff zs .0 h in (r .0, r .1, λ A a. absurd (List·Memᴰ·not-nil a)),
+  λ r. mappable-iff zs .1 (r .0, r .1),
+)
+sendable-iff zs (A ∷ Q) R = (
+  λ h.
       let (B, b, p) = any-iff target R .0 h in
       let (e, k) = and-iff (alike B) (sendable (over-A B) Q R) .0 p in
-      let (m, f, s) = sendable-iff (over-A B) Q R .0 k in
-      (m, (λ z i. f z (Memᴰ·append-right (zip (A .columns) (B .columns)) i)),
-       sends-first m A B (alike-iff A B .0 e) (λ z i. f z (Memᴰ·append-left zs i)) b s),
-     λ r.
+      let (m, f, s) = sendable-iff (over-A B) Q R .0 k in (
+        m,
+        (λ z i. f z (Memᴰ·append-right (zip (A .columns) (B .columns)) i)),
+        sends-first m A B (alike-iff A B .0 e) (λ z i. f z (Memᴰ·append-left zs i)) b s,
+      ),
+  λ r.
       let (m, f, s) = r in
       let B = over (image m) A in
-      any-iff target R .1
-      (B, s A (List·Memᴰ·head refl),
-       and-iff (alike B) (sendable (over-A B) Q R) .1
-       (alike-iff A B .1 (refl, sym (length-map (A .columns) (image m))),
-        sendable-iff (over-A B) Q R .1
-        (m,
-         (λ z i. ⊎-elim (zip-map (image m) (A .columns) z) (f z) (List·Memᴰ·append-cases (zip (A .columns) (B .columns)) i)),
-         λ C c. s C (List·Memᴰ·tail c)))))
+      any-iff target R .1 (
+        B,
+        s A (List·Memᴰ·head refl),
+        and-iff (alike B) (sendable (over-A B) Q R) .1 (
+          alike-iff A B .1 (refl, sym (length-map (A .columns) (image m))),
+          sendable-iff (over-A B) Q R .1 (
+            m,
+            (λ z i. ⊎-elim (zip-map (image m) (A .columns) z) (f z) (List·Memᴰ·append-cases (zip (A .columns) (B .columns)) i)),
+            λ C c. s C (List·Memᴰ·tail c),
+          ),
+        ),
+      ),
+)
   where
     alike : Line → Bool
     alike B = eqb (A .table) (B .table) && eqb (length (A .columns)) (length (B .columns))
+
     over-A : Line → List (Term × Term)
     over-A B = zip (A .columns) (B .columns) ++ zs
+
     target : Line → Bool
     target B = alike B && sendable (over-A B) Q R
 
@@ -128,10 +142,11 @@ mayGo-iff Q i l =
 
 -- If line i goes and then the line now at place j, after it, that line (at place j + 1 before) may go from Q at once.
 could-go : (Q : Query) (i j : ℕ) → i ≤ j → MayGo Q i → MayGo (without i Q) j → MayGo Q (suc j)
-could-go Q i j h g k =
-    (omega (arith, length-without i Q (g .0)),
-     (λ n. image (k .1) (g .1 n)),
-     λ A a. without-twice i j Q (sends-twice (g .1) (k .1) (g .2) (k .2) A a) h)
+could-go Q i j h g k = (
+  omega (arith, length-without i Q (g .0)),
+  (λ n. image (k .1) (g .1 n)),
+  λ A a. without-twice i j Q (sends-twice (g .1) (k .1) (g .2) (k .2) A a) h,
+)
 
 -- One pass is enough: once no line at place n or later may go, it is enough to try the first n.
 reduceBelow-reduces : (n : ℕ) (Q : Query) → n ≤ length Q → ((j : ℕ) → n ≤ j → MayGo Q j → ⊥) → ReducesTo Q (reduceBelow n Q)

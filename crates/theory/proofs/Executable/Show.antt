@@ -18,9 +18,10 @@ use Rattle.theory.proofs.Executable.Test.{or-iff, any-iff, same-iff}
 
 -- the test of "t is one of the terms"
 pub has-iff : (t : Term) (l : List Term) → T (any (same t) l) ↔ (t ∈ l)
-has-iff t l =
-    (λ h. let r = any-iff (same t) l .0 h in Memᴰ·cast (same-iff t (r .0) .0 (r .2)) (r .1),
-    λ m. any-iff (same t) l .1 (t, m, same-iff t t .1 refl))
+has-iff t l = (
+  λ h. let r = any-iff (same t) l .0 h in Memᴰ·cast (same-iff t (r .0) .0 (r .2)) (r .1),
+  λ m. any-iff (same t) l .1 (t, m, same-iff t t .1 refl),
+)
 
 pub standsIn-iff : (n : ℕ) (A : Line) → T (standsIn n A) ↔ (hidden n ∈ A .columns)
 unfolding standsIn
@@ -38,7 +39,7 @@ later s =
       A-at = s .A-at;
       B-at = s .B-at;
       in-A = s .in-A;
-      in-B = s .in-B
+      in-B = s .in-B;
     }
 
 shared-to : (R : Query) (n : ℕ) → T (shared R n) → Shared R n
@@ -47,19 +48,19 @@ shared-to [] n h = absurd h
 shared-to (A ∷ R) n h =
     ⊎-elim
     (λ k.
-      let r = and-yes (standsIn n A) (any (standsIn n) R) k in
-      let s = any-iff (standsIn n) R .0 (r .1) in
-      record {
-        i = zero;
-        j = suc (place (s .1) .0);
-        apart = λ e. suc-ne-zero _ (sym e);
-        A = A;
-        B = s .0;
-        A-at = refl;
-        B-at = place (s .1) .1;
-        in-A = standsIn-iff n A .0 (r .0);
-        in-B = standsIn-iff n (s .0) .0 (s .2)
-      })
+    let r = and-yes (standsIn n A) (any (standsIn n) R) k in
+    let s = any-iff (standsIn n) R .0 (r .1) in
+    record {
+      i = zero;
+      j = suc (place (s .1) .0);
+      apart = λ e. suc-ne-zero _ (sym e);
+      A = A;
+      B = s .0;
+      A-at = refl;
+      B-at = place (s .1) .1;
+      in-A = standsIn-iff n A .0 (r .0);
+      in-B = standsIn-iff n (s .0) .0 (s .2);
+    })
     (λ k. later (shared-to R n k))
     (or-yes (standsIn n A && any (standsIn n) R) (shared R n) h)
 
@@ -86,9 +87,10 @@ shared-from (C ∷ R) n (suc i) (suc j) A B d e f k l =
     (inr (shared-from R n i j A B (λ p. d (ap suc p)) e f k l))
 
 pub shared-iff : (R : Query) (n : ℕ) → T (shared R n) ↔ Shared R n
-shared-iff R n =
-    (shared-to R n,
-    λ s. shared-from R n (s .i) (s .j) (s .A) (s .B) (s .apart) (s .A-at) (s .B-at) (s .in-A) (s .in-B))
+shared-iff R n = (
+  shared-to R n,
+  λ s. shared-from R n (s .i) (s .j) (s .A) (s .B) (s .apart) (s .A-at) (s .B-at) (s .in-A) (s .in-B),
+)
 
 -- what a hidden variable becomes by the test b of being shared
 shows-by : {S : Type 0} (n : ℕ) (b : Bool) → T b ↔ S

@@ -1,6 +1,5 @@
 -- Covering, computed.
 use mathlib.Core.Bool.{Bool, true, false, not, _&&_, _||_}
-use Prim.Native.Nat.{ℕ}
 use lib.Dec.{eqb}
 use lib.ListN.{length}
 use Rattle.theory.specs.Query.{Term, constant, shown, hidden, Line}

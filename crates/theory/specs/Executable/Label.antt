@@ -1,5 +1,5 @@
 -- Document 01, "Label": one word for each line of the reduced query, shared variables shown.
-use mathlib.Core.Bool.{Bool, true, false, cond}
+use mathlib.Core.Bool.{Bool, cond}
 use mathlib.Core.List.{List, [], _∷_, map}
 use Prim.Native.Nat.{ℕ, _+_, _*_, _/_, _%_, _^_}
 use Rattle.theory.specs.Query.{Line, Query}

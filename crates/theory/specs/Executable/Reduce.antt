@@ -1,11 +1,11 @@
 -- Reducing, computed. A map that sends lines to lines is a choice of a target for each line such that the terms that then
 -- stand over one another belong to one map.
-use mathlib.Core.Bool.{Bool, true, false, cond, not, _&&_, _||_}
+use mathlib.Core.Bool.{Bool, true, cond, not, _&&_, _||_}
 use mathlib.Core.List.{List, [], _∷_, _++_, zip}
 use Prim.Native.Nat.{ℕ, zero, suc}
 use lib.Dec.{eqb}
 use lib.ListN.{length}
-use Rattle.theory.specs.Query.{Term, constant, shown, hidden, Line, Query}
+use Rattle.theory.specs.Query.{Term, constant, shown, hidden, Query}
 use Rattle.theory.specs.Reduce.{without}
 use Rattle.theory.specs.Executable.Test.{all, any, same}
 

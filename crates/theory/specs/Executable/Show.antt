@@ -1,5 +1,5 @@
 -- Showing, computed.
-use mathlib.Core.Bool.{Bool, true, false, cond, _&&_, _||_}
+use mathlib.Core.Bool.{Bool, false, cond, _&&_, _||_}
 use mathlib.Core.List.{[], _∷_, map}
 use Prim.Native.Nat.{ℕ}
 use Rattle.theory.specs.Query.{Term, constant, shown, hidden, over, Line, Query}
