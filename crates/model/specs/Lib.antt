@@ -1,0 +1,3 @@
+-- What the texts say, in the theory's terms, and the values that hold it.
+pub mod Fields
+pub mod Limits

@@ -1,0 +1,72 @@
+-- Document 01, the limits, and the checks that turn a line back: each a test on what the line says and what earlier lines
+-- declared.
+use mathlib.Core.Bool.{Bool, false, cond, _&&_}
+use mathlib.Core.List.{List, [], _∷_}
+use Prim.Native.Nat.{ℕ, _-_}
+use lib.Dec.{leb, eqb}
+use lib.ListN.{length, getD}
+use Rattle.theory.specs.Query.{Term, constant, shown, hidden, Line}
+use Rattle.theory.specs.Executable.Test.{all, any, same}
+use Rattle.text.specs.Numeral.{constantLimit}
+
+-- "Tables 1 to 16; columns 1 to 8; views 1 to 32 in all; partitions 1 to 32; lines in a query 1 to 8; variables 0 to 63"
+unfoldable pub mostTables : ℕ
+mostTables = 16
+
+unfoldable pub mostColumns : ℕ
+mostColumns = 8
+
+unfoldable pub mostViews : ℕ
+mostViews = 32
+
+unfoldable pub mostPartitions : ℕ
+mostPartitions = 32
+
+unfoldable pub mostLines : ℕ
+mostLines = 8
+
+unfoldable pub lastVariable : ℕ
+lastVariable = 63
+
+-- from 1 to the most
+unfoldable pub upTo : ℕ → ℕ → Bool
+upTo most n = leb 1 n && leb n most
+
+unfoldable pub termWithin : Term → Bool
+unfolding constantLimit lastVariable
+termWithin (constant c) = leb c constantLimit
+termWithin (shown n) = leb n lastVariable
+termWithin (hidden n) = leb n lastVariable
+
+-- the numbers of a line are within their limits (2)
+unfoldable pub lineWithin : Line → Bool
+unfolding upTo mostTables termWithin all
+lineWithin A = upTo mostTables (A .table) && all termWithin (A .columns)
+
+-- the table is declared (4)
+unfoldable pub known : List ℕ → Line → Bool
+known widths A = leb (A .table) (length widths)
+
+-- the terms are as many as the table's columns (5)
+unfoldable pub wide : List ℕ → Line → Bool
+wide widths A = eqb (length (A .columns)) (getD widths (A .table - 1) 0)
+
+-- the same number with the other mark
+unfoldable pub opposite : Term → Term → Bool
+opposite (constant c) u = false
+opposite (shown n) u = same u (hidden n)
+opposite (hidden n) u = same u (shown n)
+
+-- a term of the line stands with the other mark in the line or an earlier one (6)
+unfoldable pub clashing : List Line → Line → Bool
+unfolding any opposite
+clashing earlier A = any (λ t. any (λ B. any (opposite t) (B .columns)) (A ∷ earlier)) (A .columns)
+
+-- the number of the first check that turns a line back, 0 where none does
+pub record Check : Type 0 where
+  pub broken : Bool
+  pub number : ℕ
+
+unfoldable pub firstFault : List Check → ℕ
+firstFault [] = 0
+firstFault (c ∷ cs) = cond (c .broken) (c .number) (firstFault cs)

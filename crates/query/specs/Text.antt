@@ -1,0 +1,68 @@
+-- Document 01, "Query: `table terms`, then its lines", and what turns a query text back when deciding.
+use mathlib.Core.Bool.{cond, not}
+use mathlib.Core.List.{List, [], _∷_, _++_}
+use mathlib.Core.Option.{Option, none, some}
+use Prim.Native.Nat.{ℕ, zero, suc}
+use lib.Dec.{leb, ltb}
+use lib.ListN.{length}
+use Rattle.theory.specs.Query.{Line, Query}
+use Rattle.text.specs.Lines.{lines}
+use Rattle.text.specs.Names.{tableTerms, sameBytes}
+use Rattle.model.specs.Fields.{queryLine}
+use Rattle.model.specs.Limits.{mostLines, lineWithin, known, wide, clashing, firstFault}
+
+-- a query text's query, or the number that turns it back and the line
+pub data Reading : Type 0 where
+  refused : (number line : ℕ) → Reading
+  accepted : Query → Reading
+
+-- "query text at most 4,096" bytes
+unfoldable pub mostBytes : ℕ
+mostBytes = 4096
+
+-- what turns a line back that stands behind the lines `earlier`: "1, 7 (a ninth line), 2, 4, 5, 6", the 1 apart
+unfoldable pub fault : List ℕ → List Line → Line → ℕ
+unfolding firstFault mostLines lineWithin known wide clashing
+fault widths earlier A =
+    firstFault
+    (record { broken = leb mostLines (length earlier); number = 7 }
+    ∷ record { broken = not (lineWithin A); number = 2 }
+    ∷ record { broken = not (known widths A); number = 4 }
+    ∷ record { broken = not (wide widths A); number = 5 }
+    ∷ record { broken = clashing earlier A; number = 6 }
+    ∷ [])
+
+-- the text stops here: with a tail that lacks its end, or before the first line of values, it is faulty at this line
+unfoldable pub ends : List Line → ℕ → List ℕ → Reading
+ends earlier k (b ∷ tail) = refused 1 k
+ends [] k [] = refused 1 k
+ends (A ∷ earlier) k [] = accepted (A ∷ earlier)
+
+-- a line that is malformed (1), or has a fault, turns the text back; behind any other the text goes on
+unfoldable pub judged : ℕ → ℕ → Reading → Reading
+judged zero k next = next
+judged (suc n) k next = refused (suc n) k
+
+unfoldable pub step : Option Line → ℕ → (Line → ℕ) → (Line → Reading) → Reading
+unfolding judged
+step none k fault next = refused 1 k
+step (some A) k fault next = judged (fault A) k (next A)
+
+-- "The first faulty line counts": the lines from number k on, behind the lines `earlier`
+unfoldable pub readFrom : List ℕ → List Line → ℕ → List (List ℕ) → List ℕ → Reading
+unfolding ends step fault queryLine
+readFrom widths earlier k [] tail = ends earlier k tail
+readFrom widths earlier k (l ∷ ls) tail =
+    step (queryLine l) k (fault widths earlier) (λ A. readFrom widths (earlier ++ A ∷ []) (suc k) ls tail)
+
+-- the names line, then the lines of values
+unfoldable pub readLines : List ℕ → List (List ℕ) → List ℕ → Reading
+unfolding readFrom sameBytes tableTerms
+readLines widths [] tail = refused 1 1
+readLines widths (l ∷ ls) tail = cond (sameBytes l tableTerms) (readFrom widths [] 2 ls tail) (refused 1 1)
+
+-- "7 at line 0 for length, else …"
+unfoldable pub read : List ℕ → List ℕ → Reading
+unfolding readLines lines mostBytes
+read widths text =
+    let s = lines text in cond (ltb mostBytes (length text)) (refused 7 0) (readLines widths (s .ended) (s .rest))

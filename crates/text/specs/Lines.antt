@@ -1,0 +1,34 @@
+-- Lines and fields. A text is a list of bytes.
+use mathlib.Core.Bool.{cond}
+use mathlib.Core.List.{List, [], _∷_, _++_}
+use Prim.Native.Nat.{ℕ, suc}
+use lib.Dec.{eqb}
+
+-- the pieces of a list that a byte ends, and what is left behind the last of them
+pub record Split : Type 0 where
+  pub ended : List (List ℕ)
+  pub rest : List ℕ
+
+-- one byte more in front of the first piece
+unfoldable pub push : ℕ → Split → Split
+push b s = elim (s .ended) [ [] ↦ record { ended = []; rest = b ∷ s .rest } | l ∷ ls ↦ record { ended = (b ∷ l) ∷ ls; rest = s .rest } ]
+
+unfoldable pub split : ℕ → List ℕ → Split
+unfolding push
+split sep [] = record { ended = []; rest = [] }
+split sep (b ∷ l) = let r = split sep l in cond (eqb b sep) (record { ended = [] ∷ r .ended; rest = r .rest }) (push b r)
+
+-- "each line ended by byte 10 (decimal)": the complete lines, and a tail that lacks its end
+unfoldable pub lines : List ℕ → Split
+unfolding split
+lines text = split 10 text
+
+-- "Fields are parted by one space."
+unfoldable pub fields : List ℕ → List (List ℕ)
+unfolding split
+fields line = let s = split 32 line in s .ended ++ s .rest ∷ []
+
+-- how many bytes stand before the first that equals b, all of them where none does
+unfoldable pub before : ℕ → List ℕ → ℕ
+before b [] = 0
+before b (x ∷ l) = cond (eqb x b) 0 (suc (before b l))
