@@ -2,4 +2,3 @@
 pub mod Lines
 pub mod Names
 pub mod Numeral
-pub mod Value

@@ -1,0 +1,2 @@
+-- Facts about the definitions of specs/.
+pub mod Limits

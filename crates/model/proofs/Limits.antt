@@ -1,0 +1,55 @@
+-- What the checks of a line say of it in the theory's terms.
+use mathlib.Core.Path.{_≡_, refl, subst}
+use mathlib.Core.Logic.{⊎-elim}
+use mathlib.Core.Bool.{Bool, true, false, cond, not}
+use mathlib.Core.List.{List, [], _∷_, _++_, List·Memᴰ·head, List·Memᴰ·tail, List·Memᴰ·append-cases, List·Memᴰ·eq-of-singleton}
+use Prim.Native.Nat.{ℕ, suc}
+use native.Mathlib.Nat.{suc-ne-zero}
+use lib.Dec.{T, leb, eqb→eq, leb→le, T-not}
+use lib.ListN.{length}
+use Rattle.theory.specs.Query.{Term, shown, hidden, Line, _∈_, NoClash, Fits}
+use Rattle.theory.specs.Executable.Test.{all, any}
+use Rattle.theory.proofs.Executable.Test.{and-iff, any-iff, same-iff}
+use Rattle.model.specs.Limits.{upTo, lineWithin, termWithin, mostTables, known, wide, opposite, clashing}
+
+-- a fault of 0 is the fault of no check
+pub no-fault : (b : Bool) (n rest : ℕ) → cond b (suc n) rest ≡ 0 → T (not b) × (rest ≡ 0)
+no-fault true n rest e = absurd (suc-ne-zero n e)
+no-fault false n rest e = (tt, e)
+
+pub not-not : (b : Bool) → T (not (not b)) → T b
+not-not true h = h
+not-not false h = h
+
+-- a line whose numbers are within their limits, whose table is declared and whose terms are as many as its columns fits
+pub checked-fits : (widths : List ℕ) (A : Line) → T (lineWithin A) → T (known widths A) → T (wide widths A) → Fits widths A
+unfolding lineWithin upTo known wide
+checked-fits widths A w k d =
+    let u = and-iff (leb 1 (A .table)) (leb (A .table) mostTables) .0 (and-iff (upTo mostTables (A .table)) (all termWithin (A .columns)) .0 w .0) in
+    record { first = leb→le 1 (A .table) (u .0); last = leb→le (A .table) (length widths) k; width = eqb→eq _ _ d }
+
+-- a term with the other mark in the line or an earlier one is found
+clash-found : (earlier : List Line) (A B : Line) (t u : Term) → t ∈ A .columns → B ∈ A ∷ earlier → u ∈ B .columns → T (opposite t u)
+    → T (clashing earlier A)
+unfolding clashing
+clash-found earlier A B t u i b j o =
+    any-iff (λ x. any (λ C. any (opposite x) (C .columns)) (A ∷ earlier)) (A .columns) .1
+    (t, i, any-iff (λ C. any (opposite t) (C .columns)) (A ∷ earlier) .1 (B, b, any-iff (opposite t) (B .columns) .1 (u, j, o)))
+
+-- lines without a clash stay so with one more that does not clash with them
+pub clear-more : (earlier : List Line) (A : Line) → NoClash earlier → T (not (clashing earlier A)) → NoClash (earlier ++ A ∷ [])
+unfolding opposite
+clear-more earlier A clear h n B C b c i j =
+    ⊎-elim
+    (λ x. ⊎-elim (λ y. clear n B C x y i j)
+    (λ y. let e = List·Memᴰ·eq-of-singleton y in
+    T-not (clashing earlier A) h
+    (clash-found earlier A B (hidden n) (shown n) (subst (λ (D : Line). hidden n ∈ D .columns) e j) (List·Memᴰ·tail x) i
+    (same-iff (shown n) (shown n) .1 refl)))
+    (List·Memᴰ·append-cases earlier c))
+    (λ x. let e = List·Memᴰ·eq-of-singleton x in
+    T-not (clashing earlier A) h
+    (clash-found earlier A C (shown n) (hidden n) (subst (λ (D : Line). shown n ∈ D .columns) e i)
+    (⊎-elim (λ y. List·Memᴰ·tail y) (λ y. List·Memᴰ·head (List·Memᴰ·eq-of-singleton y)) (List·Memᴰ·append-cases earlier c)) j
+    (same-iff (hidden n) (hidden n) .1 refl)))
+    (List·Memᴰ·append-cases earlier b)

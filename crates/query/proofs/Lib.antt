@@ -1,0 +1,2 @@
+-- Facts about every query text that reading accepts.
+pub mod Accepted
