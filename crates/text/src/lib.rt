@@ -1,1 +1,106 @@
-// No code yet.
+// What every text is made of: lines and fields found in a slice of bytes, names lines, numerals.
+
+ghost use mathlib.Core.Bool.{not};
+ghost use mathlib.Core.Path.{_≡_};
+ghost use Prim.Native.Nat.{_-_, _<_, _≤_};
+ghost use lib.ListN.{length};
+ghost use Rattle.text.specs.Lines.{before};
+ghost use Rattle.text.specs.Names.{sameBytes};
+ghost use Rattle.text.specs.Numeral.{leads};
+ghost use Rattle.text.specs.Value.{numeralValue};
+
+// The most digits of a numeral.
+const MOST_DIGITS: usize = 10;
+
+// The largest number that any place of a text allows: that of a constant.
+const CONSTANT_LIMIT: u64 = 4_294_967_295;
+
+// What a field says where a numeral is wanted.
+pub enum Numeral {
+    // It is no numeral.
+    Malformed,
+    // A number past every limit.
+    Large,
+    Value(u64),
+}
+
+// The place of the first byte of `s` that equals `b`, or the length of `s` where there is none.
+pub fn first(s: &[u8], b: u8) -> usize
+    ensures { λ r. ⌜ r ≡ before b (now (s .entry)) ⌝ }
+{
+    let mut i = 0;
+    while i < s.len() {
+        if s[i] == b {
+            return i;
+        }
+        i += 1;
+    }
+    i
+}
+
+// Whether two lines have the same bytes.
+pub fn same<'a>(a: &'a [u8], b: &'a [u8]) -> bool
+    ensures { λ r. ⌜ r ≡ sameBytes (now (a .entry)) (now (b .entry)) ⌝ }
+{
+    if a.len() != b.len() {
+        return false;
+    }
+    let mut i = 0;
+    while i < a.len() {
+        if a[i] != b[i] {
+            return false;
+        }
+        i += 1;
+    }
+    true
+}
+
+// A byte that no digit is has a value of 10 or more.
+fn digit(b: u8) -> u64
+    ensures { λ r. ⌜ (b < 48 → 9 < r) ⌝ }
+    ensures { λ r. ⌜ (48 ≤ b → r ≡ b - 48) ⌝ }
+{
+    if b < 48 {
+        return 10;
+    }
+    (b - 48) as u64
+}
+
+// Whether the first byte is `0` and others follow.
+fn leading_zero(field: &[u8]) -> bool
+    ensures { λ r. ⌜ (0 < length (now (field .entry)) → not r ≡ leads (now (field .entry))) ⌝ }
+{
+    if field.len() < 2 {
+        return false;
+    }
+    field[0] == 48
+}
+
+pub fn read_numeral(field: &[u8]) -> Numeral
+    ensures { λ r. ⌜ r ≡ numeralValue (now (field .entry)) ⌝ }
+{
+    let n = field.len();
+    if n == 0 {
+        return Numeral::Malformed;
+    }
+    if MOST_DIGITS < n {
+        return Numeral::Malformed;
+    }
+    if leading_zero(field) {
+        return Numeral::Malformed;
+    }
+    let mut value: u64 = 0;
+    let mut i = 0;
+    while i < n {
+        let d = digit(field[i]);
+        if 9 < d {
+            return Numeral::Malformed;
+        }
+        value = value * 10 + d;
+        i += 1;
+    }
+    if CONSTANT_LIMIT < value {
+        return Numeral::Large;
+    }
+    Numeral::Value(value)
+}

@@ -1,0 +1,4 @@
+-- The laws of the definitions in specs/, and of what the loops keep.
+pub mod Lines
+pub mod Names
+pub mod Numerals

@@ -1,0 +1,165 @@
+-- Numerals: what makes a field one, and the number that its digits stand for.
+use mathlib.Core.Path.{_≡_, refl, ap, _∙_}
+use mathlib.Core.Bool.{Bool, true, false, false≢true, cond, not, _&&_, _||_}
+use mathlib.Core.List.{List, [], _∷_}
+use mathlib.Core.Option.{none, some}
+use Prim.Native.Nat.{ℕ, suc, _+_, _-_, _*_, _^_, _≤_, _<_, zero-le}
+use native.Mathlib.Nat.{not-suc-le-zero, zero-add, add-zero, add-suc, suc-add, pow-suc, pow-le-pow-right}
+use native.Mathlib.Decide.{decLe}
+use native.Mathlib.Numerals.{add-one}
+use native.Mathlib.Omega.{arith}
+use lib.Dec.{leb, eqb, lit<}
+use lib.ListN.{length, getD, drop, drop-of-length-le}
+use lib.Seq.{drop-cons}
+use borrow.Author.Tests.{le-leb, lt-leb, leb-true, ne-eqb}
+use Rattle.text.specs.Numeral.{mostDigits, constantLimit, isDigit, allDigits, leads, isNumeral, digitsAfter, numeral}
+use Rattle.text.specs.Value.{limited, numeralValue}
+use Rattle.text.specs.declared.Numeral.the-variants.{Malformed, Large, Value}
+
+-- ---- the first digit
+
+pub leads-alone : (l : List ℕ) → 0 < length l → length l < 2 → true ≡ leads l
+unfolding leads
+leads-alone [] h k = absurd (not-suc-le-zero h)
+leads-alone (b ∷ []) h k = go (eqb b 48)
+  where
+    go : (t : Bool) → true ≡ (not t || true)
+    go true = refl
+    go false = refl
+leads-alone (b ∷ c ∷ l) h k = absurd (omega arith)
+
+pub leads-others : (l : List ℕ) → 2 ≤ length l → not (eqb (getD l 0 0) 48) ≡ leads l
+unfolding leads
+leads-others [] h = absurd (not-suc-le-zero h)
+leads-others (b ∷ l) h = rw (ne-eqb (length l) 0 (λ e. omega arith)) (go (eqb b 48))
+  where
+    go : (t : Bool) → not t ≡ (not t || false)
+    go true = refl
+    go false = refl
+
+-- ---- one digit: d is b's value, or more than 9
+
+pub digit-taken : (b d : ℕ) → (b < 48 → 9 < d) → (48 ≤ b → d ≡ b - 48) → d ≤ 9 → (isDigit b ≡ true) × (d ≡ b - 48)
+unfolding isDigit
+digit-taken b d low high h = go (decLe 48 b)
+  where
+    go : Dec (48 ≤ b) → ((leb 48 b && leb b 57) ≡ true) × (d ≡ b - 48)
+    go (yes k) = let e = high k in (rw (le-leb 48 b k, le-leb b 57 (omega arith)), e)
+    go (no n) = let k = low (omega arith) in absurd (omega arith)
+
+pub digit-broken : (b d : ℕ) → (48 ≤ b → d ≡ b - 48) → 9 < d → isDigit b ≡ false
+unfolding isDigit
+digit-broken b d high h = go (decLe 48 b)
+  where
+    go : Dec (48 ≤ b) → (leb 48 b && leb b 57) ≡ false
+    go (yes k) = let e = high k in rw (le-leb 48 b k, lt-leb b 57 (omega arith))
+    go (no n) = rw (lt-leb 48 b (omega arith))
+
+-- ---- the digits read so far
+
+-- the first i bytes of l are digits, and stand for v
+pub record Digits (l : List ℕ) (v i : ℕ) : Type 0 where
+  pub within : i ≤ length l
+  pub small : v < 10 ^ i
+  pub ahead : allDigits l ≡ allDigits (drop i l)
+  pub value : digitsAfter 0 l ≡ digitsAfter v (drop i l)
+
+pub digits-none : (l : List ℕ) → Digits l 0 0
+digits-none l = record { within = zero-le; small = lit< tt; ahead = refl; value = refl }
+
+pub digits-more : {l : List ℕ} {v i d : ℕ} → Digits l v i → i < length l → d ≤ 9 → (isDigit (getD l i 0) ≡ true) × (d ≡ getD l i 0 - 48)
+    → Digits l (v * 10 + d) (i + 1)
+unfolding allDigits digitsAfter
+digits-more {l} {v} {i} {d} r h k e =
+    record {
+      within = omega arith;
+      small = rw (add-one, pow-suc) (omega arith);
+      ahead = r .ahead ∙ ap allDigits (drop-cons l i 0 h) ∙ rw (add-one, e .0);
+      value = r .value ∙ ap (digitsAfter v) (drop-cons l i 0 h) ∙ rw (add-one, e .1);
+    }
+
+pub digits-broken : {l : List ℕ} {v i : ℕ} → Digits l v i → i < length l → isDigit (getD l i 0) ≡ false → allDigits l ≡ false
+unfolding allDigits
+digits-broken {l} {v} {i} r h e = r .ahead ∙ ap allDigits (drop-cons l i 0 h) ∙ rw e
+
+pub digits-all : {l : List ℕ} {v i : ℕ} → Digits l v i → length l ≤ i → (allDigits l ≡ true) × (digitsAfter 0 l ≡ v)
+unfolding allDigits digitsAfter
+digits-all {l} {v} {i} r h =
+    (r .ahead ∙ ap allDigits (drop-of-length-le l h), r .value ∙ ap (digitsAfter v) (drop-of-length-le l h))
+
+-- behind eighteen digits one more still fits a word of 64 bits
+pub digits-fit : {l : List ℕ} {v i : ℕ} → Digits l v i → i ≤ 18 → v < 10 ^ 18
+digits-fit {l} {v} {i} r h = omega (arith, r .small, pow-le-pow-right {n = 10} (lit< tt) h)
+
+-- ---- the whole field
+
+and-false : (a b : Bool) → b ≡ false → (a && b) ≡ false
+and-false true b e = e
+and-false false b e = refl
+
+malformed : (l : List ℕ) → isNumeral l ≡ false → Malformed ≡ numeralValue l
+unfolding numeralValue limited numeral
+malformed l e = rw e
+
+pub no-digit : (l : List ℕ) → allDigits l ≡ false → Malformed ≡ numeralValue l
+unfolding isNumeral
+no-digit l e = malformed l (rw e)
+
+pub badly-led : (l : List ℕ) → leads l ≡ false → Malformed ≡ numeralValue l
+unfolding isNumeral
+badly-led l e = malformed l (and-false (allDigits l) (leads l && leb (length l) mostDigits) (rw e))
+
+pub too-long : (l : List ℕ) → 10 < length l → Malformed ≡ numeralValue l
+unfolding isNumeral mostDigits
+too-long l h =
+    malformed l
+    (and-false (allDigits l) (leads l && leb (length l) 10)
+    (and-false (leads l) (leb (length l) 10) (lt-leb (length l) 10 h)))
+
+pub no-byte : (l : List ℕ) → length l ≡ 0 → Malformed ≡ numeralValue l
+unfolding leads
+no-byte [] e = badly-led [] refl
+no-byte (b ∷ l) e = absurd (omega arith)
+
+numeral-is : (l : List ℕ) → allDigits l ≡ true → leads l ≡ true → length l ≤ 10 → numeral l ≡ some (digitsAfter 0 l)
+unfolding numeral isNumeral mostDigits
+numeral-is l d f h = rw (d, f, le-leb (length l) 10 h)
+
+module _ (l : List ℕ) (v : ℕ) (f : leads l ≡ true) (h : length l ≤ 10) (d : (allDigits l ≡ true) × (digitsAfter 0 l ≡ v)) where
+  pub large : 4_294_967_295 < v → Large ≡ numeralValue l
+  unfolding numeralValue limited constantLimit
+  large k = rw (numeral-is l (d .0) f h, d .1, lt-leb v 4_294_967_295 k)
+
+  pub valued : v ≤ 4_294_967_295 → Value v ≡ numeralValue l
+  unfolding numeralValue limited constantLimit
+  valued k = rw (numeral-is l (d .0) f h, d .1, le-leb v 4_294_967_295 k)
+
+-- ---- a numeral has at most ten digits
+
+and-true : (a b : Bool) → (a && b) ≡ true → (a ≡ true) × (b ≡ true)
+and-true true b e = (refl, e)
+and-true false b e = absurd (false≢true e)
+
+digit-small : (b : ℕ) → isDigit b ≡ true → b - 48 ≤ 9
+unfolding isDigit
+digit-small b e = omega (arith, leb-true b 57 (and-true (leb 48 b) (leb b 57) e .1))
+
+digits-below : (l : List ℕ) (v k : ℕ) → allDigits l ≡ true → v < 10 ^ k → digitsAfter v l < 10 ^ (k + length l)
+unfolding allDigits digitsAfter
+digits-below [] v k e h = rw add-zero h
+digits-below (b ∷ l) v k e h =
+    let d = and-true (isDigit b) (allDigits l) e in
+    rw (add-suc, ← suc-add)
+    (digits-below l (v * 10 + (b - 48)) (suc k) (d .1) (rw pow-suc (omega (arith, digit-small b (d .0)))))
+
+pub numeral-small : (l : List ℕ) (n : ℕ) → numeral l ≡ some n → n < 10 ^ 10
+unfolding numeral isNumeral mostDigits
+numeral-small l n e = go (isNumeral l) refl e
+  where
+    go : (t : Bool) → isNumeral l ≡ t → cond t (some (digitsAfter 0 l)) none ≡ some n → n < 10 ^ 10
+    go true p q =
+        let r = and-true (allDigits l) (leads l && leb (length l) 10) p in
+        let s = leb-true (length l) 10 (and-true (leads l) (leb (length l) 10) (r .1) .1) in
+        let v : digitsAfter 0 l ≡ n = cc in
+        omega (arith, rw zero-add at (digits-below l 0 0 (r .0) (lit< tt)), pow-le-pow-right {n = 10} (lit< tt) s)
+    go false p q = let z : _≡_ {A = ℕ} 0 1 = cc in absurd (omega arith)
