@@ -30,7 +30,7 @@ none-read widths =
       few = omega arith;
       fits = λ A m. absurd (List·Memᴰ·not-nil m);
       within = λ A m. absurd (List·Memᴰ·not-nil m);
-      clear = λ n A B i. absurd (List·Memᴰ·not-nil i)
+      clear = λ n A B i. absurd (List·Memᴰ·not-nil i);
     }
 
 -- a line without a fault may stand behind them
@@ -55,7 +55,7 @@ more-read widths earlier A w e =
       within = λ B m.
           ⊎-elim (λ i. w .within B i) (λ i. subst (λ (C : Line). T (lineWithin C)) (sym (List·Memᴰ·eq-of-singleton i)) within)
           (List·Memᴰ·append-cases earlier m);
-      clear = clear-more earlier A (w .clear) (f .0)
+      clear = clear-more earlier A (w .clear) (f .0);
     }
 
 -- an accepted query has a line, and its lines are well read

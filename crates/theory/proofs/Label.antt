@@ -5,9 +5,10 @@ use mathlib.Core.Option.{some}
 use mathlib.Core.List.{List}
 use Prim.Native.Nat.{ℕ, _+_, _-_, _^_, _≤_, _<_}
 use lib.ListN.{getElem?}
+use Rattle.words.specs.Bits.{bit}
 use Rattle.theory.specs.Query.{Line, Fits}
 use Rattle.theory.specs.Cover.{Rewrites}
-use Rattle.theory.specs.Executable.Label.{bit, label}
+use Rattle.theory.specs.Executable.Label.{label}
 use Rattle.theory.proofs.Executable.Label.{label-bit}
 use Rattle.theory.proofs.Determine.{covers-iff-rewrites}
 

@@ -2,7 +2,6 @@
 pub mod Lists
 pub mod Find
 pub mod Pigeonhole
-pub mod Bits
 pub mod Tuples
 pub mod Terms
 -- The executable definitions are the relations.

@@ -4,17 +4,19 @@ use mathlib.Core.Logic.{_↔_}
 use mathlib.Core.Bool.{Bool, true, false, cond}
 use mathlib.Core.Option.{some, Option·some-injective}
 use mathlib.Core.List.{List, [], _∷_}
-use Prim.Native.Nat.{ℕ, zero, suc, _+_, _-_, _%_, _^_, _≤_, _<_}
+use Prim.Native.Nat.{ℕ, zero, suc, _+_, _-_, _*_, _%_, _^_, _≤_, _<_}
 use native.Mathlib.Numerals.{one-add}
 use native.Mathlib.Omega.{arith}
 use lib.Dec.{T}
 use lib.ListN.{length, getElem?}
+use Rattle.words.specs.Bits.{bit}
+use Rattle.words.proofs.Bits.{bit-zero, bit-lowest}
+use Rattle.words.proofs.Parts.{low-part, bit-above, parts-below}
 use Rattle.theory.specs.Query.{Line}
 use Rattle.theory.specs.Cover.{Covers}
 use Rattle.theory.specs.Executable.Cover.{covers}
-use Rattle.theory.specs.Executable.Label.{bit, viewBits, label}
+use Rattle.theory.specs.Executable.Label.{viewBits, label}
 use Rattle.theory.proofs.Lists.{none≢some}
-use Rattle.theory.proofs.Bits.{no-bit, low-digits, lowest-bit, bit-above, digits-below}
 use Rattle.theory.proofs.Executable.Cover.{covers-iff}
 
 -- ---- a test as a digit
@@ -33,10 +35,12 @@ digit-below false = omega arith
 pub viewBits-bit : (vs : List Line) (A : Line) (k : ℕ)
     → (bit (viewBits vs A) k ≡ 1) ↔ ((v : Line) × (getElem? vs k ≡ some v) × Covers v A)
 unfolding viewBits
-viewBits-bit [] A k = (λ h. absurd (no-bit k h), λ r. absurd (none≢some (r .1)))
+viewBits-bit [] A k = (λ h. let z = bit-zero k in omega (arith, z, h), λ r. absurd (none≢some (r .1)))
 viewBits-bit (v ∷ vs) A zero =
     let d = digit-one (covers v A) in
-    let e = lowest-bit (viewBits vs A) (digit-below (covers v A)) in (
+    let e : bit (cond (covers v A) 1 0 + 2 * viewBits vs A) 0 ≡ cond (covers v A) 1 0 =
+    bit-lowest _ ∙ low-part 1 (viewBits vs A) (digit-below (covers v A))
+    in (
       λ h. (v, refl, covers-iff v A .0 (d .0 (sym e ∙ h))),
       λ r. e ∙ d .1 (covers-iff v A .1
           (subst (λ (w : Line). Covers w A) (sym (Option·some-injective v (r .0) (r .1))) (r .2))),
@@ -49,14 +53,14 @@ unfolding viewBits
 viewBits-below [] A = omega arith
 viewBits-below (v ∷ vs) A =
     rw (← one-add (length vs))
-    (digits-below 1 (viewBits vs A) (digit-below (covers v A)) (length vs) (viewBits-below vs A))
+    (parts-below 1 (viewBits vs A) (digit-below (covers v A)) (length vs) (viewBits-below vs A))
 
 -- ---- the label
 
 module _ (vs : List Line) (A : Line) (small : A .table < 2 ^ 32) where
   pub label-table : label vs A % 2 ^ 32 ≡ A .table
   unfolding label
-  label-table = low-digits 32 (viewBits vs A) small
+  label-table = low-part 32 (viewBits vs A) small
 
   -- bit 31 + n says whether view n covers the line
   pub label-bit : (n : ℕ) → 1 ≤ n
@@ -69,4 +73,4 @@ module _ (vs : List Line) (A : Line) (small : A .table < 2 ^ 32) where
   -- no bit past the last view is set
   pub label-below : label vs A < 2 ^ (32 + length vs)
   unfolding label
-  label-below = digits-below 32 (viewBits vs A) small (length vs) (viewBits-below vs A)
+  label-below = parts-below 32 (viewBits vs A) small (length vs) (viewBits-below vs A)

@@ -1,16 +1,12 @@
 -- Document 01, "Label": one word for each line of the reduced query, shared variables shown.
 use mathlib.Core.Bool.{Bool, cond}
 use mathlib.Core.List.{List, [], _∷_, map}
-use Prim.Native.Nat.{ℕ, _+_, _*_, _/_, _%_, _^_}
+use Prim.Native.Nat.{ℕ, _+_, _*_, _^_}
 use Rattle.theory.specs.Query.{Line, Query}
 use Rattle.theory.specs.Executable.Test.{all, any}
 use Rattle.theory.specs.Executable.Reduce.{reduce}
 use Rattle.theory.specs.Executable.Show.{show}
 use Rattle.theory.specs.Executable.Cover.{covers}
-
--- bit k of a word
-abbrev pub bit : ℕ → ℕ → ℕ
-bit w k = w / 2 ^ k % 2
 
 -- the views that cover a line, as a word: view n at bit n − 1
 unfoldable pub viewBits : List Line → Line → ℕ

@@ -1,0 +1,8 @@
+-- Laws of bits and words, over any width.
+pub mod Bits
+pub mod Parts
+pub mod Masks
+pub mod SetBits
+pub mod Lowest
+pub mod Tests
+pub mod Counts

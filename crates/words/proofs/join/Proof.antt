@@ -1,0 +1,10 @@
+use borrow.Author.Needs.{needs}
+use Rattle.words.proofs.Parts.{or-parts}
+use Rattle.words.proofs.join.Statement.{statement}
+use Rattle.words.proofs.join.Tie as tie
+
+returns : tie.Need-returns
+returns c = or-parts 32 32 64 (c .pre .0) (c .pre .1) (search needs)
+
+pub join-spec : {M : Type 1} → statement M
+join-spec = tie.close (tie.spec returns)

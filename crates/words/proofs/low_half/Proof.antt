@@ -1,0 +1,9 @@
+use lib.Bits.{and-mask}
+use Rattle.words.proofs.low_half.Statement.{statement}
+use Rattle.words.proofs.low_half.Tie as tie
+
+returns : tie.Need-returns
+returns c = and-mask (c .args .w) 32
+
+pub low-half-spec : {M : Type 1} → statement M
+low-half-spec = tie.close (tie.spec returns)

@@ -1,0 +1,2 @@
+-- Words and their bits.
+pub mod Bits
