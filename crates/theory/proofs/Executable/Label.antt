@@ -35,7 +35,7 @@ digit-below false = omega arith
 pub viewBits-bit : (vs : List Line) (A : Line) (k : ℕ)
     → (bit (viewBits vs A) k ≡ 1) ↔ ((v : Line) × (getElem? vs k ≡ some v) × Covers v A)
 unfolding viewBits
-viewBits-bit [] A k = (λ h. let z = bit-zero k in omega (arith, z, h), λ r. absurd (none≢some (r .1)))
+viewBits-bit [] A k = (λ h. absurd (omega (arith, bit-zero k, h)), λ r. absurd (none≢some (r .1)))
 viewBits-bit (v ∷ vs) A zero =
     let d = digit-one (covers v A) in
     let e : bit (cond (covers v A) 1 0 + 2 * viewBits vs A) 0 ≡ cond (covers v A) 1 0 =
