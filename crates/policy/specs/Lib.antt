@@ -1,1 +1,4 @@
 pub mod Text
+pub mod Value
+pub mod Print
+pub mod Example

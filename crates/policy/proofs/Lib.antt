@@ -1,0 +1,16 @@
+-- The test of a value, and which lines are taken.
+pub mod Value
+pub mod Each
+pub mod Faults
+-- What a text loads to is well formed.
+pub mod Loaded
+-- What is printed is read back.
+pub mod Digits
+pub mod Printed
+pub mod Blocks
+pub mod Sizes
+pub mod Short
+pub mod Walk
+-- The theorems, and document 01's example.
+pub mod Loads
+pub mod Example

@@ -1,0 +1,63 @@
+-- How much a well-formed value holds: what is written of it stays within a numeral's digits and the text's length.
+use mathlib.Core.Path.{refl}
+use mathlib.Core.List.{List, [], _∷_, List·Memᴰ·head, List·Memᴰ·tail}
+use Prim.Native.Nat.{ℕ, _+_, _-_, _^_, _≤_, _<_}
+use native.Mathlib.Omega.{arith}
+use lib.Dec.{T, leb→le, eqb→eq, ltb, ltb→lt}
+use lib.ListN.{length, getD}
+use Rattle.theory.specs.Query.{Line, _∈_}
+use Rattle.theory.specs.Executable.Test.{all}
+use Rattle.theory.proofs.Tuples.{getD-mem}
+use Rattle.theory.proofs.Executable.Test.{and-iff, all-iff}
+use Rattle.model.specs.Limits.{mostTables, mostColumns, mostViews, upTo, termWithin, lineWithin, known, wide}
+use Rattle.policy.specs.Text.{ascend}
+use Rattle.policy.specs.Value.{Listed, GoodWidth, GoodView, GoodPartition}
+use Rattle.policy.proofs.Value.{up-to-iff}
+
+-- a view's numbers, and its columns as many as some table's
+pub record ViewSize (A : Line) : Type 0 where
+  pub table : A .table < 10 ^ 10
+  pub terms : T (all termWithin (A .columns))
+  pub least : 1 ≤ length (A .columns)
+  pub most : length (A .columns) ≤ 8
+
+pub view-size : (widths : List ℕ) (A : Line)
+    → Listed mostTables GoodWidth widths → GoodView widths A → ViewSize A
+unfolding lineWithin known wide mostTables mostColumns
+view-size widths A tables g =
+    let within = and-iff (upTo mostTables (A .table)) _ .0 (g .within) in
+    let number = up-to-iff mostTables (A .table) .0 (within .0) in
+    let declared = leb→le (A .table) (length widths) (g .declared) in
+    let width = getD widths (A .table - 1) 0 in
+    let member = getD-mem widths (A .table - 1) 0 (omega arith) in
+    let columns = up-to-iff mostColumns width .0 (tables .each width member) in
+    let fitting = eqb→eq (length (A .columns)) width (g .fitting) in
+    record { table = omega arith; terms = within .1; least = omega arith; most = omega arith }
+
+-- numbers that ascend from v and end at or below the most
+ascend-from : (most v : ℕ) (vs : List ℕ) → T (ascend (v ∷ vs)) → ((w : ℕ) → w ∈ v ∷ vs → w ≤ most) → v + length vs ≤ most
+unfolding ascend
+ascend-from most v [] h below = let k = below v (List·Memᴰ·head refl) in omega arith
+ascend-from most v (w ∷ ws) h below =
+    let k = and-iff (ltb v w) _ .0 h in
+    let rest = ascend-from most w ws (k .1) (λ u m. below u (List·Memᴰ·tail m)) in
+    omega (arith, ltb→lt v w (k .0))
+
+-- numbers from 1 to the most that ascend are no more than the most
+ascend-short : (most : ℕ) (vs : List ℕ) → T (ascend vs) → ((v : ℕ) → v ∈ vs → (1 ≤ v) × (v ≤ most)) → length vs ≤ most
+ascend-short most [] h within = omega arith
+ascend-short most (v ∷ vs) h within =
+    let k = within v (List·Memᴰ·head refl) in
+    omega (arith, ascend-from most v vs h (λ w m. within w m .1))
+
+pub record PartitionSize (vs : List ℕ) : Type 0 where
+  pub numbers : (v : ℕ) → v ∈ vs → v < 10 ^ 10
+  pub most : length vs ≤ 32
+
+pub partition-size : (views : ℕ) (vs : List ℕ) → GoodPartition views vs → PartitionSize vs
+unfolding mostViews
+partition-size views vs g =
+    record { numbers = λ v m. let k = within v m in omega arith; most = ascend-short 32 vs (g .ascending) within }
+  where
+    within : (v : ℕ) → v ∈ vs → (1 ≤ v) × (v ≤ 32)
+    within v m = up-to-iff 32 v .0 (all-iff (upTo 32) vs .0 (g .within) v m)
