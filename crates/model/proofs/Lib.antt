@@ -1,2 +1,11 @@
 -- Facts about the definitions of specs/.
 pub mod Limits
+pub mod LineRead
+pub mod Pad
+pub mod Parts
+pub mod Tags
+pub mod TermFields
+pub mod Terms
+pub mod TermsRead
+pub mod UpTo
+pub mod Values

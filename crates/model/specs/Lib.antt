@@ -1,3 +1,6 @@
 -- What the texts say, in the theory's terms, and the values that hold it.
+pub mod Abstract
 pub mod Fields
 pub mod Limits
+pub mod Marks
+pub mod Value

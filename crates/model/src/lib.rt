@@ -1,1 +1,83 @@
-// No code yet.
+// The values that hold what the texts say, and the reading of a line of terms.
+
+mod read;
+
+pub use read::blank;
+pub use read::read_line;
+pub use read::read_term;
+pub use read::read_terms;
+pub use read::up_to;
+
+// The marks of a term.
+pub const UNUSED: u8 = 0;
+
+pub const CONSTANT: u8 = 1;
+
+pub const SHOWN: u8 = 2;
+
+pub const HIDDEN: u8 = 3;
+
+pub const MOST_TABLES: u64 = 16;
+
+pub const LAST_VARIABLE: u64 = 63;
+
+// A mark and a number; an unused term is all 0.
+pub struct Term {
+    pub mark: u8,
+    pub number: u64,
+}
+
+// A line of a query, or a view: a table and its terms, unused ones behind them.
+pub struct Line {
+    pub table: u64,
+    pub terms: [Term; 8],
+}
+
+// The columns of each table, 0 behind the last.
+pub struct Tables {
+    pub count: usize,
+    pub columns: [u64; 16],
+}
+
+// The views behind the last are all unused, the partitions behind the last 0. View n stands at bit n - 1 of a partition.
+pub struct Policy {
+    pub tables: Tables,
+    pub view_count: usize,
+    pub views: [Line; 32],
+    pub partition_count: usize,
+    pub partitions: [u64; 32],
+}
+
+// The lines behind the last are all unused.
+pub struct Query {
+    pub count: usize,
+    pub lines: [Line; 8],
+}
+
+// How reading a text ends.
+pub enum Outcome {
+    Accepted,
+    Refused { number: u64, line: u64 },
+}
+
+// What a field says where a term is wanted.
+pub enum Field {
+    // It is no term.
+    Malformed,
+    // A term whose number is past its limit.
+    Outside,
+    Within(Term),
+}
+
+// What a line of terms says. Where it is malformed, or a number of it is past its limit, it says no more.
+pub struct Parsed {
+    pub ok: bool,
+    pub outside: bool,
+    pub table: u64,
+    // how many terms there are; the first eight are kept
+    pub count: usize,
+    pub terms: [Term; 8],
+    // the numbers of the shown and of the hidden variables, as bits
+    pub shown: u64,
+    pub hidden: u64,
+}

@@ -2,3 +2,4 @@ pub mod Text
 pub mod Value
 pub mod Print
 pub mod Example
+pub mod Policy

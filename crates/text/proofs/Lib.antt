@@ -2,3 +2,4 @@
 pub mod Lines
 pub mod Names
 pub mod Numerals
+pub mod Parts

@@ -1,0 +1,46 @@
+-- A value stands for the term, the line and the query of the theory that it holds.
+use mathlib.Core.Path.{_≡_, refl, sym, ap, ap₂, _∙_}
+use mathlib.Core.List.{List, [], _∷_, _++_, map, List·Memᴰ·head, List·Memᴰ·tail}
+use Prim.Native.Nat.{ℕ, zero, suc, _-_, _≤_}
+use lib.ListN.{length, take, replicate, length-map}
+use Rattle.theory.specs.Query.{Term, constant, shown, hidden, Line, Query, _∈_}
+use Rattle.model.specs.Value.{pad, unusedTerm, unusedLine, termValue, lineValue, queryValue}
+use Rattle.model.specs.Abstract.{asTerm, asTerms, asLine, asQuery}
+use Rattle.model.proofs.Pad.{pad-take}
+use Rattle.model.proofs.Terms.{terms-few}
+
+pub as-term : (t : Term) → asTerm (termValue t) ≡ t
+unfolding asTerm termValue
+as-term (constant c) = refl
+as-term (shown n) = refl
+as-term (hidden n) = refl
+
+-- an unused term ends a line
+as-unused : (k : ℕ) → asTerms (replicate k unusedTerm) ≡ []
+unfolding asTerms unusedTerm
+as-unused zero = refl
+as-unused (suc k) = refl
+
+as-terms : (ts : List Term) (k : ℕ) → asTerms (map termValue ts ++ replicate k unusedTerm) ≡ ts
+unfolding asTerms termValue
+as-terms [] k = as-unused k
+as-terms (t ∷ ts) k = ap₂ {C = List Term} (λ x l. x ∷ l) (as-term t) (as-terms ts k)
+
+pub as-line : (A : Line) → length (A .columns) ≤ 8 → asLine (lineValue A) ≡ A
+unfolding asLine lineValue pad
+as-line A h =
+    let e : asTerms (lineValue A .terms) ≡ A .columns
+    = ap asTerms (terms-few (A .columns) h) ∙ as-terms (A .columns) (8 - length (map termValue (A .columns))) in
+    λ i. record { table = A .table; columns = e i }
+
+as-lines : (Q : Query) → ((A : Line) → A ∈ Q → length (A .columns) ≤ 8) → map asLine (map lineValue Q) ≡ Q
+as-lines [] h = refl
+as-lines (A ∷ Q) h =
+    ap₂ {C = Query} (λ B l. B ∷ l) (as-line A (h A (List·Memᴰ·head refl))) (as-lines Q (λ B i. h B (List·Memᴰ·tail i)))
+
+pub as-query : (Q : Query) → ((A : Line) → A ∈ Q → length (A .columns) ≤ 8) → asQuery (queryValue Q) ≡ Q
+unfolding asQuery queryValue
+as-query Q h =
+    ap (map asLine)
+    (ap (λ (n : ℕ). take n (pad 8 unusedLine (map lineValue Q))) (sym (length-map Q lineValue)) ∙ pad-take 8 unusedLine (map lineValue Q))
+    ∙ as-lines Q h

@@ -1,0 +1,31 @@
+-- What the steps of reading a term give: its mark, whether its number is within the limit, and the terms with it behind them.
+use mathlib.Core.Path.{_≡_}
+use mathlib.Core.Bool.{Bool, cond, _||_}
+use mathlib.Core.List.{List, [], _∷_, _++_}
+use Prim.Native.Nat.{ℕ, _+_}
+use lib.Dec.{leb, eqb}
+use Rattle.theory.specs.Query.{Term as TheTerm}
+use Rattle.words.specs.Bits.{setBit}
+use Rattle.model.specs.Limits.{lastVariable}
+use Rattle.model.specs.Value.{termValue, goodValue}
+use Rattle.model.specs.declared.Term.{Term}
+use Rattle.model.specs.declared.Parsed.{Parsed}
+
+-- `#` has mark 1, `!` 2 and `?` 3; any other byte is no mark
+unfoldable pub markOf : ℕ → ℕ
+markOf b = cond (eqb b 35) 1 (cond (eqb b 33) 2 (cond (eqb b 63) 3 0))
+
+-- a numeral that is not large is within the limit of constants
+unfoldable pub numberWithin : ℕ → ℕ → Bool
+unfolding lastVariable
+numberWithin mark n = eqb mark 1 || leb n lastVariable
+
+-- a word with the bit of the term's number set, where the term has the mark
+unfoldable pub withMark : ℕ → ℕ → Term → ℕ
+unfolding setBit
+withMark mark m t = cond (eqb (t .mark) mark) (setBit m (t .number)) m
+
+-- r holds the terms of p and t behind them
+pub record Behind (p : Parsed) (t : Term) (r : Parsed) : Type 0 where
+  pub count : r .count ≡ p .count + 1
+  pub terms : (ts : List TheTerm) (u : TheTerm) → p ≡ goodValue 0 ts → t ≡ termValue u → r ≡ goodValue 0 (ts ++ u ∷ [])
