@@ -9,3 +9,5 @@ pub mod Terms
 pub mod TermsRead
 pub mod UpTo
 pub mod Values
+pub mod Variables
+pub mod Misfit

@@ -4,3 +4,4 @@ pub mod Fields
 pub mod Limits
 pub mod Marks
 pub mod Value
+pub mod Variables

@@ -1,6 +1,6 @@
 -- Document 01, the limits, and the checks that turn a line back: each a test on what the line says and what earlier lines
 -- declared.
-use mathlib.Core.Bool.{Bool, false, cond, _&&_}
+use mathlib.Core.Bool.{Bool, false, cond, not, _&&_}
 use mathlib.Core.List.{List, [], _∷_}
 use Prim.Native.Nat.{ℕ, _-_}
 use lib.Dec.{leb, eqb}
@@ -70,3 +70,13 @@ pub record Check : Type 0 where
 unfoldable pub firstFault : List Check → ℕ
 firstFault [] = 0
 firstFault (c ∷ cs) = cond (c .broken) (c .number) (firstFault cs)
+
+-- what turns back a line within its limits that stands behind the lines `earlier`: 4, 5, 6, or nothing
+unfoldable pub misfit : List ℕ → List Line → Line → ℕ
+unfolding firstFault known wide clashing
+misfit widths earlier A =
+    firstFault
+    (record { broken = not (known widths A); number = 4 }
+    ∷ record { broken = not (wide widths A); number = 5 }
+    ∷ record { broken = clashing earlier A; number = 6 }
+    ∷ [])

@@ -1,7 +1,9 @@
 // The values that hold what the texts say, and the reading of a line of terms.
 
+mod check;
 mod read;
 
+pub use check::check_line;
 pub use read::blank;
 pub use read::read_line;
 pub use read::read_term;
