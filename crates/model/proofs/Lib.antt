@@ -2,7 +2,6 @@
 pub mod Limits
 pub mod LineRead
 pub mod Pad
-pub mod Parts
 pub mod Tags
 pub mod TermFields
 pub mod Terms

@@ -21,7 +21,7 @@ use Rattle.model.specs.Fields.{both, every, term, lineOfFields, queryLin
 use Rattle.model.specs.Limits.{mostTables, upTo, termWithin, lineWithin}
 use Rattle.model.specs.Value.{blankValue, goodValue, parsedTerms, parsedLine, upToValue}
 use Rattle.model.specs.declared.Parsed.{Parsed}
-use Rattle.model.proofs.Parts.{to-end}
+use Rattle.text.proofs.Parts.{to-end}
 use Rattle.model.proofs.UpTo.{up-to-past, up-to-within}
 
 -- ---- the fields of a line

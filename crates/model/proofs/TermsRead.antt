@@ -21,7 +21,7 @@ use Rattle.model.specs.Value.{blankValue, goodValue, fieldValue, parsedT
 use Rattle.model.specs.declared.Term.{Term as TermValue}
 use Rattle.model.specs.declared.Parsed.{Parsed}
 use Rattle.model.specs.declared.Field.the-variants.{Malformed, Outside, Within}
-use Rattle.model.proofs.Parts.{to-end}
+use Rattle.text.proofs.Parts.{to-end}
 use Rattle.model.proofs.TermFields.{field-says, variable-small}
 
 -- ---- the fields left

@@ -22,5 +22,5 @@ policyValue d =
       «view_count» = length (d .views);
       views = pad 32 unusedLine (map lineValue (d .views));
       «partition_count» = length (d .partitions);
-      partitions = pad 32 0 (map (viewsAfter 0) (d .partitions))
+      partitions = pad 32 0 (map (viewsAfter 0) (d .partitions));
     }

@@ -1,2 +1,5 @@
--- Facts about every query text that reading accepts.
+-- The checks of a line, the walk over the lines, the names line; and what reading accepts.
+pub mod Faults
+pub mod Walk
+pub mod Names
 pub mod Accepted

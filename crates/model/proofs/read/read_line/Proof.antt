@@ -6,7 +6,7 @@ use borrow.Author.Needs.{needs}
 use borrow.Author.Tests.{not-true, not-false}
 use lib.ListN.{length}
 use Rattle.text.proofs.Lines.{before-le}
-use Rattle.model.proofs.Parts.{first-length}
+use Rattle.text.proofs.Parts.{first-length}
 use Rattle.model.proofs.Tags.{tag-formed}
 use Rattle.model.proofs.LineRead.{LineRead, line-alone, line-unnumbered, line-read, line-malformed, line-table-past, line-terms-past, line-within}
 use Rattle.model.proofs.read.read_line.Statement.{statement}

@@ -7,7 +7,7 @@ use Rattle.text.specs.Value.{numeralValue}
 use Rattle.model.specs.Fields.{term}
 use Rattle.model.specs.Marks.{markOf}
 use Rattle.model.specs.Value.{fieldValue}
-use Rattle.model.proofs.Parts.{to-end}
+use Rattle.text.proofs.Parts.{to-end}
 use Rattle.model.proofs.TermFields.{marked, value-within, value-outside, empty-read, unmarked-read, marked-read}
 use Rattle.model.proofs.read.read_term.Statement.{statement}
 use Rattle.model.proofs.read.read_term.Tie as tie

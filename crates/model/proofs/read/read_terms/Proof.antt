@@ -5,7 +5,7 @@ use Prim.Native.Nat.{suc, _-_}
 use native.Mathlib.Omega.{arith}
 use borrow.Author.Needs.{needs}
 use lib.ListN.{length, take, drop}
-use Rattle.model.proofs.Parts.{first-length}
+use Rattle.text.proofs.Parts.{first-length}
 use Rattle.model.proofs.TermsRead.{TermsRead, Next, read-none, next-field, next-room, next-malformed, next-outside, next-small, next-within, all-outside, all-within}
 use Rattle.model.proofs.read.read_terms.Statement.{statement}
 use Rattle.model.proofs.read.read_terms.Tie as tie

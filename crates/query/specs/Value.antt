@@ -1,0 +1,21 @@
+-- The code's values for the definitions of `Text`.
+use mathlib.Core.Path.{_≡_}
+use mathlib.Core.Bool.{false}
+use mathlib.Core.List.{[]}
+use Prim.Native.Nat.{_≤_}
+use Rattle.model.specs.Value.{queryValue}
+use Rattle.model.specs.declared.Parsed.{Parsed}
+use Rattle.model.specs.declared.Outcome.the-variants.{Accepted, Refused}
+use Rattle.query.specs.Text.{refused, accepted}
+use Rattle.query.specs.Text.{Reading as TheReading}
+use Rattle.query.specs.declared.Reading.{Reading}
+
+-- beside a refusal stands the query without a line
+unfoldable pub readingValue : TheReading → Reading
+unfolding queryValue
+readingValue (refused n k) = record { outcome = Refused n k; query = queryValue [] }
+readingValue (accepted Q) = record { outcome = Accepted; query = queryValue Q }
+
+-- a line within its limits names a table from 1 to 16
+abbrev pub Tabled : Parsed → Type 0
+Tabled p = (p .outside ≡ false) → (1 ≤ p .table) × (p .table ≤ 16)
