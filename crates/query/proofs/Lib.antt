@@ -3,3 +3,4 @@ pub mod Faults
 pub mod Walk
 pub mod Names
 pub mod Accepted
+pub mod Bridge
