@@ -1,0 +1,125 @@
+-- A view under the tables of a policy, by its table and its terms.
+use mathlib.Core.Path.{_≡_, sym, ap, _∙_}
+use mathlib.Core.Logic.{_↔_}
+use mathlib.Core.List.{List, [], map}
+use Prim.Native.Nat.{ℕ, _-_, _≤_, _<_}
+use native.Mathlib.Omega.{arith}
+use lib.Dec.{leb→le, le→leb, eqb→eq}
+use lib.ListN.{length, getD, take, length-map}
+use lib.Seq.{take-all}
+use mir.Facts.{yes-eqb}
+use Rattle.theory.specs.Query.{Line as TheLine}
+use Rattle.theory.proofs.Executable.Test.{and-iff, all-iff}
+use Rattle.model.specs.Limits.{mostTables, mostColumns, mostViews, upTo, termWithin, lineWithin, known, wide}
+use Rattle.model.specs.Value.{pad, unusedTerm, termValue, termsValue, unusedLine, lineValue, tablesValue}
+use Rattle.model.specs.declared.Line.{Line}
+use Rattle.model.specs.declared.Tables.{Tables}
+use Rattle.model.specs.declared.Term.{Term}
+use Rattle.policy.specs.Value.{GoodView}
+use Rattle.policy.proofs.Value.{up-to-iff}
+use Rattle.policy.specs.Value.{GoodWidth}
+use Rattle.validity.specs.Parts.{Holds, TablesOf, TermsHeld, ViewOf, ViewPlace, ViewsHeld}
+use Rattle.model.proofs.Pad.{pad-get}
+use Rattle.validity.proofs.Held.{Checked, checked-default, checked-held, held-checked, held-length, place-used}
+use Rattle.validity.proofs.Tables.{width-iff, tables-checked}
+use Rattle.validity.proofs.Clash.{clear-iff}
+
+-- eight terms or fewer are all kept
+kept : (l : List Term) → length l ≤ 8 → pad 8 unusedTerm (take 8 l) ≡ pad 8 unusedTerm l
+kept l h = ap (pad 8 unusedTerm) (take-all 8 l h)
+
+module _ (widths : List ℕ) (t : Tables) (tables : TablesOf widths t) where
+  pub tables-few : t .count ≤ 16
+  tables-few = tables-checked t (widths, tables) .counted .1
+
+  tables-count : t .count ≡ length widths
+  unfolding tablesValue
+  tables-count = ap (λ (s : Tables). s .count) (tables .is)
+
+  tables-width : (k : ℕ) → getD (t .columns) k 0 ≡ getD widths k 0
+  unfolding tablesValue
+  tables-width k = ap (λ (s : Tables). getD (s .columns) k 0) (tables .is) ∙ pad-get 16 0 widths k
+
+  pub width-within : (k : ℕ) → k < t .count → (1 ≤ getD (t .columns) k 0) × (getD (t .columns) k 0 ≤ 8)
+  width-within k h =
+      let c = tables-checked t (widths, tables) in
+      width-iff (getD (t .columns) k 0) .0
+      (place-used (Holds GoodWidth (λ w. w)) 0 k (t .count) h (c .places k (omega (arith, c .counted .1))))
+
+  module _ (l : Line) where
+    pub view-table : ViewOf widths l → (1 ≤ l .table) × (l .table ≤ t .count)
+    unfolding lineWithin known lineValue
+    view-table v =
+        let A = v .thing in
+        let same = ap (λ (x : Line). x .table) (v .is) in
+        let number = up-to-iff mostTables (A .table) .0 (and-iff (upTo mostTables (A .table)) _ .0 (v .good .within) .0) in
+        let last = leb→le (A .table) (length widths) (v .good .declared) in
+        (omega (arith, same, number .0), omega (arith, same, last, tables-count))
+
+    terms-view : 1 ≤ l .table → l .table ≤ t .count → TermsHeld (getD (t .columns) (l .table - 1) 0) (l .terms) → ViewOf widths l
+    unfolding lineWithin known wide lineValue termsValue mostTables mostColumns
+    terms-view some last d =
+        let A : TheLine = record { table = l .table; columns = d .held .things } in
+        let terms = d .held .is ∙ sym (kept (map termValue (A .columns)) (rw length-map (d .held .listed .few))) in
+        record {
+          thing = A;
+          good =
+              record {
+                within = and-iff (upTo 16 (l .table)) _ .1 (
+                  up-to-iff 16 (l .table) .1 (some, omega (arith, tables-few)),
+                  all-iff termWithin (A .columns) .1 (d .held .listed .each),
+                );
+                declared = le→leb (l .table) (length widths) (omega (arith, tables-count));
+                fitting = yes-eqb (sym (d .held .count) ∙ tables-width (l .table - 1));
+                clear = clear-iff A .1 (d .clear);
+              };
+          is = λ i. record { table = l .table; terms = terms i };
+        }
+
+    view-terms : ViewOf widths l → TermsHeld (getD (t .columns) (l .table - 1) 0) (l .terms)
+    unfolding lineWithin wide lineValue termsValue mostTables mostColumns
+    view-terms v =
+        let A = v .thing in
+        let at = view-table v in
+        let same : l .table ≡ A .table = ap (λ (x : Line). x .table) (v .is) in
+        let w = width-within (l .table - 1) (omega (arith, at .0, at .1)) in
+        let count : getD (t .columns) (l .table - 1) 0 ≡ length (A .columns) =
+        tables-width (l .table - 1) ∙ ap (λ (k : ℕ). getD widths (k - 1) 0) same ∙ sym (eqb→eq _ _ (v .good .fitting))
+        in
+        record {
+          held =
+              record {
+                things = A .columns;
+                listed =
+                    record {
+                      nonempty = omega (arith, w .0, count);
+                      few = omega (arith, w .1, count);
+                      each = all-iff termWithin (A .columns) .0 (and-iff (upTo 16 (A .table)) _ .0 (v .good .within) .1);
+                    };
+                count = count;
+                is = ap (λ (x : Line). x .terms) (v .is)
+                    ∙ kept (map termValue (A .columns)) (rw length-map (omega (arith, w .1, count)));
+              };
+          clear = clear-iff A .0 (v .good .clear);
+        }
+
+    pub terms-iff : 1 ≤ l .table → l .table ≤ t .count
+        → TermsHeld (getD (t .columns) (l .table - 1) 0) (l .terms) ↔ ViewOf widths l
+    terms-iff some last = (terms-view some last, view-terms)
+
+-- ---- the views, place by place
+
+-- what the code reads behind the views' end
+abbrev pub noLine : Line
+noLine = record { table = 0; terms = [] }
+
+module _ (widths : List ℕ) (n : ℕ) (l : List Line) where
+  pub views-checked : ViewsHeld widths n l → Checked 32 (ViewPlace widths) noLine n l
+  unfolding mostViews
+  views-checked h =
+      checked-default noLine (held-length (GoodView widths) lineValue unusedLine 32 n l h)
+      (held-checked (GoodView widths) lineValue unusedLine 32 n l h)
+
+  pub checked-views : length l ≡ 32 → Checked 32 (ViewPlace widths) noLine n l → ViewsHeld widths n l
+  unfolding mostViews
+  checked-views long c = checked-held (GoodView widths) lineValue unusedLine 32 n l long (checked-default unusedLine long c)

@@ -1,0 +1,51 @@
+use mathlib.Core.Logic.{Iff·trans}
+use Rattle.validity.proofs.Answers.{no-iff, passes, fails}
+use Rattle.validity.proofs.Views.{tables-few, views-checked}
+use Rattle.validity.proofs.Loadable.{loadable-parts, parts-loadable}
+use Rattle.validity.proofs.valid.Statement.{statement}
+use Rattle.validity.proofs.valid.Tie as tie
+
+valid-tables-requires : tie.Need-valid-tables-requires
+valid-tables-requires c κs = tt
+
+returns : tie.Need-returns
+returns c =
+    no-iff (λ l.
+    let h = loadable-parts (c .before .before .before .args .p) l in
+    fails (c .before .valid-tables .ensures) (c .if1 .taken) (h .widths, h .tables))
+
+valid-views-requires : tie.Need-valid-views-requires
+valid-views-requires c κs =
+    let t = passes (c .before .valid-tables .ensures) (c .if1 .left) in tables-few (t .0) _ (t .1)
+
+returns-2 : tie.Need-returns-2
+returns-2 c =
+    no-iff (λ l.
+    let h = loadable-parts (c .before .before .before .before .before .args .p) l in
+    fails (c .before .valid-views .ensures (h .widths) (h .tables)) (c .if2 .taken) (h .views))
+
+valid-partitions-requires : tie.Need-valid-partitions-requires
+valid-partitions-requires c κs =
+    let t = passes (c .before .before .before .before .valid-tables .ensures) (c .before .before .before .if1 .left) in
+    views-checked (t .0) _ _ (passes (c .before .before .valid-views .ensures (t .0) (t .1)) (c .before .if2 .left)) .counted .1
+
+returns-3 : tie.Need-returns-3
+returns-3 c =
+    let p = c .before .before .before .before .before .before .before .args .p in
+    let t = passes (c .before .before .before .before .before .valid-tables .ensures) (c .before .before .before .before .if1 .left) in
+    let v = passes (c .before .before .before .valid-views .ensures (t .0) (t .1)) (c .before .before .if2 .left) in
+    Iff·trans (c .valid-partitions .ensures) (
+      λ h. parts-loadable p (record { widths = t .0; tables = t .1; views = v; partitions = h }),
+      λ l. loadable-parts p l .partitions,
+    )
+
+pub valid-spec : {M : Type 1} → statement M
+valid-spec =
+    tie.close
+    (tie.spec
+    valid-tables-requires
+    returns
+    valid-views-requires
+    returns-2
+    valid-partitions-requires
+    returns-3)

@@ -1,0 +1,2 @@
+pub mod Loadable
+pub mod Parts

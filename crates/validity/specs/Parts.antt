@@ -1,0 +1,80 @@
+-- What the parts of a policy value hold where some text loads to it: values of what the text declares, and unused entries
+-- behind them.
+use mathlib.Core.Path.{_≡_}
+use mathlib.Core.Bool.{Bool, true, false}
+use mathlib.Core.List.{List, map}
+use Prim.Native.Nat.{ℕ}
+use lib.Dec.{T}
+use lib.ListN.{length}
+use Rattle.theory.specs.Query.{shown, hidden, _∈_}
+use Rattle.theory.specs.Query.{Term as TheTerm}
+use Rattle.model.specs.Limits.{mostTables, mostColumns, mostViews, mostPartitions, termWithin}
+use Rattle.model.specs.Value.{pad, unusedTerm, termValue, unusedLine, lineValue, tablesValue}
+use Rattle.model.specs.declared.Term.{Term}
+use Rattle.model.specs.declared.Line.{Line}
+use Rattle.model.specs.declared.Tables.{Tables}
+use Rattle.policy.specs.Value.{Listed, GoodWidth, GoodView, GoodPartition}
+use Rattle.policy.specs.Policy.{viewsAfter}
+
+-- ---- any part
+
+-- x is the value of something good
+pub record Holds {A X : Type 0} (Good : A → Type 0) (value : A → X) (x : X) : Type 0 where
+  pub thing : A
+  pub good : Good thing
+  pub is : x ≡ value thing
+
+-- a used place holds something, a place behind them the unused entry
+abbrev pub Place : {X : Type 0} → (X → Type 0) → X → Bool → X → Type 0
+Place Used unused true x = Used x
+Place Used unused false x = x ≡ unused
+
+-- the values of n good things, at least one, and unused entries behind them up to the most
+pub record Held {A X : Type 0} (most : ℕ) (Good : A → Type 0) (value : A → X) (unused : X) (n : ℕ) (l : List X) : Type 0 where
+  pub things : List A
+  pub listed : Listed most Good things
+  pub count : n ≡ length things
+  pub is : l ≡ pad most unused (map value things)
+
+-- ---- the tables
+
+abbrev pub WidthPlace : Bool → ℕ → Type 0
+WidthPlace = Place (Holds GoodWidth (λ w. w)) 0
+
+-- the value of the tables with those columns
+pub record TablesOf (widths : List ℕ) (t : Tables) : Type 0 where
+  pub listed : Listed mostTables GoodWidth widths
+  pub is : t ≡ tablesValue widths
+
+-- ---- the views
+
+abbrev pub GoodTerm : TheTerm → Type 0
+GoodTerm t = T (termWithin t)
+
+abbrev pub TermOf : Term → Type 0
+TermOf = Holds GoodTerm termValue
+
+abbrev pub TermPlace : Bool → Term → Type 0
+TermPlace = Place TermOf unusedTerm
+
+-- that many terms of a line within their limits, none of whose variables is both shown and hidden
+pub record TermsHeld (width : ℕ) (l : List Term) : Type 0 where
+  pub held : Held mostColumns GoodTerm termValue unusedTerm width l
+  pub clear : (n : ℕ) → shown n ∈ held .things → hidden n ∈ held .things → ⊥
+
+abbrev pub ViewOf : List ℕ → Line → Type 0
+ViewOf widths = Holds (GoodView widths) lineValue
+
+abbrev pub ViewPlace : List ℕ → Bool → Line → Type 0
+ViewPlace widths = Place (ViewOf widths) unusedLine
+
+abbrev pub ViewsHeld : List ℕ → ℕ → List Line → Type 0
+ViewsHeld widths = Held mostViews (GoodView widths) lineValue unusedLine
+
+-- ---- the partitions
+
+abbrev pub PartitionPlace : ℕ → Bool → ℕ → Type 0
+PartitionPlace views = Place (Holds (GoodPartition views) (viewsAfter 0)) 0
+
+abbrev pub PartitionsHeld : ℕ → ℕ → List ℕ → Type 0
+PartitionsHeld views = Held mostPartitions (GoodPartition views) (viewsAfter 0) 0
