@@ -30,20 +30,20 @@ use Rattle.model.proofs.TermFields.{field-says, variable-small}
 pub left : List ℕ → ℕ → List (List ℕ)
 left s i = cond (leb i (length s)) (fields (drop i s)) []
 
-left-first : (s : List ℕ) → left s 0 ≡ fields s
+pub left-first : (s : List ℕ) → left s 0 ≡ fields s
 unfolding left
 left-first s = rw (le-leb 0 (length s) zero-le)
 
-left-none : (s : List ℕ) (i : ℕ) → length s < i → left s i ≡ []
+pub left-none : (s : List ℕ) (i : ℕ) → length s < i → left s i ≡ []
 unfolding left
 left-none s i h = rw (lt-leb i (length s) h)
 
-left-some : (s : List ℕ) (i : ℕ) → i ≤ length s → left s i ≡ fields (drop i s)
+pub left-some : (s : List ℕ) (i : ℕ) → i ≤ length s → left s i ≡ fields (drop i s)
 unfolding left
 left-some s i h = rw (le-leb i (length s) h)
 
 -- the next field goes to the next space, or to the end
-left-next : (s : List ℕ) (i : ℕ) → i ≤ length s
+pub left-next : (s : List ℕ) (i : ℕ) → i ≤ length s
     → left s i ≡ take (before 32 (drop i s)) (drop i s) ∷ left s (i + before 32 (drop i s) + 1)
 left-next s i h = left-some s i h ∙ go (decLt n (length l))
   where
@@ -73,7 +73,7 @@ pub record TermsRead (s : List ℕ) (p : Parsed) (past : Bool) (i : ℕ) : Type 
   pub limits : past ≡ not (all termWithin terms)
   pub value : past ≡ false → p ≡ goodValue 0 terms
 
-append-none : (o : Option (List Term)) → o ≡ mapped (λ l. [] ++ l) o
+pub append-none : {X : Type 0} (o : Option (List X)) → o ≡ mapped (λ l. [] ++ l) o
 unfolding mapped
 append-none none = refl
 append-none (some l) = refl
@@ -92,20 +92,20 @@ read-none s p e =
 
 -- ---- the next field
 
-none-next : (ts : List Term) (f : Option Term) (o : Option (List Term)) → f ≡ none → mapped (λ l. ts ++ l) (both _∷_ f o) ≡ none
+pub none-next : {X : Type 0} (ts : List X) (f : Option X) (o : Option (List X)) → f ≡ none → mapped (λ l. ts ++ l) (both _∷_ f o) ≡ none
 unfolding mapped both
 none-next ts f o e = rw e
 
-some-next : (ts : List Term) (u : Term) (f : Option Term) (o : Option (List Term)) → f ≡ some u
+pub some-next : {X : Type 0} (ts : List X) (u : X) (f : Option X) (o : Option (List X)) → f ≡ some u
     → mapped (λ l. ts ++ l) (both _∷_ f o) ≡ mapped (λ l. ts ++ u ∷ [] ++ l) o
 unfolding mapped both
 some-next ts u f none e = rw e
 some-next ts u f (some l) e = rw (e, append-assoc ts (u ∷ []) l)
 
-all-more : (ts : List Term) (u : Term) → all termWithin (ts ++ u ∷ []) ≡ (all termWithin ts && termWithin u)
+pub all-more : {X : Type 0} (p : X → Bool) (ts : List X) (u : X) → all p (ts ++ u ∷ []) ≡ (all p ts && p u)
 unfolding all
-all-more [] u = and-true (termWithin u)
-all-more (t ∷ ts) u = rw (all-more ts u) (sym (and-assoc (termWithin t) (all termWithin ts) (termWithin u)))
+all-more p [] u = and-true (p u)
+all-more p (t ∷ ts) u = rw (all-more p ts u) (sym (and-assoc (p t) (all p ts) (p u)))
 
 -- the fields before place i are passed, and f is the next one, of n bytes
 pub record Next (s : List ℕ) (p : Parsed) (past : Bool) (i n : ℕ) (f : List ℕ) : Type 0 where

@@ -1,9 +1,11 @@
 -- A value stands for the term, the line and the query of the theory that it holds.
 use mathlib.Core.Path.{_≡_, refl, sym, ap, ap₂, _∙_}
 use mathlib.Core.List.{List, [], _∷_, _++_, map, List·Memᴰ·head, List·Memᴰ·tail}
-use Prim.Native.Nat.{ℕ, zero, suc, _-_, _≤_}
-use lib.ListN.{length, take, replicate, length-map}
-use Rattle.theory.specs.Query.{Term, constant, shown, hidden, Line, Query, _∈_}
+use Prim.Native.Nat.{ℕ, zero, suc, _-_, _≤_, _<_}
+use native.Mathlib.Omega.{arith}
+use lib.ListN.{length, take, getD, replicate, length-map}
+use Rattle.theory.specs.Query.{Term, constant, shown, hidden, Line, Query, _∈_, Fits}
+use Rattle.theory.proofs.Tuples.{getD-mem}
 use Rattle.model.specs.Value.{pad, unusedTerm, unusedLine, termValue, lineValue, queryValue}
 use Rattle.model.specs.Abstract.{asTerm, asTerms, asLine, asQuery}
 use Rattle.model.proofs.Pad.{pad-take}
@@ -44,3 +46,9 @@ as-query Q h =
     ap (map asLine)
     (ap (λ (n : ℕ). take n (pad 8 unusedLine (map lineValue Q))) (sym (length-map Q lineValue)) ∙ pad-take 8 unusedLine (map lineValue Q))
     ∙ as-lines Q h
+
+-- a line that fits tables of at most eight columns has at most eight terms
+pub few-terms : (widths : List ℕ) → ((w : ℕ) → w ∈ widths → w ≤ 8) → (A : Line) → Fits widths A → length (A .columns) ≤ 8
+few-terms widths narrow A f =
+    let i : A .table - 1 < length widths = omega (arith, f .first, f .last) in
+    omega (arith, f .width, narrow (getD widths (A .table - 1) 0) (getD-mem widths (A .table - 1) 0 i))

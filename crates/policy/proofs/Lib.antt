@@ -14,3 +14,7 @@ pub mod Walk
 -- The theorems, and document 01's example.
 pub mod Loads
 pub mod Example
+-- The value stands for what the text declares.
+pub mod Ascend
+pub mod PartitionWords
+pub mod Bridge

@@ -3,3 +3,4 @@ pub mod Value
 pub mod Print
 pub mod Example
 pub mod Policy
+pub mod Abstract

@@ -1,0 +1,116 @@
+-- The first unused entry of a policy value taken: the value of what is declared with one table, view or partition more.
+use mathlib.Core.Path.{_≡_, sym, ap, _∙_, subst}
+use mathlib.Core.List.{List, [], _∷_, _++_, map, map-append}
+use Prim.Native.Nat.{ℕ, _+_, _<_}
+use lib.ListN.{length, set, length-append, length-map}
+use Rattle.theory.specs.Query.{Line}
+use Rattle.model.specs.Value.{pad, tablesValue, unusedLine, lineValue, goodValue}
+use Rattle.model.specs.declared.Policy.{Policy}
+use Rattle.model.specs.declared.Parsed.{Parsed}
+use Rattle.model.specs.declared.Line.{Line as LineValue}
+use Rattle.model.proofs.Pad.{pad-more}
+use Rattle.policy.specs.Text.{Declared}
+use Rattle.policy.specs.Policy.{policyValue, viewsAfter}
+use Rattle.entries.specs.Value.{listed}
+use Rattle.load.specs.Value.{moreTables, moreViews, morePartitions}
+
+-- an entry more behind entries that are made of a list
+entry-more : {X Y : Type 0} (n : ℕ) (none : Y) (f : X → Y) (l : List X) (x : X) → length l < n
+    → set (pad n none (map f l)) (length l) (f x) ≡ pad n none (map f (l ++ x ∷ []))
+entry-more n none f l x h =
+    ap (λ (k : ℕ). set (pad n none (map f l)) k (f x)) (sym (length-map l f))
+    ∙ pad-more n none (map f l) (f x) (subst (λ (k : ℕ). k < n) (sym (length-map l f)) h)
+    ∙ ap (pad n none) (sym (map-append f l (x ∷ [])))
+
+module _ (d : Declared) (p : Policy) (e : p ≡ policyValue d) where
+  pub tables-of : p .tables ≡ tablesValue (d .widths)
+  unfolding policyValue
+  tables-of = ap (λ (q : Policy). q .tables) e
+
+  pub view-count-of : p .«view_count» ≡ length (d .views)
+  unfolding policyValue
+  view-count-of = ap (λ (q : Policy). q .«view_count») e
+
+  pub partition-count-of : p .«partition_count» ≡ length (d .partitions)
+  unfolding policyValue
+  partition-count-of = ap (λ (q : Policy). q .«partition_count») e
+
+  pub table-more : (w : ℕ) → p .tables .count < 16
+      → _≡_ {A = Policy}
+      (record {
+        tables = record { count = p .tables .count + 1; columns = set (p .tables .columns) (p .tables .count) w };
+        «view_count» = p .«view_count»;
+        views = p .views;
+        «partition_count» = p .«partition_count»;
+        partitions = p .partitions;
+      })
+      (policyValue (moreTables d w))
+  unfolding policyValue tablesValue moreTables
+  table-more w h =
+      let count : p .tables .count + 1 ≡ length (d .widths ++ w ∷ []) =
+      ap (λ (q : Policy). q .tables .count + 1) e ∙ sym (length-append (d .widths) (w ∷ [])) in
+      let columns : set (p .tables .columns) (p .tables .count) w ≡ pad 16 0 (d .widths ++ w ∷ []) =
+      ap (λ (q : Policy). set (q .tables .columns) (q .tables .count) w) e
+      ∙ pad-more 16 0 (d .widths) w (subst (λ (q : Policy). q .tables .count < 16) e h) in
+      λ i. record {
+        tables = record { count = count i; columns = columns i };
+        «view_count» = e i .«view_count»;
+        views = e i .views;
+        «partition_count» = e i .«partition_count»;
+        partitions = e i .partitions;
+      }
+
+  pub view-more : (A : Line) (v : Parsed) → v ≡ goodValue (A .table) (A .columns) → p .«view_count» < 32
+      → _≡_ {A = Policy}
+      (record {
+        tables = p .tables;
+        «view_count» = p .«view_count» + 1;
+        views = set (p .views) (p .«view_count») (record { table = v .table; terms = v .terms });
+        «partition_count» = p .«partition_count»;
+        partitions = p .partitions;
+      })
+      (policyValue (moreViews d A))
+  unfolding policyValue moreViews goodValue lineValue
+  view-more A v g h =
+      let count : p .«view_count» + 1 ≡ length (d .views ++ A ∷ []) =
+      ap (λ (q : Policy). q .«view_count» + 1) e ∙ sym (length-append (d .views) (A ∷ [])) in
+      let line : _≡_ {A = LineValue} (record { table = v .table; terms = v .terms }) (lineValue A) =
+      λ i. record { table = g i .table; terms = g i .terms } in
+      let views : set (p .views) (p .«view_count») (record { table = v .table; terms = v .terms })
+      ≡ pad 32 unusedLine (map lineValue (d .views ++ A ∷ [])) =
+      ap (λ (q : Policy). set (q .views) (q .«view_count») (record { table = v .table; terms = v .terms })) e
+      ∙ ap (set (pad 32 unusedLine (map lineValue (d .views))) (length (d .views))) line
+      ∙ entry-more 32 unusedLine lineValue (d .views) A (subst (λ (q : Policy). q .«view_count» < 32) e h) in
+      λ i. record {
+        tables = e i .tables;
+        «view_count» = count i;
+        views = views i;
+        «partition_count» = e i .«partition_count»;
+        partitions = e i .partitions;
+      }
+
+  pub partition-more : (vs : List ℕ) (m : ℕ) → m ≡ listed vs .views → p .«partition_count» < 32
+      → _≡_ {A = Policy}
+      (record {
+        tables = p .tables;
+        «view_count» = p .«view_count»;
+        views = p .views;
+        «partition_count» = p .«partition_count» + 1;
+        partitions = set (p .partitions) (p .«partition_count») m;
+      })
+      (policyValue (morePartitions d vs))
+  unfolding policyValue morePartitions listed
+  partition-more vs m g h =
+      let count : p .«partition_count» + 1 ≡ length (d .partitions ++ vs ∷ []) =
+      ap (λ (q : Policy). q .«partition_count» + 1) e ∙ sym (length-append (d .partitions) (vs ∷ [])) in
+      let partitions : set (p .partitions) (p .«partition_count») m ≡ pad 32 0 (map (viewsAfter 0) (d .partitions ++ vs ∷ [])) =
+      ap (λ (q : Policy). set (q .partitions) (q .«partition_count») m) e
+      ∙ ap (set (pad 32 0 (map (viewsAfter 0) (d .partitions))) (length (d .partitions))) g
+      ∙ entry-more 32 0 (viewsAfter 0) (d .partitions) vs (subst (λ (q : Policy). q .«partition_count» < 32) e h) in
+      λ i. record {
+        tables = e i .tables;
+        «view_count» = e i .«view_count»;
+        views = e i .views;
+        «partition_count» = count i;
+        partitions = partitions i;
+      }

@@ -1,0 +1,182 @@
+// What a line of values declares, behind what is declared so far.
+
+ghost use mathlib.Core.Path.{_≡_};
+ghost use mathlib.Core.Bool.{false};
+ghost use mathlib.Core.List.{List, _∷_, [], _++_};
+ghost use mathlib.Core.Option.{Option, some};
+ghost use Prim.Native.Nat.{ℕ, _<_, _^_};
+ghost use lib.ListN.{length};
+ghost use Rattle.theory.specs.Query.{Line as TheLine};
+ghost use Rattle.model.specs.Fields.{Numbered};
+ghost use Rattle.model.specs.Value.{tablesValue, goodValue};
+ghost use Rattle.policy.specs.Text.{Declared, enter, tables as tableBlock, views as viewBlock, partitions as partitionBlock, tableFault, viewFault, partitionFault};
+ghost use Rattle.policy.specs.Policy.{policyValue};
+ghost use Rattle.entries.specs.Value.{tableValue, viewValue, partitionValue, listed as listedValue};
+ghost use Rattle.load.specs.Value.{enteredValue, lineFault, Tabled, Numbering, moreTables, moreViews, morePartitions};
+use entries::PartitionLine;
+use entries::TableLine;
+use entries::ViewLine;
+use entries::read_partition;
+use entries::read_table;
+use entries::read_view;
+use model::Line;
+use model::Parsed;
+use model::Policy;
+use model::Tables;
+
+// The number that turns the line back, or 0; and what is declared with the line, or without it where it is turned back.
+pub struct Entered {
+    pub fault: u64,
+    pub policy: Policy,
+}
+
+fn table_fault(tables: Tables, t: TableLine) -> u64
+    requires { ⌜ Numbering 16 (t .ok) (t .outside) (t .number) ⌝ }
+    ensures { λ r. ⌜ ((d : Declared) (o : Option (Numbered ℕ)) → tables ≡ tablesValue (d .widths) → t ≡ tableValue o → r ≡ lineFault o (tableFault d)) ⌝ }
+    ensures { λ r. ⌜ (r ≡ 0 → tables .count < 16) ⌝ }
+{
+    if !t.ok {
+        return 1;
+    }
+    if t.outside {
+        return 2;
+    }
+    if t.number as usize - 1 != tables.count {
+        return 3;
+    }
+    0
+}
+
+fn with_table(p: Policy, columns: u64) -> Policy
+    requires { ⌜ p .tables .count < 16 ⌝ }
+    ensures { λ r. ⌜ ((d : Declared) → p ≡ policyValue d → r ≡ policyValue (moreTables d columns)) ⌝ }
+{
+    let mut r = p;
+    let mut t = p.tables;
+    let at = t.count;
+    t.columns[at] = columns;
+    t.count = at + 1;
+    r.tables = t;
+    r
+}
+
+pub fn enter_table(p: Policy, line: &[u8]) -> Entered
+    ensures { λ r. ⌜ ((d : Declared) → p ≡ policyValue d → r ≡ enteredValue d (enter tableBlock d (now (line .entry)))) ⌝ }
+{
+    let t = read_table(line);
+    let tables = p.tables;
+    let fault = table_fault(tables, t);
+    if fault != 0 {
+        return Entered { fault, policy: p };
+    }
+    let r = with_table(p, t.columns);
+    Entered {
+        fault: 0,
+        policy: r,
+    }
+}
+
+// The checks of a view's line against the tables and the number of views so far.
+fn view_fault(tables: Tables, views: usize, e: ViewLine) -> u64
+    requires { ⌜ Numbering 32 (e .ok) (e .outside) (e .number) × Tabled (e .ok) (e .outside) (e .view) ⌝ }
+    ensures { λ r. ⌜ ((d : Declared) (o : Option (Numbered TheLine)) → tables ≡ tablesValue (d .widths) → views ≡ length (d .views) → e ≡ viewValue o → r ≡ lineFault o (viewFault d)) ⌝ }
+    ensures { λ r. ⌜ (r ≡ 0 → views < 32) ⌝ }
+{
+    if !e.ok {
+        return 1;
+    }
+    if e.outside {
+        return 2;
+    }
+    if e.number as usize - 1 != views {
+        return 3;
+    }
+    let v = e.view;
+    model::check_line(tables, 0, 0, v)
+}
+
+fn with_view(p: Policy, v: Parsed) -> Policy
+    requires { ⌜ p .«view_count» < 32 ⌝ }
+    ensures { λ r. ⌜ ((d : Declared) (A : TheLine) → p ≡ policyValue d → v ≡ goodValue (A .table) (A .columns) → r ≡ policyValue (moreViews d A)) ⌝ }
+{
+    let mut r = p;
+    let terms = v.terms;
+    let at = p.view_count;
+    r.views[at] = Line {
+        table: v.table,
+        terms,
+    };
+    r.view_count = at + 1;
+    r
+}
+
+pub fn enter_view(p: Policy, line: &[u8]) -> Entered
+    requires { ⌜ length (now line) < 2 ^ 32 ⌝ }
+    ensures { λ r. ⌜ ((d : Declared) → p ≡ policyValue d → r ≡ enteredValue d (enter viewBlock d (now (line .entry)))) ⌝ }
+{
+    let e = read_view(line);
+    let tables = p.tables;
+    let fault = view_fault(tables, p.view_count, e);
+    if fault != 0 {
+        return Entered { fault, policy: p };
+    }
+    let v = e.view;
+    let r = with_view(p, v);
+    Entered {
+        fault: 0,
+        policy: r,
+    }
+}
+
+// The checks of a partition's line against the numbers of views and of partitions so far.
+fn partition_fault(views: usize, partitions: usize, e: PartitionLine) -> u64
+    requires { ⌜ Numbering 32 (e .ok) (e .outside) (e .number) ⌝ }
+    ensures { λ r. ⌜ ((d : Declared) (o : Option (Numbered (List ℕ))) → views ≡ length (d .views) → partitions ≡ length (d .partitions) → e ≡ partitionValue o → r ≡ lineFault o (partitionFault d)) ⌝ }
+    ensures { λ r. ⌜ (r ≡ 0 → partitions < 32) ⌝ }
+{
+    if !e.ok {
+        return 1;
+    }
+    if e.outside {
+        return 2;
+    }
+    if e.number as usize - 1 != partitions {
+        return 3;
+    }
+    let l = e.listed;
+    if !l.ascending {
+        return 3;
+    }
+    if views < l.last as usize {
+        return 4;
+    }
+    0
+}
+
+fn with_partition(p: Policy, views: u64) -> Policy
+    requires { ⌜ p .«partition_count» < 32 ⌝ }
+    ensures { λ r. ⌜ ((d : Declared) (vs : List ℕ) → p ≡ policyValue d → views ≡ listedValue vs .views → r ≡ policyValue (morePartitions d vs)) ⌝ }
+{
+    let mut r = p;
+    let at = p.partition_count;
+    r.partitions[at] = views;
+    r.partition_count = at + 1;
+    r
+}
+
+pub fn enter_partition(p: Policy, line: &[u8]) -> Entered
+    requires { ⌜ length (now line) < 2 ^ 32 ⌝ }
+    ensures { λ r. ⌜ ((d : Declared) → p ≡ policyValue d → r ≡ enteredValue d (enter partitionBlock d (now (line .entry)))) ⌝ }
+{
+    let e = read_partition(line);
+    let fault = partition_fault(p.view_count, p.partition_count, e);
+    if fault != 0 {
+        return Entered { fault, policy: p };
+    }
+    let l = e.listed;
+    let r = with_partition(p, l.views);
+    Entered {
+        fault: 0,
+        policy: r,
+    }
+}

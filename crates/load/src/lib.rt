@@ -1,0 +1,191 @@
+// Loading a policy text.
+
+mod enter;
+
+ghost use mathlib.Core.Path.{_≡_};
+ghost use mathlib.Core.Bool.{Bool, false, _&&_};
+ghost use mathlib.Core.List.{List};
+ghost use Prim.Native.Nat.{ℕ, _≤_, _<_, _^_};
+ghost use lib.ListN.{length};
+ghost use Rattle.text.specs.Lines.{lines};
+ghost use Rattle.policy.specs.Text.{Declared, Block, tables as tableBlock, nothing, refused as refusedLoading, isNext, enter as enterBlock, loadFrom, load as loadText};
+ghost use Rattle.policy.specs.Policy.{policyValue};
+ghost use Rattle.load.specs.Value.{loadingValue, enteredValue, blockNumber, progressValue, steppedValue};
+use enter::Entered;
+use model::Line;
+use model::Outcome;
+use model::Policy;
+use model::Tables;
+use model::Term;
+
+// The most bytes of a policy text.
+const MOST_BYTES: usize = 16384;
+
+// The blocks of a policy text.
+const TABLES: u8 = 0;
+
+const VIEWS: u8 = 1;
+
+const PARTITIONS: u8 = 2;
+
+// How loading ends, and the policy: that of the text, or the empty one.
+pub struct Loading {
+    pub outcome: Outcome,
+    pub policy: Policy,
+}
+
+// The block that is read, whether it has a line of values, and what is declared so far.
+struct Progress {
+    block: u8,
+    started: bool,
+    policy: Policy,
+}
+
+// No table, view or partition, every entry unused.
+pub fn empty_policy() -> Policy
+    ensures { λ r. ⌜ r ≡ policyValue nothing ⌝ }
+{
+    let unused = Line {
+        table: 0,
+        terms: [Term { mark: 0, number: 0 }; 8],
+    };
+    Policy {
+        tables: Tables {
+            count: 0,
+            columns: [0; 16],
+        },
+        view_count: 0,
+        views: [unused; 32],
+        partition_count: 0,
+        partitions: [0; 32],
+    }
+}
+
+fn refused(number: u64, line: u64) -> Loading
+    ensures { λ r. ⌜ r ≡ loadingValue (refusedLoading number line) ⌝ }
+{
+    Loading {
+        outcome: Outcome::Refused { number, line },
+        policy: empty_policy(),
+    }
+}
+
+// Whether the line is the names line of the block behind this one, and this one has a line of values.
+fn is_next(started: bool, block: u8, line: &[u8]) -> bool
+    ensures { λ r. ⌜ ((b : Block) → block ≡ blockNumber b → r ≡ (started && isNext b (now (line .entry)))) ⌝ }
+{
+    if !started {
+        return false;
+    }
+    if block == TABLES {
+        return text::same(line, b"view table terms");
+    }
+    if block == VIEWS {
+        return text::same(line, b"partition views");
+    }
+    false
+}
+
+// What a line of values of a block declares.
+fn enter_line(block: u8, p: Policy, line: &[u8]) -> Entered
+    requires { ⌜ length (now line) < 2 ^ 32 ⌝ }
+    ensures { λ r. ⌜ ((b : Block) (d : Declared) → block ≡ blockNumber b → p ≡ policyValue d → r ≡ enteredValue d (enterBlock b d (now (line .entry)))) ⌝ }
+{
+    if block == TABLES {
+        return enter::enter_table(p, line);
+    }
+    if block == VIEWS {
+        return enter::enter_view(p, line);
+    }
+    enter::enter_partition(p, line)
+}
+
+// What a line turns the text back with, or 0, and how it goes on.
+struct Stepped {
+    fault: u64,
+    progress: Progress,
+}
+
+fn step(g: Progress, line: &[u8]) -> Stepped
+    requires { ⌜ (g .block ≤ 2) × (length (now line) < 2 ^ 32) ⌝ }
+    ensures { λ r. ⌜ ((b : Block) (started : Bool) (d : Declared) → g ≡ progressValue b started d → r ≡ steppedValue b started d (now (line .entry))) ⌝ }
+{
+    let policy = g.policy;
+    if is_next(g.started, g.block, line) {
+        return Stepped {
+            fault: 0,
+            progress: Progress {
+                block: g.block + 1,
+                started: false,
+                policy,
+            },
+        };
+    }
+    let e = enter_line(g.block, policy, line);
+    let entered = e.policy;
+    Stepped {
+        fault: e.fault,
+        progress: Progress {
+            block: g.block,
+            started: true,
+            policy: entered,
+        },
+    }
+}
+
+// The blocks, all of the text behind its first names line.
+fn load_lines(text: &[u8]) -> Loading
+    requires { ⌜ length (now text) ≤ 16384 ⌝ }
+    ensures { λ r. ⌜ r ≡ loadingValue (loadFrom tableBlock false nothing 2 (lines (now (text .entry)) .ended) (lines (now (text .entry)) .rest)) ⌝ }
+{
+    let mut g = Progress {
+        block: TABLES,
+        started: false,
+        policy: empty_policy(),
+    };
+    let mut line = 2;
+    let mut at = 0;
+    while at < text.len() {
+        let rest = &text[at..];
+        let n = text::first(rest, b'\n');
+        if n == rest.len() {
+            return refused(1, line);
+        }
+        let r = step(g, &rest[..n]);
+        if r.fault != 0 {
+            return refused(r.fault, line);
+        }
+        g = r.progress;
+        line += 1;
+        at = at + n + 1;
+    }
+    if g.block != PARTITIONS {
+        return refused(1, line);
+    }
+    if !g.started {
+        return refused(1, line);
+    }
+    let policy = g.policy;
+    Loading {
+        outcome: Outcome::Accepted,
+        policy,
+    }
+}
+
+// The policy of a text, or the number that turns it back and the line.
+pub fn load(text: &[u8]) -> Loading
+    ensures { λ r. ⌜ r ≡ loadingValue (loadText (now (text .entry))) ⌝ }
+{
+    if MOST_BYTES < text.len() {
+        return refused(7, 0);
+    }
+    let n = text::first(text, b'\n');
+    if n == text.len() {
+        return refused(1, 1);
+    }
+    if !text::same(&text[..n], b"table columns") {
+        return refused(1, 1);
+    }
+    let from = n + 1;
+    load_lines(&text[from..])
+}
