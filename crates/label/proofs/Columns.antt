@@ -1,0 +1,91 @@
+-- The columns of a view and a line, looked at pair by pair.
+use mathlib.Core.Path.{_≡_, sym, ap, _∙_, subst}
+use mathlib.Core.Bool.{Bool, true, false}
+use mathlib.Core.List.{map}
+use Prim.Native.Nat.{ℕ, _+_, _≤_, _<_}
+use native.Mathlib.Omega.{arith}
+use borrow.Author.Count.{below-none, below-more}
+use borrow.Author.Tests.{eq-eqb}
+use lib.Dec.{T}
+use lib.ListN.{length, getD}
+use Rattle.theory.specs.Query.{constant}
+use Rattle.theory.specs.Query.{Line as TheLine}
+use Rattle.theory.specs.Cover.{at}
+use Rattle.theory.specs.Executable.Test.{allBelow}
+use Rattle.theory.specs.Executable.Cover.{obeys, covers}
+use Rattle.theory.proofs.Executable.Test.{allBelow-iff}
+use Rattle.theory.proofs.Tuples.{getD-map}
+use Rattle.model.specs.Value.{unusedTerm, termValue, lineValue}
+use Rattle.model.specs.declared.Line.{Line}
+use Rattle.model.proofs.Pad.{pad-get}
+use Rattle.model.proofs.Terms.{terms-few}
+use Rattle.label.proofs.Answers.{true-holds, holds-true, fails-false}
+
+-- a value holds a line of n columns
+pub record Wide (n : ℕ) (v : Line) (view : TheLine) : Type 0 where
+  pub is : v ≡ lineValue view
+  pub width : length (view .columns) ≡ n
+
+pub wide : {n : ℕ} {v : Line} {view : TheLine} → v ≡ lineValue view → length (view .columns) ≡ n → Wide n v view
+wide e w = record { is = e; width = w }
+
+pub column : {width : ℕ} {v : Line} {view : TheLine} → width ≤ 8 → Wide width v view → (p : ℕ) → p < width
+    → getD (v .terms) p unusedTerm ≡ termValue (at view p)
+unfolding lineValue
+column {width} {v} {view} few w p h =
+    let columns = view .columns in
+    ap (λ (x : Line). getD (x .terms) p unusedTerm) (w .is)
+    ∙ ap (λ l. getD l p unusedTerm) (terms-few columns (omega (arith, w .width)))
+    ∙ pad-get 8 unusedTerm (map termValue columns) p
+    ∙ getD-map termValue columns p (constant 0) unusedTerm (omega (arith, w .width))
+
+abbrev pub rule : TheLine → TheLine → ℕ → ℕ → Bool
+rule view line p q = obeys (at view p) (at view q) (at line p) (at line q)
+
+-- the rules hold at columns p and q of whatever lines the values hold
+abbrev pub Obeyed : ℕ → Line → Line → ℕ → ℕ → Type 0
+Obeyed width v a p q =
+    (view line : TheLine) → Wide width v view → Wide width a line → rule view line p q ≡ true
+
+-- the rules hold at columns before p with every column, and at p with the columns before q
+pub record Passed (width : ℕ) (v a : Line) (p q : ℕ) : Type 0 where
+  pub rows : (i : ℕ) → i < p → (j : ℕ) → j < width → Obeyed width v a i j
+  pub row : (j : ℕ) → j < q → Obeyed width v a p j
+
+module _ {width : ℕ} {v a : Line} where
+  pub passed-none : Passed width v a 0 0
+  passed-none = record { rows = below-none _; row = below-none _ }
+
+  pub passed-one : {p q : ℕ} → Passed width v a p q → Obeyed width v a p q → Passed width v a p (q + 1)
+  passed-one {p} {q} r o = record { rows = r .rows; row = below-more _ q (r .row) o }
+
+  pub passed-row : {p q : ℕ} → Passed width v a p q → width ≤ q → Passed width v a (p + 1) 0
+  passed-row {p} {q} r h =
+      record { rows = below-more _ p (r .rows) (λ j l. r .row j (omega arith)); row = below-none _ }
+
+module _ {width : ℕ} {v a : Line} (view line : TheLine) (sv : Wide width v view) (sa : Wide width a line) where
+  rows : Bool
+  rows = allBelow width (λ p. allBelow width (rule view line p))
+
+  covers-rows : view .table ≡ line .table → rows ≡ covers view line
+  unfolding rows covers
+  covers-rows t =
+      let wide : length (view .columns) ≡ length (line .columns) = sv .width ∙ sym (sa .width) in
+      rw (eq-eqb (view .table) (line .table) t, eq-eqb (length (view .columns)) (length (line .columns)) wide, sv .width)
+
+  pub passed-done : {p q : ℕ} → Passed width v a p q → width ≤ p → view .table ≡ line .table → true ≡ covers view line
+  unfolding rows
+  passed-done r h t =
+      holds-true rows
+      (allBelow-iff _ width .1
+      (λ i k. allBelow-iff (rule view line i) width .1 (λ j l. true-holds (r .rows i (omega arith) j l view line sv sa))))
+      ∙ covers-rows t
+
+  pub broken : (p q : ℕ) → p < width → q < width → rule view line p q ≡ false → view .table ≡ line .table
+      → false ≡ covers view line
+  unfolding rows
+  broken p q hp hq e t =
+      fails-false rows
+      (λ h.
+      subst T e (allBelow-iff (rule view line p) width .0 (allBelow-iff (λ i. allBelow width (rule view line i)) width .0 h p hp) q hq))
+      ∙ covers-rows t

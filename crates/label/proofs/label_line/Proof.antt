@@ -1,0 +1,90 @@
+use mathlib.Core.Path.{_∙_}
+use mathlib.Core.List.{List}
+use Prim.Native.Nat.{_^_, _<_}
+use native.Mathlib.Omega.{arith}
+use Rattle.theory.specs.Query.{Line as TheLine}
+use Rattle.label.specs.Labelled.{Labelled}
+use Rattle.label.proofs.Words.{bit-within, set-where-below}
+use Rattle.label.proofs.Walk.{Walked, walked-none, walked-more}
+use Rattle.label.proofs.Views.{Covering, answered, labelled}
+use Rattle.label.proofs.label_line.Statement.{statement}
+use Rattle.label.proofs.label_line.Tie as tie
+
+abbrev Inv-loop : tie.InvT-loop
+Inv-loop mask width a p word₀ left₀ word left =
+    (left < 2 ^ 32)
+    × (word < 2 ^ 32)
+    × ((views : List TheLine) (A : TheLine) → Labelled p mask width a views A → Walked (Covering views A) mask left word)
+
+abbrev μ-loop : tie.MeasureT-loop
+μ-loop mask width a p word₀ left₀ word left = left
+
+loop-holds : tie.Need-loop-holds Inv-loop μ-loop
+loop-holds c = (c .pre .0, omega arith, λ views A l. walked-none (Covering views A) _)
+
+least-requires : tie.Need-least-requires Inv-loop μ-loop
+least-requires c κs = omega arith
+
+-- a bit of the mask is the place of a view
+small : (c : tie.After-least Inv-loop μ-loop) → c .least .result < 32
+small c = bit-within 32 _ (c .before .before .loop .inv .0) (c .least .ensures .set)
+
+mul-v : tie.Need-mul-v Inv-loop μ-loop
+mul-v c = omega (arith, small c)
+
+element-copy-out-v : tie.Need-element-copy-out-v Inv-loop μ-loop
+element-copy-out-v c = omega (arith, small c)
+
+covers-requires : tie.Need-covers-requires Inv-loop μ-loop
+covers-requires c κs = c .before .before .before .before .pre .1
+
+with-view-requires : tie.Need-with-view-requires Inv-loop μ-loop
+with-view-requires c κs = omega (arith, small (c .before .before))
+
+drop-least-requires : tie.Need-drop-least-requires Inv-loop μ-loop
+drop-least-requires c κs = omega arith
+
+loop-less : tie.Need-loop-less Inv-loop μ-loop
+loop-less c = c .drop-least .ensures .less
+
+loop-again : tie.Need-loop-again Inv-loop μ-loop
+loop-again c =
+    let at = c .before .before .before .before .before .before .loop in
+    let found = c .before .before .before .before in
+    let answer = c .before .before .covers in (
+      omega (arith, c .drop-least .ensures .less),
+      rw (c .before .with-view .ensures) (set-where-below 32 (at .word) _ (answer .result) (at .inv .1) (small found)),
+      λ views A l.
+          let w = at .inv .2 views A l in
+          let k = found .least in
+          rw (c .before .with-view .ensures)
+          (walked-more (Covering views A) _ (at .left) (at .word) (k .result) _ w (k .ensures) (c .drop-least .ensures)
+          (answer .result)
+          (answered l (k .result) (answer .result) (w .inside (k .result) (k .ensures .set)) (answer .ensures))),
+    )
+
+join-requires : tie.Need-join-requires Inv-loop μ-loop
+join-requires c κs = (c .before .before .pre .2, omega (arith, c .before .loop .inv .1))
+
+returns : tie.Need-returns Inv-loop μ-loop
+returns c views A l =
+    let inv = c .before .before .loop .inv in
+    c .join .ensures ∙ labelled l _ _ (c .before .loop-test .left) (inv .1) (inv .2 views A l)
+
+pub label-line-spec : {M : Type 1} → statement M
+label-line-spec =
+    tie.close
+    (tie.spec
+    Inv-loop
+    μ-loop
+    loop-holds
+    least-requires
+    mul-v
+    element-copy-out-v
+    covers-requires
+    with-view-requires
+    drop-least-requires
+    loop-less
+    loop-again
+    join-requires
+    returns)

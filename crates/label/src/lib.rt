@@ -1,0 +1,133 @@
+// Which views cover a line, the line's label, and the order of labels.
+
+ghost use mathlib.Core.Path.{_≡_};
+ghost use mathlib.Core.Bool.{cond, not, _||_};
+ghost use mathlib.Core.List.{List};
+ghost use Prim.Native.Nat.{_^_, _≤_, _<_};
+ghost use lib.ListN.{length};
+ghost use Rattle.theory.specs.Query.{Term as TheTerm, Line as TheLine};
+ghost use Rattle.theory.specs.Executable.Test.{same as sameTerm};
+ghost use Rattle.theory.specs.Executable.Cover.{obeys as obeysRules, covers as coversLine};
+ghost use Rattle.theory.specs.Executable.Label.{label};
+ghost use Rattle.words.specs.Bits.{setBit};
+ghost use Rattle.model.specs.Value.{termValue, lineValue};
+ghost use Rattle.label.specs.Labelled.{TableViews, Labelled};
+ghost use Rattle.label.specs.Order.{atOrBelow};
+use model::CONSTANT;
+use model::HIDDEN;
+use model::Line;
+use model::Policy;
+use model::SHOWN;
+use model::Term;
+
+// ---- covering
+
+fn same(t: Term, u: Term) -> bool
+    ensures { λ r. ⌜ ((x y : TheTerm) → t ≡ termValue x → u ≡ termValue y → r ≡ sameTerm x y) ⌝ }
+{
+    t.mark == u.mark && t.number == u.number
+}
+
+fn implies(x: bool, y: bool) -> bool
+    ensures { λ r. ⌜ r ≡ (not x || y) ⌝ }
+{
+    !x || y
+}
+
+// The three rules at columns p and q, where the view has `v` and `w` and the line `a` and `b`.
+fn obeys(v: Term, w: Term, a: Term, b: Term) -> bool
+    ensures { λ r. ⌜ ((t u x y : TheTerm) → v ≡ termValue t → w ≡ termValue u → a ≡ termValue x → b ≡ termValue y → r ≡ obeysRules t u x y) ⌝ }
+{
+    if v.mark == CONSTANT {
+        return same(a, v);
+    }
+    let equals = implies(same(v, w), same(a, b));
+    if v.mark == SHOWN {
+        return equals;
+    }
+    if a.mark != HIDDEN {
+        return false;
+    }
+    equals && implies(same(a, b), same(v, w))
+}
+
+// Whether a view covers a line of its table, which has `width` columns. The first broken rule ends the comparison.
+pub fn covers(width: usize, v: Line, a: Line) -> bool
+    requires { ⌜ width ≤ 8 ⌝ }
+    ensures { λ r. ⌜ ((view line : TheLine) → v ≡ lineValue view → a ≡ lineValue line → view .table ≡ line .table → length (view .columns) ≡ width → length (line .columns) ≡ width → r ≡ coversLine view line) ⌝ }
+{
+    let mut ok = true;
+    let mut p = 0;
+    'columns: while p < width {
+        let x = v.terms[p];
+        let y = a.terms[p];
+        let mut q = 0;
+        while q < width {
+            let xq = v.terms[q];
+            let yq = a.terms[q];
+            if !obeys(x, xq, y, yq) {
+                ok = false;
+                break 'columns;
+            }
+            q += 1;
+        }
+        p += 1;
+    }
+    ok
+}
+
+// ---- labels
+
+// The word with bit `k` set, where the test passes.
+fn with_view(word: u64, k: u64, passes: bool) -> u64
+    requires { ⌜ k < 64 ⌝ }
+    ensures { λ r. ⌜ r ≡ cond passes (setBit word k) word ⌝ }
+{
+    if passes {
+        return words::set_bit(word, k);
+    }
+    word
+}
+
+// The views of a table, view n at bit n - 1.
+pub fn table_views(p: Policy, table: u64) -> u64
+    ensures { λ r. ⌜ TableViews p table r ⌝ }
+{
+    let mut word = 0;
+    let mut k = 0;
+    while k < 32 {
+        let v = p.views[k];
+        word = with_view(word, k as u64, v.table == table);
+        k += 1;
+    }
+    word
+}
+
+// The label of a line of `width` columns; `mask` has the views of its table.
+pub fn label_line(p: Policy, mask: u64, width: usize, a: Line) -> u64
+    requires { ⌜ (mask < 2 ^ 32) × (width ≤ 8) × (a .table < 2 ^ 32) ⌝ }
+    ensures { λ r. ⌜ ((views : List TheLine) (line : TheLine) → Labelled p mask width a views line → r ≡ label views line) ⌝ }
+{
+    let mut word = 0;
+    let mut left = mask;
+    while left != 0 {
+        let k = words::least(left);
+        let at = k as usize;
+        let v = p.views[at];
+        word = with_view(word, k, covers(width, v, a));
+        left = words::drop_least(left);
+    }
+    words::join(a.table, word)
+}
+
+// ---- the order of labels
+
+// Whether label `x` is at or below label `y`.
+pub fn at_or_below(x: u64, y: u64) -> bool
+    ensures { λ r. ⌜ r ≡ atOrBelow x y ⌝ }
+{
+    if words::low_half(x) != words::low_half(y) {
+        return false;
+    }
+    words::includes(words::high_half(x), words::high_half(y))
+}
