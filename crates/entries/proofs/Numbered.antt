@@ -9,7 +9,7 @@ use native.Mathlib.Omega.{arith}
 use lib.Dec.{leb}
 use lib.ListN.{length, take, drop}
 use borrow.Author.Tests.{leb-true}
-use Rattle.text.specs.Lines.{fields, before}
+use Rattle.text.specs.Lines.{fields, fieldsFrom, before}
 use Rattle.text.specs.Numeral.{numeral, constantLimit}
 use Rattle.text.specs.Value.{limited, numeralValue}
 use Rattle.text.specs.declared.Numeral.{Numeral}
@@ -18,7 +18,7 @@ use Rattle.model.specs.Fields.{both, Numbered, numbered}
 use Rattle.model.specs.Limits.{upTo}
 use Rattle.model.specs.Value.{upToValue}
 use Rattle.text.proofs.Parts.{to-end}
-use Rattle.model.proofs.TermsRead.{left, left-first, left-none, left-some, left-next}
+use Rattle.text.proofs.FieldsFrom.{from-first, from-none, from-some, from-next}
 use Rattle.model.proofs.UpTo.{up-to-past, up-to-within}
 
 -- ---- the number
@@ -60,11 +60,11 @@ up-to-most (Value n) most = go (leb n most) refl
 
 -- ---- the fields behind the number, which ends at place n
 
-pub left-end : (s : List ℕ) (n : ℕ) → length s ≤ n → left s (n + 1) ≡ []
-left-end s n h = left-none s (n + 1) (omega arith)
+pub from-end : (s : List ℕ) (n : ℕ) → length s ≤ n → fieldsFrom s (n + 1) ≡ []
+from-end s n h = from-none s (n + 1) (omega arith)
 
-pub left-rest : (s : List ℕ) (n : ℕ) → n < length s → left s (n + 1) ≡ fields (take (length s - (n + 1)) (drop (n + 1) s))
-left-rest s n h = left-some s (n + 1) (omega arith) ∙ ap fields (sym (to-end (n + 1) s))
+pub from-rest : (s : List ℕ) (n : ℕ) → n < length s → fieldsFrom s (n + 1) ≡ fields (take (length s - (n + 1)) (drop (n + 1) s))
+from-rest s n h = from-some s (n + 1) (omega arith) ∙ ap fields (sym (to-end (n + 1) s))
 
 -- ---- the line
 
@@ -72,9 +72,9 @@ abbrev pub numberedOf : {X : Type 0} → Option ℕ → Option X → Option (Num
 numberedOf o q = both (λ n x. record { number = n; value = x }) o q
 
 numbered-parted : {X : Type 0} (read : List (List ℕ) → Option X) (s : List ℕ) (n : ℕ) → n ≡ before 32 s
-    → numbered read (fields s) ≡ numberedOf (numeral (take n s)) (read (left s (n + 1)))
+    → numbered read (fields s) ≡ numberedOf (numeral (take n s)) (read (fieldsFrom s (n + 1)))
 unfolding numbered
-numbered-parted read s n e = ap (numbered read) (sym (left-first s) ∙ left-next s 0 zero-le) ∙ rw (zero-add, e)
+numbered-parted read s n e = ap (numbered read) (sym (from-first s) ∙ from-next s 0 zero-le) ∙ rw (zero-add, e)
 
 nothing-numbered : {X : Type 0} (o : Option ℕ) → numberedOf {X = X} o none ≡ none
 unfolding both
@@ -88,7 +88,7 @@ pub record NumberRead {X : Type 0} (l : Option (Numbered X)) (number : Numeral) 
   pub said : number ≡ limited first
 
 pub number-read : {X : Type 0} (read : List (List ℕ) → Option X) (s : List ℕ) {n : ℕ} {number : Numeral} {q : Option X} → n ≡ before 32 s
-    → number ≡ numeralValue (take n s) → read (left s (n + 1)) ≡ q → NumberRead (numbered read (fields s)) number q
+    → number ≡ numeralValue (take n s) → read (fieldsFrom s (n + 1)) ≡ q → NumberRead (numbered read (fields s)) number q
 unfolding numeralValue
 number-read read s {n} e f g =
     record {
@@ -101,7 +101,7 @@ number-read read s {n} e f g =
 pub number-alone : {X : Type 0} (read : List (List ℕ) → Option X) (s : List ℕ) {n : ℕ} → n ≡ before 32 s → n ≡ length s → read [] ≡ none
     → numbered read (fields s) ≡ none
 number-alone read s {n} e f g =
-    numbered-parted read s n e ∙ ap (numberedOf (numeral (take n s))) (ap read (left-end s n (omega arith)) ∙ g)
+    numbered-parted read s n e ∙ ap (numberedOf (numeral (take n s))) (ap read (from-end s n (omega arith)) ∙ g)
     ∙ nothing-numbered (numeral (take n s))
 
 module _ {X : Type 0} {l : Option (Numbered X)} {number : Numeral} {q : Option X} (r : NumberRead l number q) where

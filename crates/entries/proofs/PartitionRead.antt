@@ -7,7 +7,7 @@ use Prim.Native.Nat.{ℕ, _+_}
 use lib.Dec.{lit≤}
 use lib.ListN.{take}
 use Rattle.theory.specs.Executable.Test.{all}
-use Rattle.text.specs.Lines.{before}
+use Rattle.text.specs.Lines.{before, fieldsFrom}
 use Rattle.text.specs.Numeral.{numeral}
 use Rattle.text.specs.Value.{numeralValue}
 use Rattle.text.specs.declared.Numeral.{Numeral}
@@ -15,7 +15,6 @@ use Rattle.text.specs.declared.Numeral.the-variants.{Malformed}
 use Rattle.model.specs.Fields.{Numbered, every, partitionLine}
 use Rattle.model.specs.Limits.{mostViews, mostPartitions, upTo}
 use Rattle.model.specs.Value.{upToValue}
-use Rattle.model.proofs.TermsRead.{left}
 use Rattle.entries.specs.Value.{noViews, listed, listedValue, noPartition, partitionValue}
 use Rattle.entries.specs.declared.Listed.{Listed}
 use Rattle.entries.proofs.Numbered.{NumberRead, number-read, unnumbered}
@@ -34,7 +33,7 @@ told-listed (some vs) = go (all (upTo mostViews) vs) refl
     go false e = past vs refl e refl refl
 
 module _ (s : List ℕ) {n : ℕ} {number : Numeral} (first : n ≡ before 32 s) (read : number ≡ numeralValue (take n s)) where
-  pub partition-read : NumberRead (partitionLine s) number (every numeral (left s (n + 1)))
+  pub partition-read : NumberRead (partitionLine s) number (every numeral (fieldsFrom s (n + 1)))
   unfolding partitionLine
   partition-read = number-read (every numeral) s first read refl
 

@@ -20,7 +20,7 @@ use Rattle.model.specs.Fields.{Numbered, oneNumeral, tableLine}
 use Rattle.model.specs.Limits.{mostTables, mostColumns}
 use Rattle.model.specs.Value.{upToValue}
 use Rattle.entries.specs.Value.{noTable, tableValue}
-use Rattle.entries.proofs.Numbered.{NumberRead, number-alone, number-read, unnumbered, nothing-read, numbered-past, numbered-formed, numbered-within, malformed-none, formed-some, number-past, number-within, left-rest}
+use Rattle.entries.proofs.Numbered.{NumberRead, number-alone, number-read, unnumbered, nothing-read, numbered-past, numbered-formed, numbered-within, malformed-none, formed-some, number-past, number-within, from-rest}
 
 -- ---- the one numeral behind the number
 
@@ -66,7 +66,7 @@ module _ (s : List ℕ) {n : ℕ} {number : Numeral} (first : n ≡ before 32 s)
   unfolding tableLine
   table-read h =
       number-read oneNumeral s first read
-      (ap oneNumeral (left-rest s n h) ∙ one-numeral (take (length s - (n + 1)) (drop (n + 1) s)))
+      (ap oneNumeral (from-rest s n h) ∙ one-numeral (take (length s - (n + 1)) (drop (n + 1) s)))
 
 module _ {l : Option (Numbered ℕ)} {number columns : Numeral} {q : Option ℕ} (r : NumberRead l number q) (said : columns ≡ limited q) where
   pub columns-malformed : columns ≡ Malformed → noTable false ≡ tableValue l

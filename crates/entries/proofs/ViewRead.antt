@@ -16,7 +16,7 @@ use Rattle.model.specs.Limits.{mostViews, lineWithin}
 use Rattle.model.specs.Value.{blankValue, goodValue, parsedLine, upToValue}
 use Rattle.model.specs.declared.Parsed.{Parsed}
 use Rattle.entries.specs.Value.{noView, viewValue}
-use Rattle.entries.proofs.Numbered.{NumberRead, number-alone, number-read, unnumbered, left-rest}
+use Rattle.entries.proofs.Numbered.{NumberRead, number-alone, number-read, unnumbered, from-rest}
 use Rattle.entries.proofs.Told.{Told, malformed, past, within, entry-malformed, entry-outside, entry-past, entry-within}
 
 told-line : (q : Option Line) → Told lineWithin q (parsedLine q .ok) (parsedLine q .outside)
@@ -42,7 +42,7 @@ module _ (s : List ℕ) {n : ℕ} {number : Numeral} (first : n ≡ before 32 s)
 
   pub view-read : n < length s → NumberRead (viewLine s) number (queryLine (take (length s - (n + 1)) (drop (n + 1) s)))
   unfolding viewLine queryLine
-  view-read h = number-read lineOfFields s first read (ap lineOfFields (left-rest s n h))
+  view-read h = number-read lineOfFields s first read (ap lineOfFields (from-rest s n h))
 
 module _ {l : Option (Numbered Line)} {number : Numeral} {p : Parsed} {q : Option Line} (r : NumberRead l number q) (said : p ≡ parsedLine q) where
   told : Told lineWithin q (p .ok) (p .outside)

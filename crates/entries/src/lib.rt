@@ -4,10 +4,9 @@ ghost use mathlib.Core.Path.{_≡_};
 ghost use mathlib.Core.List.{List, [], _∷_, _++_};
 ghost use Prim.Native.Nat.{ℕ, _+_, _^_, _<_, _≤_};
 ghost use lib.ListN.{length};
-ghost use Rattle.text.specs.Lines.{fields};
+ghost use Rattle.text.specs.Lines.{fields, fieldsFrom};
 ghost use Rattle.text.specs.Numeral.{numeral};
 ghost use Rattle.model.specs.Fields.{every, tableLine, viewLine, partitionLine};
-ghost use Rattle.model.proofs.TermsRead.{left};
 ghost use Rattle.entries.specs.Value.{noTable, tableValue, noView, viewValue, noViews, listed, listedValue, noPartition, partitionValue};
 use model::Parsed;
 use text::Numeral;
@@ -226,7 +225,7 @@ fn no_partition(ok: bool) -> PartitionLine
 // The views behind a partition's number, which ends at `n`.
 fn listed_after(line: &[u8], n: usize) -> Listed
     requires { ⌜ length (now line) < 2 ^ 32 ⌝ }
-    ensures { λ r. ⌜ r ≡ listedValue (every numeral (left (now (line .entry)) (n + 1))) ⌝ }
+    ensures { λ r. ⌜ r ≡ listedValue (every numeral (fieldsFrom (now (line .entry)) (n + 1))) ⌝ }
 {
     if n < line.len() {
         let from = n + 1;

@@ -1,4 +1,5 @@
 -- Facts about the definitions of specs/.
+pub mod FieldsRead
 pub mod Limits
 pub mod LineRead
 pub mod Pad

@@ -3,3 +3,4 @@ pub mod Lines
 pub mod Names
 pub mod Numerals
 pub mod Parts
+pub mod FieldsFrom

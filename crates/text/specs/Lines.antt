@@ -2,7 +2,8 @@
 use mathlib.Core.Bool.{cond}
 use mathlib.Core.List.{List, [], _∷_, _++_}
 use Prim.Native.Nat.{ℕ, suc}
-use lib.Dec.{eqb}
+use lib.Dec.{eqb, leb}
+use lib.ListN.{length, drop}
 
 -- the pieces of a list that a byte ends, and what is left behind the last of them
 pub record Split : Type 0 where
@@ -27,6 +28,11 @@ lines text = split 10 text
 unfoldable pub fields : List ℕ → List (List ℕ)
 unfolding split
 fields line = let s = split 32 line in s .ended ++ s .rest ∷ []
+
+-- the fields from place i on: none past the end, where the last field was
+unfoldable pub fieldsFrom : List ℕ → ℕ → List (List ℕ)
+unfolding fields
+fieldsFrom line i = cond (leb i (length line)) (fields (drop i line)) []
 
 -- how many bytes stand before the first that equals b, all of them where none does
 unfoldable pub before : ℕ → List ℕ → ℕ

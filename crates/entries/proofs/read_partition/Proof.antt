@@ -6,7 +6,7 @@ use borrow.Author.Tests.{not-true, not-false}
 use Rattle.text.specs.Numeral.{numeral}
 use Rattle.text.proofs.Parts.{first-length}
 use Rattle.model.proofs.Tags.{tag-formed}
-use Rattle.model.proofs.TermsRead.{left}
+use Rattle.text.specs.Lines.{fieldsFrom}
 use Rattle.model.specs.Fields.{every, partitionLine}
 use Rattle.entries.proofs.Numbered.{NumberRead}
 use Rattle.entries.proofs.PartitionRead.{partition-read, partition-unnumbered, partition-malformed, partition-outside, partition-past, partition-within}
@@ -42,7 +42,7 @@ no-partition-requires-2 c κs = search needs
 
 whole : (c : tie.After-read-numeral) →
     NumberRead (partitionLine (c .before .before .before .before .args .line .now)) (c .read-numeral .result)
-    (every numeral (left (c .before .before .before .before .args .line .now) (c .before .before .first .result + 1)))
+    (every numeral (fieldsFrom (c .before .before .before .before .args .line .now) (c .before .before .first .result + 1)))
 whole c = partition-read _ (c .before .before .first .ensures) (c .read-numeral .ensures)
 
 returns-2 : tie.Need-returns-2

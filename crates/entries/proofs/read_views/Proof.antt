@@ -4,10 +4,14 @@ use mathlib.Core.Path.{_∙_}
 use Prim.Native.Nat.{suc, _-_}
 use native.Mathlib.Omega.{arith}
 use borrow.Author.Needs.{needs}
-use lib.ListN.{length}
+use lib.ListN.{length, take, drop}
 use Rattle.text.proofs.Parts.{first-length}
 use Rattle.model.proofs.Tags.{tag-formed}
-use Rattle.entries.proofs.ViewsRead.{ViewsRead, Next, read-none, next-field, next-room, next-malformed, next-outside, next-bounds, next-within, all-outside, all-within}
+use Rattle.text.specs.Numeral.{numeral}
+use Rattle.model.specs.Limits.{mostViews, upTo}
+use Rattle.model.proofs.FieldsRead.{read-none, next-field, next-room}
+use Rattle.entries.specs.Value.{listed}
+use Rattle.entries.proofs.ViewsRead.{ViewsRead, NextView, next-malformed, next-outside, next-bounds, next-within, all-outside, all-within}
 use Rattle.entries.proofs.read_views.Statement.{statement}
 use Rattle.entries.proofs.read_views.Tie as tie
 
@@ -21,7 +25,7 @@ none-listed-requires : tie.Need-none-listed-requires Inv-loop μ-loop
 none-listed-requires c κs = search needs
 
 loop-holds : tie.Need-loop-holds Inv-loop μ-loop
-loop-holds c = read-none _ _ (c .none-listed .ensures)
+loop-holds c = read-none numeral (upTo mostViews) listed _ _ (c .none-listed .ensures)
 
 sub-part : tie.Need-sub-part Inv-loop μ-loop
 sub-part c = search needs
@@ -47,15 +51,19 @@ enum-told c = search needs
 no-views-requires : tie.Need-no-views-requires Inv-loop μ-loop
 no-views-requires c κs = search needs
 
-next : (c : tie.After-read-numeral Inv-loop μ-loop) →
-    let l = c .before .before .before .before .before in
-    Next (l .before .before .before .args .s .now) (l .loop .l) (l .loop .outside) (l .loop .at) (c .before .before .first .result) (c .read-numeral .result)
+next : (c : tie.After-first Inv-loop μ-loop) →
+    let l = c .before .before .before in
+    let s = l .before .before .before .args .s .now in
+    let n = c .first .result in
+    NextView s (l .loop .l) (l .loop .outside) (l .loop .at) n (take n (take (length s - l .loop .at) (drop (l .loop .at) s)))
 next c =
-    let i = c .before .before .before .before in
-    next-field (i .before .loop .inv) (omega (arith, i .loop-test .taken)) (c .before .before .first .ensures) (c .read-numeral .ensures)
+    let t = c .before .before in
+    next-field numeral (upTo mostViews) listed (t .before .loop .inv) (omega (arith, t .loop-test .taken)) (c .first .ensures)
 
 returns : tie.Need-returns Inv-loop μ-loop
-returns c = c .no-views .ensures ∙ next-malformed (next (c .before .before .before)) (c .before .enum-told .given .1)
+returns c =
+    let f = c .before .before .before in
+    c .no-views .ensures ∙ next-malformed (next (f .before .before)) (f .read-numeral .ensures) (c .before .enum-told .given .1)
 
 up-to-requires : tie.Need-up-to-requires Inv-loop μ-loop
 up-to-requires c κs = search needs
@@ -64,20 +72,21 @@ with-view-requires : tie.Need-with-view-requires Inv-loop μ-loop
 with-view-requires c κs = next-bounds _ (c .before .up-to .ensures) (c .if1 .left)
 
 add-at : tie.Need-add-at Inv-loop μ-loop
-add-at c = omega (arith, next-room (next (c .before .before .before)))
+add-at c = omega (arith, next-room numeral (upTo mostViews) listed (next (c .before .before .before .before .before)))
 
 add-at-2 : tie.Need-add-at-2 Inv-loop μ-loop
-add-at-2 c = omega (arith, next-room (next (c .before .before .before)))
+add-at-2 c = omega (arith, next-room numeral (upTo mostViews) listed (next (c .before .before .before .before .before)))
 
 loop-less : tie.Need-loop-less Inv-loop μ-loop
-loop-less c = omega (arith, next-room (next (c .before .before .before)))
+loop-less c = omega (arith, next-room numeral (upTo mostViews) listed (next (c .before .before .before .before .before)))
 
 loop-again : tie.Need-loop-again Inv-loop μ-loop
 loop-again c =
-    let x = next (c .before .before .before) in
+    let f = c .before .before .before in
+    let x = next (f .before .before) in
     ⊎-elim
-    (λ w. rw (w .1, w .2) (next-outside x (tag-formed _ (c .before .before .match .keys2)) (c .before .up-to .ensures) (w .0 .taken)))
-    (λ w. rw (w .2, w .3) (next-within x (c .before .up-to .ensures) (w .0 .left) (w .1 .ensures)))
+    (λ w. rw (w .1, w .2) (next-outside x (f .read-numeral .ensures) (tag-formed _ (c .before .before .match .keys2)) (c .before .up-to .ensures) (w .0 .taken)))
+    (λ w. rw (w .2, w .3) (next-within x (f .read-numeral .ensures) (c .before .up-to .ensures) (w .0 .left) (w .1 .ensures)))
     (c .if1 .came)
 
 no-views-requires-2 : tie.Need-no-views-requires-2 Inv-loop μ-loop

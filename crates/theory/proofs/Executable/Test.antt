@@ -1,8 +1,8 @@
 -- What the tests on lists and terms say.
 use mathlib.Core.Path.{_≡_, refl, sym, ap, subst}
 use mathlib.Core.Logic.{_↔_, _⊎_, ⊎-elim}
-use mathlib.Core.Bool.{Bool, true, false, not, _&&_, _||_}
-use mathlib.Core.List.{List, [], _∷_, List·Memᴰ·head, List·Memᴰ·tail, List·Memᴰ·not-nil, List·Memᴰ·cases-cons}
+use mathlib.Core.Bool.{Bool, true, false, not, _&&_, _||_, and-true, and-assoc}
+use mathlib.Core.List.{List, [], _∷_, _++_, List·Memᴰ·head, List·Memᴰ·tail, List·Memᴰ·not-nil, List·Memᴰ·cases-cons}
 use Prim.Native.Nat.{ℕ, zero, suc, _<_}
 use native.Mathlib.Nat.{not-suc-le-zero, le-refl, le-step, le-of-suc-le-suc, eq-or-lt-of-le}
 use lib.Dec.{T, eqb-refl}
@@ -55,6 +55,12 @@ module _ {X : Type 0} (f : X → Bool) where
 
   pub all-iff : (l : List X) → T (all f l) ↔ ((x : X) → x ∈ l → T (f x))
   all-iff l = (all-to l, all-from l)
+
+  -- one more behind
+  pub all-more : (l : List X) (x : X) → all f (l ++ x ∷ []) ≡ (all f l && f x)
+  unfolding all
+  all-more [] x = and-true (f x)
+  all-more (y ∷ l) x = rw (all-more l x) (sym (and-assoc (f y) (all f l) (f x)))
 
   any-to : (l : List X) → T (any f l) → (x : X) × (x ∈ l) × T (f x)
   unfolding any

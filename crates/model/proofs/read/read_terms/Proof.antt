@@ -6,7 +6,11 @@ use native.Mathlib.Omega.{arith}
 use borrow.Author.Needs.{needs}
 use lib.ListN.{length, take, drop}
 use Rattle.text.proofs.Parts.{first-length}
-use Rattle.model.proofs.TermsRead.{TermsRead, Next, read-none, next-field, next-room, next-malformed, next-outside, next-small, next-within, all-outside, all-within}
+use Rattle.model.specs.Fields.{term}
+use Rattle.model.specs.Limits.{termWithin}
+use Rattle.model.specs.Value.{goodValue}
+use Rattle.model.proofs.FieldsRead.{next-field, next-room}
+use Rattle.model.proofs.TermsRead.{TermsRead, NextTerm, no-terms, next-malformed, next-outside, next-small, next-within, all-outside, all-within}
 use Rattle.model.proofs.read.read_terms.Statement.{statement}
 use Rattle.model.proofs.read.read_terms.Tie as tie
 
@@ -20,7 +24,7 @@ blank-requires : tie.Need-blank-requires Inv-loop μ-loop
 blank-requires c κs = search needs
 
 loop-holds : tie.Need-loop-holds Inv-loop μ-loop
-loop-holds c = read-none _ _ (c .blank .ensures)
+loop-holds c = no-terms _ _ (c .blank .ensures)
 
 sub-part : tie.Need-sub-part Inv-loop μ-loop
 sub-part c = search needs
@@ -50,8 +54,8 @@ next : (c : tie.After-first Inv-loop μ-loop) →
     let l = c .before .before .before in
     let s = l .before .before .before .args .s .now in
     let n = c .first .result in
-    Next s (l .loop .p) (l .loop .outside) (l .loop .at) n (take n (take (length s - l .loop .at) (drop (l .loop .at) s)))
-next c = next-field (c .before .before .before .loop .inv) (omega (arith, c .before .before .loop-test .taken)) (c .first .ensures)
+    NextTerm s (l .loop .p) (l .loop .outside) (l .loop .at) n (take n (take (length s - l .loop .at) (drop (l .loop .at) s)))
+next c = next-field term termWithin (goodValue 0) (c .before .before .before .loop .inv .terms) (omega (arith, c .before .before .loop-test .taken)) (c .first .ensures)
 
 returns : tie.Need-returns Inv-loop μ-loop
 returns c =
@@ -68,15 +72,15 @@ with-term-requires : tie.Need-with-term-requires Inv-loop μ-loop
 with-term-requires c κs =
     let f = c .before .before .before in
     let x = next (f .before .before) in (
-      omega (arith, x .passed .few, x .inside, f .before .before .before .before .before .before .before .before .pre),
+      omega (arith, f .before .before .before .before .before .loop .inv .few, x .inside, f .before .before .before .before .before .before .before .before .pre),
       next-small x (sym (c .before .t .given .1) ∙ f .read-term .ensures),
     )
 
 add-at : tie.Need-add-at Inv-loop μ-loop
-add-at c = omega (arith, next-room (next (c .before .before .before)))
+add-at c = omega (arith, next-room term termWithin (goodValue 0) (next (c .before .before .before)))
 
 add-at-2 : tie.Need-add-at-2 Inv-loop μ-loop
-add-at-2 c = omega (arith, next-room (next (c .before .before .before)))
+add-at-2 c = omega (arith, next-room term termWithin (goodValue 0) (next (c .before .before .before)))
 
 loop-less : tie.Need-loop-less Inv-loop μ-loop
 loop-less c = omega (arith, c .before .before .before .before .before .loop-test .taken)
@@ -84,9 +88,10 @@ loop-less c = omega (arith, c .before .before .before .before .before .loop-test
 loop-again : tie.Need-loop-again Inv-loop μ-loop
 loop-again c =
     let x = next (c .before .before .before) in
+    let few = c .before .before .before .before .before .before .loop .inv .few in
     ⊎-elim
-    (λ w. rw (w .2, w .3) (next-outside x (sym (w .1 .given .1) ∙ c .before .read-term .ensures)))
-    (λ w. rw (w .4, w .5) (next-within x (sym (w .1 .given .1) ∙ c .before .read-term .ensures) (w .3 .ensures)))
+    (λ w. rw (w .2, w .3) (next-outside x (sym (w .1 .given .1) ∙ c .before .read-term .ensures) few))
+    (λ w. rw (w .4, w .5) (next-within x (sym (w .1 .given .1) ∙ c .before .read-term .ensures) few (w .3 .ensures)))
     (c .match .came)
 
 blank-requires-3 : tie.Need-blank-requires-3 Inv-loop μ-loop
