@@ -78,10 +78,10 @@ fn is_next(started: bool, block: u8, line: &[u8]) -> bool
         return false;
     }
     if block == TABLES {
-        return text::same(line, b"view table terms");
+        return text::same(line, &text::VIEW_TABLE_TERMS);
     }
     if block == VIEWS {
-        return text::same(line, b"partition views");
+        return text::same(line, &text::PARTITION_VIEWS);
     }
     false
 }
@@ -183,7 +183,7 @@ pub fn load(text: &[u8]) -> Loading
     if n == text.len() {
         return refused(1, 1);
     }
-    if !text::same(&text[..n], b"table columns") {
+    if !text::same(&text[..n], &text::TABLE_COLUMNS) {
         return refused(1, 1);
     }
     let from = n + 1;

@@ -125,7 +125,7 @@ pub fn read_query(tables: Tables, text: &[u8]) -> Reading
     if n == text.len() {
         return refused(1, 1);
     }
-    if !text::same(&text[..n], b"table terms") {
+    if !text::same(&text[..n], &text::TABLE_TERMS) {
         return refused(1, 1);
     }
     let from = n + 1;

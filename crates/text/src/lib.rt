@@ -15,6 +15,15 @@ const MOST_DIGITS: usize = 10;
 // The largest number that any place of a text allows: that of a constant.
 const CONSTANT_LIMIT: u64 = 4_294_967_295;
 
+// The names lines.
+pub const TABLE_COLUMNS: [u8; 13] = *b"table columns";
+
+pub const VIEW_TABLE_TERMS: [u8; 16] = *b"view table terms";
+
+pub const PARTITION_VIEWS: [u8; 15] = *b"partition views";
+
+pub const TABLE_TERMS: [u8; 11] = *b"table terms";
+
 // What a field says where a numeral is wanted.
 pub enum Numeral {
     // It is no numeral.
