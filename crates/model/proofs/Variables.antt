@@ -1,20 +1,19 @@
 -- The variables of lines as bits, and what it says of a line that its bits meet those of the other mark.
-use mathlib.Core.Path.{_≡_, refl, sym, ap, _∙_, subst}
+use mathlib.Core.Path.{_≡_, refl, sym, ap, subst}
 use mathlib.Core.Logic.{_↔_, _⊎_, inl, inr, ⊎-elim}
 use mathlib.Core.Bool.{Bool, true, false, _||_}
 use mathlib.Core.List.{List, [], _∷_, _++_, List·Memᴰ·head, List·Memᴰ·tail, List·Memᴰ·cases-cons, List·Memᴰ·not-nil, List·Memᴰ·append-cases, Memᴰ·append-left, Memᴰ·append-right, List·Memᴰ·eq-of-singleton}
 use Prim.Native.Nat.{ℕ, _<_}
-use native.Mathlib.Decide.{ℕ-discrete}
 use native.Mathlib.Omega.{arith}
 use lib.Bits.{bitOr}
 use lib.Dec.{T, leb→le}
 use Rattle.theory.specs.Query.{Term, constant, shown, hidden, Line, _∈_}
 use Rattle.theory.specs.Executable.Test.{all, any}
 use Rattle.theory.proofs.Executable.Test.{and-iff, all-iff, any-iff, same-iff, or-iff, same-test}
-use Rattle.words.specs.Bits.{bit, setBit, meet}
+use Rattle.words.specs.Bits.{bit, meet}
 use Rattle.words.proofs.Bits.{bit-zero}
 use Rattle.words.proofs.Masks.{bit-or-iff}
-use Rattle.words.proofs.SetBits.{set-bit-same, set-bit-other}
+use Rattle.words.proofs.SetBits.{set-bit-iff}
 use Rattle.words.proofs.Tests.{meet-iff}
 use Rattle.model.specs.Limits.{mostTables, upTo, termWithin, lineWithin, opposite, clashing}
 use Rattle.model.specs.Value.{withShown, withHidden, bitsOf}
@@ -30,15 +29,6 @@ pub true-is : (b : Bool) → b ≡ true → T b
 true-is b e = rw e tt
 
 -- ---- the bits of a line
-
-set-bit-iff : (m k n : ℕ) → (bit (setBit m k) n ≡ 1) ↔ ((bit m n ≡ 1) ⊎ (k ≡ n))
-set-bit-iff m k n = go (ℕ-discrete n k)
-  where
-    go : Dec (n ≡ k) → (bit (setBit m k) n ≡ 1) ↔ ((bit m n ≡ 1) ⊎ (k ≡ n))
-    go (yes e) = (λ b. inr (sym e), λ s. rw e (set-bit-same m k))
-    go (no f) =
-        let o = set-bit-other m k n f in
-        (λ b. inl (sym o ∙ b), ⊎-elim (λ b. o ∙ b) (λ e. absurd (f (sym e))))
 
 -- `add` sets the bits of the variables that `mark` makes, and of no other term; within the limits they are below 64
 record Kind (mark : ℕ → Term) (add : ℕ → Term → ℕ) : Type 0 where

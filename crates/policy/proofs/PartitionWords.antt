@@ -1,5 +1,5 @@
 -- A partition's word: the views that stand in it, and the word of a partition's views.
-use mathlib.Core.Path.{_≡_, refl, sym, _∙_}
+use mathlib.Core.Path.{_≡_, refl}
 use mathlib.Core.Logic.{_↔_, _⊎_, inl, inr, ⊎-elim}
 use mathlib.Core.Bool.{Bool, true, false, cond}
 use mathlib.Core.List.{List, [], _∷_, _++_, append-nil, List·Memᴰ·head, List·Memᴰ·tail, List·Memᴰ·cases-cons, List·Memᴰ·not-nil, List·Memᴰ·append-cases, List·Memᴰ·eq-of-singleton, Memᴰ·append-left, Memᴰ·append-right}
@@ -12,7 +12,7 @@ use Rattle.theory.specs.Executable.Test.{any}
 use Rattle.theory.proofs.Executable.Test.{all-iff, any-iff}
 use Rattle.words.specs.Bits.{bit, isSet, setBit}
 use Rattle.words.proofs.Bits.{bit-zero, bit-cases, is-set, is-clear}
-use Rattle.words.proofs.SetBits.{set-bit-same, set-bit-other}
+use Rattle.words.proofs.SetBits.{set-bit-iff}
 use Rattle.model.specs.Limits.{upTo, mostViews}
 use Rattle.policy.specs.Text.{ascend}
 use Rattle.policy.specs.Value.{GoodPartition}
@@ -68,14 +68,13 @@ set-in (suc n) m v h l e = by-cases (ℕ-discrete v (suc n)) (λ k. set-in n m v
 
 -- ---- the word of views
 
-set-bit-iff : (m w v : ℕ) → 1 ≤ w → 1 ≤ v → (bit (setBit m (w - 1)) (v - 1) ≡ 1) ↔ ((bit m (v - 1) ≡ 1) ⊎ (v ≡ w))
-set-bit-iff m w v g h = by-place (ℕ-discrete v w)
-  where
-    by-place : Dec (v ≡ w) → (bit (setBit m (w - 1)) (v - 1) ≡ 1) ↔ ((bit m (v - 1) ≡ 1) ⊎ (v ≡ w))
-    by-place (yes q) = (λ e. inr q, λ e. rw q (set-bit-same m (w - 1)))
-    by-place (no f) =
-        let other = set-bit-other m (w - 1) (v - 1) (λ q. f (omega (arith, q))) in
-        (λ e. inl (sym other ∙ e), λ e. ⊎-elim (λ k. other ∙ k) (λ q. absurd (f q)) e)
+view-bit-iff : (m w v : ℕ) → 1 ≤ w → 1 ≤ v → (bit (setBit m (w - 1)) (v - 1) ≡ 1) ↔ ((bit m (v - 1) ≡ 1) ⊎ (v ≡ w))
+view-bit-iff m w v g h =
+    let k = set-bit-iff m (w - 1) (v - 1) in
+    (
+      λ b. ⊎-elim (λ e. inl e) (λ e. inr (omega (arith, e, g, h))) (k .0 b),
+      λ s. k .1 (⊎-elim (λ e. inl e) (λ e. inr (omega (arith, e))) s),
+    )
 
 -- the bits that were set, and those of the views
 after-bit : (m : ℕ) (vs : List ℕ) → ((w : ℕ) → w ∈ vs → 1 ≤ w) → (v : ℕ) → 1 ≤ v
@@ -84,7 +83,7 @@ unfolding viewsAfter
 after-bit m [] pos v h = (λ e. inl e, λ e. ⊎-elim (λ k. k) (λ i. absurd (List·Memᴰ·not-nil i)) e)
 after-bit m (w ∷ vs) pos v h =
     let rest = after-bit (setBit m (w - 1)) vs (λ u i. pos u (List·Memᴰ·tail i)) v h in
-    let this = set-bit-iff m w v (pos w (List·Memᴰ·head refl)) h in (
+    let this = view-bit-iff m w v (pos w (List·Memᴰ·head refl)) h in (
       λ e. ⊎-elim (λ k. ⊎-elim (λ j. inl j) (λ q. inr (List·Memᴰ·head q)) (this .0 k)) (λ i. inr (List·Memᴰ·tail i)) (rest .0 e),
       λ e. rest .1 (⊎-elim (λ k. inl (this .1 (inl k)))
           (λ i. ⊎-elim (λ q. inl (this .1 (inr q))) (λ j. inr j) (List·Memᴰ·cases-cons i)) e),

@@ -1,8 +1,9 @@
 -- A word with one bit set.
-use mathlib.Core.Path.{_≡_}
-use mathlib.Core.Logic.{⊎-elim}
+use mathlib.Core.Path.{_≡_, sym, _∙_}
+use mathlib.Core.Logic.{_↔_, _⊎_, inl, inr, ⊎-elim}
 use Prim.Native.Nat.{ℕ, _+_, _*_, _%_, _^_, _<_}
 use native.Mathlib.Nat.{one-mul, zero-mul, max-zero, mod-eq-of-lt}
+use native.Mathlib.Decide.{ℕ-discrete}
 use native.Mathlib.Omega.{arith}
 use lib.Bits.{bitOr, or-disjoint, or-add-and, or-lt}
 use lib.Pow.{pow-lt}
@@ -25,6 +26,16 @@ set-bit-same n k = rw (← or-power, bit-or, bit-power-same) (omega (arith, bit-
 
 pub set-bit-other : (n k j : ℕ) → (j ≡ k → ⊥) → bit (setBit n k) j ≡ bit n j
 set-bit-other n k j f = rw (← or-power, bit-or, bit-power-other k j f, max-zero)
+
+-- the bits that were set, and bit k
+pub set-bit-iff : (n k j : ℕ) → (bit (setBit n k) j ≡ 1) ↔ ((bit n j ≡ 1) ⊎ (k ≡ j))
+set-bit-iff n k j = by-place (ℕ-discrete j k)
+  where
+    by-place : Dec (j ≡ k) → (bit (setBit n k) j ≡ 1) ↔ ((bit n j ≡ 1) ⊎ (k ≡ j))
+    by-place (yes e) = (λ b. inr (sym e), λ s. rw e (set-bit-same n k))
+    by-place (no f) =
+        let o = set-bit-other n k j f in
+        (λ b. inl (sym o ∙ b), ⊎-elim (λ b. o ∙ b) (λ e. absurd (f (sym e))))
 
 pub set-bit-below : (w n k : ℕ) → n < 2 ^ w → k < w → setBit n k < 2 ^ w
 set-bit-below w n k h l = rw (← or-power) (or-lt w n (2 ^ k) h (pow-lt l))
