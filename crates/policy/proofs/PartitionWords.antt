@@ -70,8 +70,7 @@ set-in (suc n) m v h l e = by-cases (ℕ-discrete v (suc n)) (λ k. set-in n m v
 
 view-bit-iff : (m w v : ℕ) → 1 ≤ w → 1 ≤ v → (bit (setBit m (w - 1)) (v - 1) ≡ 1) ↔ ((bit m (v - 1) ≡ 1) ⊎ (v ≡ w))
 view-bit-iff m w v g h =
-    let k = set-bit-iff m (w - 1) (v - 1) in
-    (
+    let k = set-bit-iff m (w - 1) (v - 1) in (
       λ b. ⊎-elim (λ e. inl e) (λ e. inr (omega (arith, e, g, h))) (k .0 b),
       λ s. k .1 (⊎-elim (λ e. inl e) (λ e. inr (omega (arith, e))) s),
     )

@@ -1,0 +1,16 @@
+pub mod Below
+pub mod Pairs
+pub mod Assign
+pub mod Rows
+pub mod Answers
+pub mod Marks
+pub mod Lines
+pub mod Candidates
+pub mod Maps
+pub mod Shift
+pub mod Passes
+pub mod Hidden
+pub mod Seen
+pub mod Mapped
+pub mod Shown
+pub mod Kept

@@ -1,0 +1,5 @@
+pub mod Agree
+pub mod Columns
+pub mod Extends
+pub mod Going
+pub mod Showing

@@ -1,0 +1,43 @@
+-- Showing by the values of lines, hidden variables as the bits of a word.
+use mathlib.Core.Path.{_≡_}
+use mathlib.Core.Logic.{_↔_}
+use mathlib.Core.Bool.{Bool, cond, _&&_}
+use mathlib.Core.List.{map}
+use Prim.Native.Nat.{ℕ, _<_}
+use lib.Dec.{T, eqb, leb}
+use Rattle.theory.specs.Query.{hidden, Query, _∈_}
+use Rattle.theory.specs.Query.{Line as TheLine}
+use Rattle.theory.specs.Executable.Show.{shared}
+use Rattle.words.specs.Bits.{bit, isSet, setBit}
+use Rattle.model.specs.declared.Term.{Term}
+use Rattle.model.specs.declared.Line.{Line}
+use Rattle.reduce.specs.Columns.{termAt}
+
+-- "variables 0 to 63": the hidden ones of the query
+abbrev pub Small : Query → Type 0
+Small Q = (n : ℕ) (A : TheLine) → A ∈ Q → hidden n ∈ A .columns → n < 64
+
+-- a hidden variable whose number has a bit
+unfoldable pub hiddenTerm : Term → Bool
+hiddenTerm t = eqb (t .mark) 3 && leb (t .number) 63
+
+unfoldable pub withHidden : ℕ → Term → ℕ
+unfolding hiddenTerm setBit
+withHidden m t = cond (hiddenTerm t) (setBit m (t .number)) m
+
+-- w has the hidden variables of the line's first k terms
+abbrev pub HiddenWord : Line → ℕ → ℕ → Type 0
+HiddenWord l k w =
+    (n : ℕ) → (bit w n ≡ 1) ↔ ((b : ℕ) × (b < k) × T (hiddenTerm (termAt l b)) × (termAt l b .number ≡ n))
+
+-- w has the shared variables
+abbrev pub SharedWord : Query → ℕ → Type 0
+SharedWord Q w = (n : ℕ) → n < 64 → (bit w n ≡ 1) ↔ T (shared Q n)
+
+unfoldable pub showValue : ℕ → Term → Term
+unfolding hiddenTerm
+showValue w t = cond (hiddenTerm t && isSet w (t .number)) (record { mark = 2; number = t .number }) t
+
+unfoldable pub showLine : ℕ → Line → Line
+unfolding showValue
+showLine w l = record { table = l .table; terms = map (showValue w) (l .terms) }
