@@ -87,7 +87,7 @@ pub record Labelling (p : Policy) (r : QueryValue) (d : Declared) (R : Query) : 
   pub fits : AllFit (d .widths) R
 
 -- the lines that are left are lines of the query, and showing keeps their tables and widths
-shown-fits : (widths : List ℕ) (Q : Query) → AllFit widths Q → AllFit widths (show (reduce Q))
+pub shown-fits : (widths : List ℕ) (Q : Query) → AllFit widths Q → AllFit widths (show (reduce Q))
 unfolding show
 shown-fits widths Q f B m =
     let R = reduce Q in

@@ -9,6 +9,7 @@ ghost use Rattle.theory.specs.Executable.Label.{label, labels};
 ghost use Rattle.model.specs.Value.{tablesValue};
 ghost use Rattle.policy.specs.Text.{Declared};
 ghost use Rattle.labels.specs.Posed.{LineOf, Posed, labelsValue, SomeLine, SomeQuery};
+ghost use Rattle.labels.specs.Settled.{settled};
 use model::Line;
 use model::Policy;
 use model::Query;
@@ -55,4 +56,21 @@ pub fn label_query(p: Policy, q: Query) -> Labels
         i += 1;
     }
     Labels { count: n, words }
+}
+
+// Whether each label holds one of the views of a partition, view n at bit n - 1.
+pub fn settles(l: Labels, partition: u64) -> bool
+    requires { ⌜ l .count ≤ 8 ⌝ }
+    ensures { λ r. ⌜ ((ws : List ℕ) → l ≡ labelsValue ws → r ≡ settled partition ws) ⌝ }
+{
+    let n = l.count;
+    let mut i = 0;
+    while i < n {
+        let views = words::high_half(l.words[i]);
+        if !words::meets(views, partition) {
+            return false;
+        }
+        i += 1;
+    }
+    true
 }

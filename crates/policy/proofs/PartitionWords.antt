@@ -76,7 +76,7 @@ view-bit-iff m w v g h =
     )
 
 -- the bits that were set, and those of the views
-after-bit : (m : ℕ) (vs : List ℕ) → ((w : ℕ) → w ∈ vs → 1 ≤ w) → (v : ℕ) → 1 ≤ v
+pub after-bit : (m : ℕ) (vs : List ℕ) → ((w : ℕ) → w ∈ vs → 1 ≤ w) → (v : ℕ) → 1 ≤ v
     → (bit (viewsAfter m vs) (v - 1) ≡ 1) ↔ ((bit m (v - 1) ≡ 1) ⊎ (v ∈ vs))
 unfolding viewsAfter
 after-bit m [] pos v h = (λ e. inl e, λ e. ⊎-elim (λ k. k) (λ i. absurd (List·Memᴰ·not-nil i)) e)

@@ -1,0 +1,114 @@
+-- A partition settles a query, by its labels, exactly when it determines it.
+use mathlib.Core.Path.{_≡_, refl, sym, ap, ap₂, subst, _∙_}
+use mathlib.Core.Logic.{_↔_, inr, ⊎-elim}
+use mathlib.Core.Bool.{Bool, _&&_}
+use mathlib.Core.List.{List, [], _∷_, map, List·Memᴰ·head, List·Memᴰ·tail, Memᴰ·map, Memᴰ·of-map}
+use mathlib.Core.Option.{some, Option·some-injective}
+use Prim.Native.Nat.{ℕ, zero, suc, _+_, _-_, _/_, _^_, _≤_, _<_}
+use native.Mathlib.Omega.{arith}
+use lib.Dec.{T}
+use lib.ListN.{length, getElem?}
+use Rattle.theory.specs.Query.{Line, Query, _∈_, NoClash}
+use Rattle.theory.specs.Archive.{AllFit, Determines}
+use Rattle.theory.specs.Cover.{Covers}
+use Rattle.theory.specs.Executable.Test.{all, any}
+use Rattle.theory.specs.Executable.Cover.{covers}
+use Rattle.theory.specs.Executable.Reduce.{reduce}
+use Rattle.theory.specs.Executable.Show.{show}
+use Rattle.theory.specs.Executable.Label.{viewBits, label, labels, settles}
+use Rattle.theory.proofs.Lists.{none≢some, below-place}
+use Rattle.theory.proofs.Executable.Test.{same-test, any-iff}
+use Rattle.theory.proofs.Executable.Cover.{covers-iff}
+use Rattle.theory.proofs.Executable.Label.{viewBits-bit}
+use Rattle.theory.proofs.Determine.{settles-iff-determines}
+use Rattle.words.specs.Bits.{bit, meet}
+use Rattle.words.proofs.Bits.{bit-zero}
+use Rattle.words.proofs.Parts.{high-part}
+use Rattle.words.proofs.Tests.{meet-iff}
+use Rattle.model.specs.Limits.{mostTables, mostViews}
+use Rattle.policy.specs.Text.{Declared}
+use Rattle.policy.specs.Value.{WellFormed, GoodPartition}
+use Rattle.policy.specs.Policy.{viewsAfter}
+use Rattle.policy.proofs.PartitionWords.{after-bit, good-below}
+use Rattle.label.proofs.Answers.{true-holds, holds-true}
+use Rattle.reduce.specs.Agree.{lineAt}
+use Rattle.labels.specs.Settled.{holdsOne, settled, granted}
+use Rattle.labels.proofs.Lines.{shown-fits}
+
+-- ---- tests on lists
+
+all-map : {X Y : Type 0} (f : Y → Bool) (g : X → Y) (l : List X) → all f (map g l) ≡ all (λ x. f (g x)) l
+unfolding all
+all-map f g [] = refl
+all-map f g (x ∷ l) = ap (λ (b : Bool). f (g x) && b) (all-map f g l)
+
+all-same : {X : Type 0} (f g : X → Bool) (l : List X) → ((x : X) → x ∈ l → f x ≡ g x) → all f l ≡ all g l
+unfolding all
+all-same f g [] h = refl
+all-same f g (x ∷ l) h = ap₂ (λ (a b : Bool). a && b) (h x (List·Memᴰ·head refl)) (all-same f g l (λ y m. h y (List·Memᴰ·tail m)))
+
+-- the line at a place
+line-there : (views : List Line) (k : ℕ) {v : Line} → getElem? views k ≡ some v → lineAt views k ≡ v
+unfolding lineAt
+line-there [] k e = absurd (none≢some e)
+line-there (w ∷ views) zero {v} e = Option·some-injective w v e
+line-there (w ∷ views) (suc k) e = line-there views k e
+
+-- ---- one label
+
+module _ (views : List Line) (vs : List ℕ) (few : length views ≤ 32) (good : GoodPartition (length views) vs) (A : Line) (small : A .table < 2 ^ 32) where
+  listed : (v : ℕ) → 1 ≤ v → (bit (viewsAfter 0 vs) (v - 1) ≡ 1) ↔ (v ∈ vs)
+  listed v h =
+      let b = after-bit 0 vs (λ w m. good-below (length views) vs good w m .0) v h in (
+        λ e. ⊎-elim (λ z. absurd (omega (arith, z, bit-zero (v - 1)))) (λ m. m) (b .0 e),
+        λ m. b .1 (inr m),
+      )
+
+  high : label views A / 2 ^ 32 ≡ viewBits views A
+  unfolding label
+  high = high-part 32 (viewBits views A) small
+
+  holds-granted : meet 64 (label views A / 2 ^ 32) (viewsAfter 0 vs) ≡ any (λ v. covers v A) (granted views vs)
+  unfolding granted
+  holds-granted =
+      same-test _ _
+      (λ t.
+      let r = meet-iff 64 (label views A / 2 ^ 32) (viewsAfter 0 vs) .0 (sym (holds-true _ t)) in
+      let c = viewBits-bit views A (r .0) .0 (sym (ap (λ (w : ℕ). bit w (r .0)) high) ∙ r .2) in
+      let m = listed (r .0 + 1) (omega arith) .0 (ap (λ (k : ℕ). bit (viewsAfter 0 vs) k) (omega arith) ∙ r .3) in
+      any-iff (λ v. covers v A) (granted views vs) .1 (
+        lineAt views (r .0 + 1 - 1),
+        Memᴰ·map (λ v. lineAt views (v - 1)) m,
+        covers-iff _ A .1 (subst (λ (v : Line). Covers v A) (sym (line-there views (r .0 + 1 - 1) (ap (getElem? views) (omega arith) ∙ c .1))) (c .2)),
+      ))
+      (λ t.
+      let r = any-iff (λ v. covers v A) (granted views vs) .0 t in
+      let w = Memᴰ·of-map (λ v. lineAt views (v - 1)) vs (r .1) in
+      let b = good-below (length views) vs good (w .0) (w .1) in
+      let p = below-place views (w .0 - 1) (omega (arith, b .0, b .1)) in
+      let e = line-there views (w .0 - 1) (p .1) in
+      true-holds (meet-iff 64 (label views A / 2 ^ 32) (viewsAfter 0 vs) .1 (
+        w .0 - 1,
+        omega (arith, b .1, few),
+        ap (λ (x : ℕ). bit x (w .0 - 1)) high
+            ∙ viewBits-bit views A (w .0 - 1) .1 (p .0, p .1, subst (λ (v : Line). Covers v A) (sym (w .2) ∙ e) (covers-iff (r .0) A .0 (r .2))),
+        listed (w .0) (b .0) .1 (w .1),
+      )))
+
+-- ---- all labels
+
+module _ (d : Declared) (good : WellFormed d) (vs : List ℕ) (partition : GoodPartition (length (d .views)) vs) (Q : Query) (fits : AllFit (d .widths) Q) where
+  pub settled-settles : settled (viewsAfter 0 vs) (labels (d .views) Q) ≡ settles (granted (d .views) vs) Q
+  unfolding settled holdsOne labels settles mostTables mostViews
+  settled-settles =
+      all-map (λ w. meet 64 (w / 2 ^ 32) (viewsAfter 0 vs)) (label (d .views)) (show (reduce Q))
+      ∙ all-same (λ A. meet 64 (label (d .views) A / 2 ^ 32) (viewsAfter 0 vs)) (λ A. any (λ v. covers v A) (granted (d .views) vs)) (show (reduce Q))
+      (λ A m.
+      let f = shown-fits (d .widths) Q fits A m in
+      holds-granted (d .views) vs (good .views .few) partition A (omega (arith, f .last, good .tables .few)))
+
+  -- "A partition determines a query …": any two archives that agree on its views agree on the query
+  pub settled-iff-determines : NoClash Q → T (settled (viewsAfter 0 vs) (labels (d .views) Q)) ↔ Determines (d .widths) (granted (d .views) vs) Q
+  settled-iff-determines clear =
+      let s = settles-iff-determines (d .widths) (granted (d .views) vs) Q clear fits in
+      (λ t. s .0 (subst T settled-settles t), λ p. subst T (sym settled-settles) (s .1 p))
