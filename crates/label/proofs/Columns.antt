@@ -19,7 +19,7 @@ use Rattle.model.specs.Value.{unusedTerm, termValue, lineValue}
 use Rattle.model.specs.declared.Line.{Line}
 use Rattle.model.proofs.Pad.{pad-get}
 use Rattle.model.proofs.Terms.{terms-few}
-use Rattle.label.proofs.Answers.{true-holds, holds-true, fails-false}
+use Rattle.words.proofs.Answers.{true-holds, holds-true, fails-false}
 
 -- a value holds a line of n columns
 pub record Wide (n : ℕ) (v : Line) (view : TheLine) : Type 0 where

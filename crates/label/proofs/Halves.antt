@@ -7,7 +7,7 @@ use borrow.Author.Tests.{eq-eqb, ne-eqb}
 use Rattle.words.specs.Bits.{include}
 use Rattle.words.proofs.Tests.{include-iff}
 use Rattle.label.specs.Order.{atOrBelow}
-use Rattle.label.proofs.Answers.{same-answer}
+use Rattle.words.proofs.Answers.{same-answer}
 use Rattle.label.proofs.Words.{bit-within}
 
 -- to include a word of w bits, only the bits below w matter

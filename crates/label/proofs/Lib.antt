@@ -1,11 +1,9 @@
 -- General facts.
-pub mod Answers
 pub mod Words
 -- Covering.
 pub mod Rules
 pub mod Columns
 -- Labels.
-pub mod Walk
 pub mod Views
 -- The order of labels.
 pub mod Halves

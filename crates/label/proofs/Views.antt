@@ -21,9 +21,9 @@ use Rattle.model.specs.Value.{pad, unusedLine, lineValue}
 use Rattle.model.specs.declared.Line.{Line}
 use Rattle.model.specs.declared.Policy.{Policy}
 use Rattle.label.specs.Labelled.{Holds, OfTable, Labelled}
-use Rattle.label.proofs.Answers.{true-holds, holds-true}
+use Rattle.words.proofs.Answers.{true-holds, holds-true}
+use Rattle.words.proofs.Marks.{Upto, upto-set, Picked, picked-all}
 use Rattle.label.proofs.Words.{same-bits}
-use Rattle.label.proofs.Walk.{Built, Walked, walked-done}
 
 -- what the code reads behind the views' end
 abbrev pub noLine : Line
@@ -58,17 +58,15 @@ module _ {p : Policy} {views : List TheLine} (h : Holds p views) where
 
   -- the views of a table, once each place was looked at
   pub table-done : (table word k : ℕ) → 1 ≤ table → 32 ≤ k
-      → Built (λ j. j < k) (λ j. getD (p .views) j noLine .table ≡ table) word → OfTable views table word
+      → Upto (λ j. getD (p .views) j noLine .table ≡ table) k word → OfTable views table word
   unfolding pad lineValue
   table-done table word k first all built j = (
     λ e.
         view-there views (32 - length (map lineValue views)) j table first
-        (sym (ap (λ l. getD l j noLine .table) (h .is)) ∙ built j .0 e .1),
+        (sym (ap (λ l. getD l j noLine .table) (h .is)) ∙ upto-set built j e),
     λ r.
-        built j .1 (
-          omega (arith, place-below views j (r .1), h .few),
-          ap (λ (x : Line). x .table) (view-value j (r .0) (r .1)) ∙ r .2,
-        ),
+        built .below j (omega (arith, place-below views j (r .1), h .few)) .1
+        (ap (λ (x : Line). x .table) (view-value j (r .0) (r .1)) ∙ r .2),
   )
 
 -- ---- the label
@@ -98,15 +96,17 @@ module _ {p : Policy} {mask width : ℕ} {a : Line} {views : List TheLine} {A : 
             (subst (λ (w : TheLine). Covers w A) (Option·some-injective (s .0) v (sym (s .1) ∙ r .1)) (s .2)))),
       )
 
-  views-word : (left word : ℕ) → left ≡ 0 → word < 2 ^ 32 → Walked (Covering views A) mask left word → word ≡ viewBits views A
+  views-word : (left word : ℕ) → left ≡ 0 → word < 2 ^ 32 → Picked (Covering views A) mask left word → word ≡ viewBits views A
   views-word left word none small w =
-      let covered = walked-done (Covering views A) mask left word none w (λ j r. l .bits j .1 (r .0, r .1, r .2 .table)) in
+      let seen = picked-all (subst (λ (k : ℕ). Picked (Covering views A) mask k word) none w) in
+      let covered : (k : ℕ) → (bit word k ≡ 1) ↔ Covering views A k =
+      λ k. (λ e. seen k .0 e .1, λ r. seen k .1 (l .bits k .1 (r .0, r .1, r .2 .table), r)) in
       same-bits 32 word (viewBits views A) small
       (lt-of-lt-of-le (viewBits-below views A) (pow-mono (l .held .few)))
       (λ k.
       let v = viewBits-bit views A k in (λ e. v .1 (covered k .0 e), λ e. covered k .1 (v .0 e)))
 
-  pub labelled : (left word : ℕ) → left ≡ 0 → word < 2 ^ 32 → Walked (Covering views A) mask left word
+  pub labelled : (left word : ℕ) → left ≡ 0 → word < 2 ^ 32 → Picked (Covering views A) mask left word
       → a .table + 2 ^ 32 * word ≡ label views A
   unfolding label lineValue
   labelled left word none small w =

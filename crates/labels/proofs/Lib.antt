@@ -1,3 +1,5 @@
+-- The labels of a query, one by one, and the test of a partition.
 pub mod Lines
 pub mod Words
+-- What the test means.
 pub mod Partitions

@@ -30,7 +30,7 @@ use Rattle.policy.specs.Text.{Declared}
 use Rattle.policy.specs.Value.{WellFormed, GoodPartition}
 use Rattle.policy.specs.Policy.{viewsAfter}
 use Rattle.policy.proofs.PartitionWords.{after-bit, good-below}
-use Rattle.label.proofs.Answers.{true-holds, holds-true}
+use Rattle.words.proofs.Answers.{true-holds, holds-true}
 use Rattle.reduce.specs.Agree.{lineAt}
 use Rattle.labels.specs.Settled.{holdsOne, settled, granted}
 use Rattle.labels.proofs.Lines.{shown-fits}

@@ -1,10 +1,11 @@
 -- A policy value with one entry more.
 pub mod More
--- What a line is turned back by.
+-- What turns a line of each block back, and what it declares.
 pub mod Lines
 pub mod TableFaults
+pub mod ViewFaults
+pub mod PartitionFaults
+-- The walk over the lines, block by block.
 pub mod Blocks
 pub mod Walk
 pub mod Start
-pub mod PartitionFaults
-pub mod ViewFaults

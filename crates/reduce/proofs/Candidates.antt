@@ -16,7 +16,7 @@ use Rattle.words.proofs.Bits.{bit-zero}
 use Rattle.words.proofs.Masks.{bit-or-iff}
 use Rattle.reduce.specs.Agree.{agree, lineAt}
 use Rattle.reduce.specs.Going.{Candidate, Targets, Candidates}
-use Rattle.reduce.proofs.Marks.{Upto, upto-none, upto-more, upto-all}
+use Rattle.words.proofs.Marks.{Upto, upto-none, upto-more, upto-all}
 
 not-iff : (j k : ℕ) → T (not (eqb j k)) ↔ (j ≢ k)
 not-iff j k = go (eqb j k) (λ t. eqb-yes t, λ e. yes-eqb e)

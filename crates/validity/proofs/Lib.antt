@@ -1,5 +1,4 @@
 -- General facts.
-pub mod Answers
 pub mod Lists
 -- Values with unused entries behind them, place by place.
 pub mod Held

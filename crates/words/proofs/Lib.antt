@@ -6,3 +6,6 @@ pub mod SetBits
 pub mod Lowest
 pub mod Tests
 pub mod Counts
+-- Words built bit by bit by tests, and what a test's answer says.
+pub mod Answers
+pub mod Marks

@@ -4,8 +4,9 @@ use Prim.Native.Nat.{_^_, _<_}
 use native.Mathlib.Omega.{arith}
 use Rattle.theory.specs.Query.{Line as TheLine}
 use Rattle.label.specs.Labelled.{Labelled}
+use Rattle.words.proofs.Answers.{true-iff}
+use Rattle.words.proofs.Marks.{Picked, picked-none, picked-more}
 use Rattle.label.proofs.Words.{bit-within, set-where-below}
-use Rattle.label.proofs.Walk.{Walked, walked-none, walked-more}
 use Rattle.label.proofs.Views.{Covering, answered, labelled}
 use Rattle.label.proofs.label_line.Statement.{statement}
 use Rattle.label.proofs.label_line.Tie as tie
@@ -14,13 +15,13 @@ abbrev Inv-loop : tie.InvT-loop
 Inv-loop mask width a p word₀ left₀ word left =
     (left < 2 ^ 32)
     × (word < 2 ^ 32)
-    × ((views : List TheLine) (A : TheLine) → Labelled p mask width a views A → Walked (Covering views A) mask left word)
+    × ((views : List TheLine) (A : TheLine) → Labelled p mask width a views A → Picked (Covering views A) mask left word)
 
 abbrev μ-loop : tie.MeasureT-loop
 μ-loop mask width a p word₀ left₀ word left = left
 
 loop-holds : tie.Need-loop-holds Inv-loop μ-loop
-loop-holds c = (c .pre .0, omega arith, λ views A l. walked-none (Covering views A) _)
+loop-holds c = (c .pre .0, omega arith, λ views A l. picked-none)
 
 least-requires : tie.Need-least-requires Inv-loop μ-loop
 least-requires c κs = omega arith
@@ -57,10 +58,9 @@ loop-again c =
       λ views A l.
           let w = at .inv .2 views A l in
           let k = found .least in
-          rw (c .before .with-view .ensures)
-          (walked-more (Covering views A) _ (at .left) (at .word) (k .result) _ w (k .ensures) (c .drop-least .ensures)
-          (answer .result)
-          (answered l (k .result) (answer .result) (w .inside (k .result) (k .ensures .set)) (answer .ensures))),
+          picked-more (answer .result) _ w (k .ensures) (c .drop-least .ensures)
+          (true-iff (answered l (k .result) (answer .result) (w .some (k .result) (k .ensures .set)) (answer .ensures)))
+          (c .before .with-view .ensures),
     )
 
 join-requires : tie.Need-join-requires Inv-loop μ-loop

@@ -4,21 +4,22 @@ use native.Mathlib.Omega.{arith}
 use borrow.Author.Tests.{eqb-true, eq-eqb}
 use lib.Dec.{eqb}
 use lib.ListN.{getD}
+use Rattle.words.proofs.Answers.{true-iff}
+use Rattle.words.proofs.Marks.{Upto, upto-none, upto-more}
 use Rattle.label.proofs.Words.{set-where-below}
-use Rattle.label.proofs.Walk.{Built, range-none, range-more}
 use Rattle.label.proofs.Views.{noLine, table-done}
 use Rattle.label.proofs.table_views.Statement.{statement}
 use Rattle.label.proofs.table_views.Tie as tie
 
 abbrev Inv-loop : tie.InvT-loop
 Inv-loop table p word₀ k₀ word k =
-    (k ≤ 32) × (word < 2 ^ 32) × Built (λ j. j < k) (λ j. getD (p .views) j noLine .table ≡ table) word
+    (k ≤ 32) × (word < 2 ^ 32) × Upto (λ j. getD (p .views) j noLine .table ≡ table) k word
 
 abbrev μ-loop : tie.MeasureT-loop
 μ-loop table p word₀ k₀ word k = 32 - k
 
 loop-holds : tie.Need-loop-holds Inv-loop μ-loop
-loop-holds c = (omega arith, omega arith, range-none _)
+loop-holds c = (omega arith, omega arith, upto-none 0 (λ b l. absurd (omega arith)))
 
 mul-v : tie.Need-mul-v Inv-loop μ-loop
 mul-v c = omega arith
@@ -43,7 +44,7 @@ loop-again c =
       omega arith,
       rw (c .with-view .ensures) (set-where-below 32 (at .word) (at .k) passes (at .inv .1) (omega arith)),
       rw (c .with-view .ensures)
-          (range-more _ (at .word) (at .k) (at .inv .2) passes (λ e. eqb-true _ _ e, λ e. eq-eqb _ _ e)),
+          (upto-more passes (at .inv .2) (true-iff (λ e. eqb-true _ _ e, λ e. eq-eqb _ _ e))),
     )
 
 returns : tie.Need-returns Inv-loop μ-loop

@@ -1,4 +1,4 @@
-use Rattle.validity.proofs.Answers.{no-iff}
+use Rattle.words.proofs.Answers.{no-iff}
 use Rattle.validity.proofs.Terms.{constant-iff, variable-large, shown-iff, hidden-iff}
 use Rattle.validity.proofs.good_term.Statement.{statement}
 use Rattle.validity.proofs.good_term.Tie as tie

@@ -5,7 +5,7 @@ use borrow.Author.Count.{below-none, below-more}
 use borrow.Author.Needs.{needs}
 use lib.ListN.{getD}
 use Rattle.model.specs.Value.{unusedTerm}
-use Rattle.validity.proofs.Answers.{yes-iff, no-iff, passes, fails}
+use Rattle.words.proofs.Answers.{yes-iff, no-iff, passes, fails}
 use Rattle.validity.proofs.Lists.{mapped-length}
 use Rattle.validity.proofs.Lines.{unused-table, unused-terms, unused-line}
 use Rattle.validity.proofs.unused_line.Statement.{statement}

@@ -1,5 +1,5 @@
 use mathlib.Core.Logic.{Iff·trans}
-use Rattle.validity.proofs.Answers.{no-iff, passes, fails}
+use Rattle.words.proofs.Answers.{no-iff, passes, fails}
 use Rattle.validity.proofs.Views.{tables-few, views-checked}
 use Rattle.validity.proofs.Loadable.{loadable-parts, parts-loadable}
 use Rattle.validity.proofs.valid.Statement.{statement}

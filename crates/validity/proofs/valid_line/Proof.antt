@@ -1,7 +1,7 @@
 use mathlib.Core.Logic.{Iff·trans}
 use native.Mathlib.Omega.{arith}
 use borrow.Author.Needs.{needs}
-use Rattle.validity.proofs.Answers.{no-iff}
+use Rattle.words.proofs.Answers.{no-iff}
 use Rattle.validity.proofs.Views.{view-table, width-within, terms-iff}
 use Rattle.validity.proofs.valid_line.Statement.{statement}
 use Rattle.validity.proofs.valid_line.Tie as tie

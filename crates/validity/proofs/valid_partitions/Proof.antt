@@ -5,7 +5,7 @@ use borrow.Author.Needs.{needs}
 use lib.Dec.{ltb}
 use lib.ListN.{getD}
 use Rattle.validity.specs.Parts.{PartitionPlace}
-use Rattle.validity.proofs.Answers.{yes-iff, no-iff, passes, fails}
+use Rattle.words.proofs.Answers.{yes-iff, no-iff, passes, fails}
 use Rattle.validity.proofs.Partitions.{partitions-checked, checked-partitions}
 use Rattle.validity.proofs.valid_partitions.Statement.{statement}
 use Rattle.validity.proofs.valid_partitions.Tie as tie

@@ -6,7 +6,7 @@ use lib.Dec.{ltb}
 use lib.ListN.{getD}
 use Rattle.validity.specs.Parts.{WidthPlace}
 use Rattle.validity.proofs.Tables.{tables-checked, checked-tables}
-use Rattle.validity.proofs.Answers.{yes-iff, no-iff, passes, fails}
+use Rattle.words.proofs.Answers.{yes-iff, no-iff, passes, fails}
 use Rattle.validity.proofs.valid_tables.Statement.{statement}
 use Rattle.validity.proofs.valid_tables.Tie as tie
 

@@ -5,7 +5,7 @@ use lib.Dec.{ltb}
 use lib.ListN.{getD}
 use Rattle.model.specs.Value.{unusedTerm}
 use Rattle.validity.specs.Parts.{TermPlace}
-use Rattle.validity.proofs.Answers.{no-iff, passes, fails}
+use Rattle.words.proofs.Answers.{no-iff, passes, fails}
 use Rattle.validity.proofs.Lists.{mapped-length}
 use Rattle.validity.proofs.Columns.{Looked, looked-none, looked-more, looked-done, terms-place, variable-small}
 use Rattle.validity.proofs.valid_terms.Statement.{statement}

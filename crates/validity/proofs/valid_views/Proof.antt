@@ -6,7 +6,7 @@ use borrow.Author.Needs.{needs}
 use lib.Dec.{ltb}
 use lib.ListN.{getD}
 use Rattle.validity.specs.Parts.{TablesOf, ViewPlace}
-use Rattle.validity.proofs.Answers.{yes-iff, no-iff, passes, fails}
+use Rattle.words.proofs.Answers.{yes-iff, no-iff, passes, fails}
 use Rattle.validity.proofs.Lists.{mapped-length}
 use Rattle.validity.proofs.Views.{noLine, views-checked, checked-views}
 use Rattle.validity.proofs.valid_views.Statement.{statement}

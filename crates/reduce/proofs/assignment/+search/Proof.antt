@@ -4,7 +4,7 @@ use borrow.Author.Tests.{not-true}
 use Prim.Native.Nat.{_-_, ℕ, _<_}
 use native.Mathlib.Omega.{arith}
 use borrow.Author.Needs.{needs}
-use Rattle.reduce.proofs.Answers.{yes-iff, no-iff}
+use Rattle.words.proofs.Answers.{yes-iff, no-iff}
 use Rattle.reduce.proofs.Rows.{Tried, extends-none, extends-join, empty-none, tried-none, tried-more, tried-all, least-small}
 use borrow.Fn.Kinds.{In}
 use borrow.Fn.PlainCycle.{Measures, is, falls, and}

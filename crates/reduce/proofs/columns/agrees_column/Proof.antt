@@ -1,4 +1,4 @@
-use Rattle.reduce.proofs.Answers.{failing, passing}
+use Rattle.words.proofs.Answers.{failing, passing}
 use Prim.Native.Nat.{ℕ, _-_, _≤_, _<_}
 use native.Mathlib.Omega.{arith}
 use mathlib.Core.Path.{_≡_, sym}

@@ -1,4 +1,4 @@
-use Rattle.reduce.proofs.Answers.{failing, passing}
+use Rattle.words.proofs.Answers.{failing, passing}
 use borrow.Author.Needs.{needs}
 use Rattle.reduce.proofs.Pairs.{agree-value}
 use Rattle.reduce.proofs.columns.compatible.Statement.{statement}

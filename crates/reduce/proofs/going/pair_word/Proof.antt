@@ -6,7 +6,7 @@ use Rattle.words.specs.Bits.{bit}
 use Rattle.reduce.specs.Agree.{lineAt}
 use Rattle.reduce.specs.Going.{Held, Within}
 use Rattle.reduce.proofs.Lines.{held-line, held-few}
-use Rattle.reduce.proofs.Marks.{Picked, picked-none, picked-more, picked-all, by-test}
+use Rattle.words.proofs.Marks.{Picked, picked-none, picked-more, picked-all, by-test}
 use Rattle.reduce.proofs.Candidates.{Joined}
 use Rattle.reduce.proofs.going.pair_word.Statement.{statement}
 use Rattle.reduce.proofs.going.pair_word.Tie as tie

@@ -2,7 +2,7 @@ use mathlib.Core.Path.{refl}
 use native.Mathlib.Omega.{arith}
 use Rattle.theory.specs.Query.{Query}
 use Rattle.reduce.specs.Going.{Held, Within, PairWord}
-use Rattle.reduce.proofs.Marks.{Filled, filled-none, filled-more, filled-all}
+use Rattle.words.proofs.Marks.{Filled, filled-none, filled-more, filled-all}
 use Rattle.reduce.proofs.going.pair_words.Statement.{statement}
 use Rattle.reduce.proofs.going.pair_words.Tie as tie
 

@@ -1,6 +1,6 @@
 use mathlib.Core.Path.{_≡_}
 use Rattle.reduce.specs.Agree.{lineAt}
-use Rattle.reduce.proofs.Marks.{by-test, Upto}
+use Rattle.words.proofs.Marks.{by-test, Upto}
 use Prim.Native.Nat.{_+_, _*_, _-_, _≤_, _<_}
 use native.Mathlib.Omega.{arith}
 use lib.ListN.{length}

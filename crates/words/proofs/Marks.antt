@@ -46,6 +46,13 @@ module _ {P : ℕ → Type 0} where
       go b l (yes e) = subst (λ (k : ℕ). (bit (cond on (setBit m p) m) k ≡ 1) ↔ P k) (sym e) (put-same m p on w (u .past p (omega arith)))
       go b l (no f) = let o = put-other m p on b f in
           let r = u .below b (omega arith) in (λ e. r .0 (sym o ∙ e), λ h. o ∙ r .1 h)
+
+  pub upto-set : {p m : ℕ} → Upto P p m → (b : ℕ) → bit m b ≡ 1 → P b
+  upto-set {p} {m} u b e = go (decLt b p)
+    where
+      go : Dec (b < p) → P b
+      go (yes l) = u .below b l .0 e
+      go (no n) = absurd (omega (arith, e, u .past b (omega arith)))
 
   pub upto-all : {p m : ℕ} → Upto P p m → ((b : ℕ) → p ≤ b → P b → ⊥) → (b : ℕ) → (bit m b ≡ 1) ↔ P b
   upto-all {p} {m} u f b = go (decLt b p)
