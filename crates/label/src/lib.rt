@@ -1,7 +1,7 @@
 // Which views cover a line, the line's label, and the order of labels.
 
 ghost use mathlib.Core.Path.{_≡_};
-ghost use mathlib.Core.Bool.{cond, not, _||_};
+ghost use mathlib.Core.Bool.{not, _||_};
 ghost use mathlib.Core.List.{List};
 ghost use Prim.Native.Nat.{_^_, _≤_, _<_};
 ghost use lib.ListN.{length};
@@ -9,7 +9,6 @@ ghost use Rattle.theory.specs.Query.{Term as TheTerm, Line as TheLine};
 ghost use Rattle.theory.specs.Executable.Test.{same as sameTerm};
 ghost use Rattle.theory.specs.Executable.Cover.{obeys as obeysRules, covers as coversLine};
 ghost use Rattle.theory.specs.Executable.Label.{label};
-ghost use Rattle.words.specs.Bits.{setBit};
 ghost use Rattle.model.specs.Value.{termValue, lineValue};
 ghost use Rattle.label.specs.Labelled.{TableViews, Labelled};
 ghost use Rattle.label.specs.Order.{atOrBelow};
@@ -78,17 +77,6 @@ pub fn covers(width: usize, v: Line, a: Line) -> bool
 
 // ---- labels
 
-// The word with bit `k` set, where the test passes.
-fn with_view(word: u64, k: u64, passes: bool) -> u64
-    requires { ⌜ k < 64 ⌝ }
-    ensures { λ r. ⌜ r ≡ cond passes (setBit word k) word ⌝ }
-{
-    if passes {
-        return words::set_bit(word, k);
-    }
-    word
-}
-
 // The views of a table, view n at bit n - 1.
 pub fn table_views(p: Policy, table: u64) -> u64
     ensures { λ r. ⌜ TableViews p table r ⌝ }
@@ -97,7 +85,7 @@ pub fn table_views(p: Policy, table: u64) -> u64
     let mut k = 0;
     while k < 32 {
         let v = p.views[k];
-        word = with_view(word, k as u64, v.table == table);
+        word = words::set_bit_if(word, k as u64, v.table == table);
         k += 1;
     }
     word
@@ -114,7 +102,7 @@ pub fn label_line(p: Policy, mask: u64, width: usize, a: Line) -> u64
         let k = words::least(left);
         let at = k as usize;
         let v = p.views[at];
-        word = with_view(word, k, covers(width, v, a));
+        word = words::set_bit_if(word, k, covers(width, v, a));
         left = words::drop_least(left);
     }
     words::join(a.table, word)

@@ -1,30 +1,19 @@
 // Whether a line may go.
 
 ghost use mathlib.Core.Path.{_≡_};
-ghost use mathlib.Core.Bool.{cond, not, _&&_};
+ghost use mathlib.Core.Bool.{not, _&&_};
 ghost use Prim.Native.Nat.{_≤_, _<_};
 ghost use lib.ListN.{length};
 ghost use Rattle.theory.specs.Query.{Line as TheLine, Query as TheQuery};
 ghost use Rattle.theory.specs.Executable.Reduce.{mayGo};
 ghost use Rattle.model.specs.Value.{lineValue};
 ghost use Rattle.reduce.specs.Agree.{agree};
-ghost use Rattle.words.specs.Bits.{bit, setBit};
+ghost use Rattle.words.specs.Bits.{bit};
 ghost use Rattle.reduce.specs.Going.{Held, Within, Targets, Candidates, PairWord, PairWords};
 use crate::assignment::search;
 use crate::columns::compatible;
 use model::Line;
 use model::Query;
-
-// The word with bit b set, if wanted.
-fn with_bit(m: u64, b: usize, on: bool) -> u64
-    requires { ⌜ b < 64 ⌝ }
-    ensures { λ r. ⌜ r ≡ cond on (setBit m b) m ⌝ }
-{
-    if on {
-        return words::set_bit(m, b as u64);
-    }
-    m
-}
 
 // The pairs of line i with a target that it can go to, any line but `skip`.
 fn targets(q: Query, skip: usize, i: usize) -> u64
@@ -38,7 +27,7 @@ fn targets(q: Query, skip: usize, i: usize) -> u64
     while j < n {
         let s = q.lines[j];
         let on = can_take(j == skip, a, s);
-        m = with_bit(m, i * 8 + j, on);
+        m = words::set_bit_if(m, (i * 8 + j) as u64, on);
         j += 1;
     }
     m
@@ -82,7 +71,7 @@ fn pair_word(q: Query, candidates: u64, p: usize) -> u64
         let x = q.lines[b / 8];
         let y = q.lines[b % 8];
         let on = compatible(a, s, x, y);
-        w = with_bit(w, b, on);
+        w = words::set_bit_if(w, b as u64, on);
         rest = words::drop_least(rest);
     }
     w

@@ -1,6 +1,7 @@
 // Words of 64 bits as sets of small numbers, and as two halves.
 
 ghost use mathlib.Core.Path.{_≡_};
+ghost use mathlib.Core.Bool.{cond};
 ghost use Prim.Native.Nat.{_+_, _*_, _/_, _%_, _^_, _<_};
 ghost use Rattle.words.specs.Bits.{isSet, setBit, meet, include, onesBelow, Least, LeastDropped};
 
@@ -10,6 +11,17 @@ pub fn set_bit(m: u64, k: u64) -> u64
     ensures { λ r. ⌜ r ≡ setBit m k ⌝ }
 {
     m | (1 << k)
+}
+
+// The word with bit `k` set, where a test passes.
+pub fn set_bit_if(m: u64, k: u64, passes: bool) -> u64
+    requires { ⌜ k < 64 ⌝ }
+    ensures { λ r. ⌜ r ≡ cond passes (setBit m k) m ⌝ }
+{
+    if passes {
+        return set_bit(m, k);
+    }
+    m
 }
 
 // Whether bit `k` is set.

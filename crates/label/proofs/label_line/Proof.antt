@@ -39,8 +39,8 @@ element-copy-out-v c = omega (arith, small c)
 covers-requires : tie.Need-covers-requires Inv-loop μ-loop
 covers-requires c κs = c .before .before .before .before .pre .1
 
-with-view-requires : tie.Need-with-view-requires Inv-loop μ-loop
-with-view-requires c κs = omega (arith, small (c .before .before))
+set-bit-if-requires : tie.Need-set-bit-if-requires Inv-loop μ-loop
+set-bit-if-requires c κs = omega (arith, small (c .before .before))
 
 drop-least-requires : tie.Need-drop-least-requires Inv-loop μ-loop
 drop-least-requires c κs = omega arith
@@ -54,13 +54,13 @@ loop-again c =
     let found = c .before .before .before .before in
     let answer = c .before .before .covers in (
       omega (arith, c .drop-least .ensures .less),
-      rw (c .before .with-view .ensures) (set-where-below 32 (at .word) _ (answer .result) (at .inv .1) (small found)),
+      rw (c .before .set-bit-if .ensures) (set-where-below 32 (at .word) _ (answer .result) (at .inv .1) (small found)),
       λ views A l.
           let w = at .inv .2 views A l in
           let k = found .least in
           picked-more (answer .result) _ w (k .ensures) (c .drop-least .ensures)
           (true-iff (answered l (k .result) (answer .result) (w .some (k .result) (k .ensures .set)) (answer .ensures)))
-          (c .before .with-view .ensures),
+          (c .before .set-bit-if .ensures),
     )
 
 join-requires : tie.Need-join-requires Inv-loop μ-loop
@@ -82,7 +82,7 @@ label-line-spec =
     mul-v
     element-copy-out-v
     covers-requires
-    with-view-requires
+    set-bit-if-requires
     drop-least-requires
     loop-less
     loop-again

@@ -27,8 +27,8 @@ mul-v c = omega arith
 element-copy-out-v : tie.Need-element-copy-out-v Inv-loop μ-loop
 element-copy-out-v c = omega arith
 
-with-view-requires : tie.Need-with-view-requires Inv-loop μ-loop
-with-view-requires c κs = omega arith
+set-bit-if-requires : tie.Need-set-bit-if-requires Inv-loop μ-loop
+set-bit-if-requires c κs = omega arith
 
 add-k : tie.Need-add-k Inv-loop μ-loop
 add-k c = omega arith
@@ -42,8 +42,8 @@ loop-again c =
     let args = c .before .before .before .before .before .args in
     let passes = eqb (getD (args .t1 .views) (at .k) noLine .table) (args .table) in (
       omega arith,
-      rw (c .with-view .ensures) (set-where-below 32 (at .word) (at .k) passes (at .inv .1) (omega arith)),
-      rw (c .with-view .ensures)
+      rw (c .set-bit-if .ensures) (set-where-below 32 (at .word) (at .k) passes (at .inv .1) (omega arith)),
+      rw (c .set-bit-if .ensures)
           (upto-more passes (at .inv .2) (true-iff (λ e. eqb-true _ _ e, λ e. eq-eqb _ _ e))),
     )
 
@@ -61,7 +61,7 @@ table-views-spec =
     loop-holds
     mul-v
     element-copy-out-v
-    with-view-requires
+    set-bit-if-requires
     add-k
     loop-less
     loop-again

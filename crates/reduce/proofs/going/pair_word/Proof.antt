@@ -50,8 +50,8 @@ element-copy-out-y c = omega arith
 compatible-requires : tie.Need-compatible-requires Inv-loop μ-loop
 compatible-requires c κs = tt
 
-with-bit-requires : tie.Need-with-bit-requires Inv-loop μ-loop
-with-bit-requires c κs = c .before .before .before .least .ensures .below
+set-bit-if-requires : tie.Need-set-bit-if-requires Inv-loop μ-loop
+set-bit-if-requires c κs = c .before .before .before .least .ensures .below
 
 drop-least-requires : tie.Need-drop-least-requires Inv-loop μ-loop
 drop-least-requires c κs = omega arith
@@ -66,13 +66,13 @@ loop-again c = λ Q held within h.
     let inv = c .before .before .before .before .before .before .before .loop .inv Q held within h in
     let f = within p h in
     let g = within b (inv .some b (c .before .before .before .before .before .least .ensures .set)) in
-    picked-more (c .before .before .compatible .result) (c .before .with-bit .result) inv (c .before .before .before .before .before .least .ensures) (c .drop-least .ensures)
+    picked-more (c .before .before .compatible .result) (c .before .set-bit-if .result) inv (c .before .before .before .before .before .least .ensures) (c .drop-least .ensures)
     (by-test
     (c .before .before .compatible .ensures (lineAt Q (p / 8)) (lineAt Q (p % 8)) (lineAt Q (b / 8)) (lineAt Q (b % 8))
     (held-line held (p / 8) _ (f .0)) (held-line held (p % 8) _ (f .1)) (held-line held (b / 8) _ (g .0)) (held-line held (b % 8) _ (g .1))
     (held-few held (p / 8) (f .0)) (held-few held (p % 8) (f .1)) (held-few held (b / 8) (g .0)) (held-few held (b % 8) (g .1)))
     (λ t. t, λ t. t))
-    (c .before .with-bit .ensures)
+    (c .before .set-bit-if .ensures)
 
 returns : tie.Need-returns Inv-loop μ-loop
 returns c = λ Q held within h. picked-all (rw (c .loop-test .left) at (c .before .loop .inv Q held within h))
@@ -94,7 +94,7 @@ pair-word-spec =
     mul-y
     element-copy-out-y
     compatible-requires
-    with-bit-requires
+    set-bit-if-requires
     drop-least-requires
     loop-less
     loop-again

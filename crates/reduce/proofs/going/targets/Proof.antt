@@ -35,14 +35,14 @@ element-copy-out-s c = omega arith
 can-take-requires : tie.Need-can-take-requires Inv-loop μ-loop
 can-take-requires c κs = tt
 
-mul-with-bit : tie.Need-mul-with-bit Inv-loop μ-loop
-mul-with-bit c = omega arith
+mul-set-bit-if : tie.Need-mul-set-bit-if Inv-loop μ-loop
+mul-set-bit-if c = omega arith
 
-add-with-bit : tie.Need-add-with-bit Inv-loop μ-loop
-add-with-bit c = omega arith
+add-set-bit-if : tie.Need-add-set-bit-if Inv-loop μ-loop
+add-set-bit-if c = omega arith
 
-with-bit-requires : tie.Need-with-bit-requires Inv-loop μ-loop
-with-bit-requires c κs = omega arith
+set-bit-if-requires : tie.Need-set-bit-if-requires Inv-loop μ-loop
+set-bit-if-requires c κs = omega arith
 
 add-j : tie.Need-add-j Inv-loop μ-loop
 add-j c = omega arith
@@ -57,11 +57,11 @@ loop-again c = (
       let a = c .before .before .before .before .before .before .args in
       let j = c .before .before .before .before .loop .j in
       let k : j < length Q = omega (arith, held-count held) in
-      targets-more Q (a .skip) (a .i) j (c .before .can-take .result) (c .with-bit .result) (c .before .before .before .before .loop .inv .1 Q held l)
+      targets-more Q (a .skip) (a .i) j (c .before .can-take .result) (c .set-bit-if .result) (c .before .before .before .before .loop .inv .1 Q held l)
       (by-test
       (c .before .can-take .ensures (lineAt Q (a .i)) (lineAt Q j) (held-line held (a .i) _ l) (held-line held j _ k) (held-few held (a .i) l) (held-few held j k))
       (target-test Q (a .skip) (a .i) j (omega arith) l k))
-      (c .with-bit .ensures),
+      (c .set-bit-if .ensures),
 )
 
 returns : tie.Need-returns Inv-loop μ-loop
@@ -82,9 +82,9 @@ targets-spec =
     mul-s
     element-copy-out-s
     can-take-requires
-    mul-with-bit
-    add-with-bit
-    with-bit-requires
+    mul-set-bit-if
+    add-set-bit-if
+    set-bit-if-requires
     add-j
     loop-less
     loop-again
