@@ -18,6 +18,7 @@ pub record Declared : Type 0 where
   pub views : List Line
   pub partitions : List (List ℕ)
 
+-- "it is the empty one: no table, view or partition"
 unfoldable pub nothing : Declared
 nothing = record { widths = []; views = []; partitions = [] }
 
@@ -38,6 +39,7 @@ ascend (v ∷ w ∷ l) = ltb v w && ascend (w ∷ l)
 
 -- ---- one line: what turns it back apart from its form (1), and what it declares
 
+-- "2: a number outside its limits. 3: a table, view or partition number out of turn"
 unfoldable pub tableFault : Declared → Numbered ℕ → ℕ
 unfolding firstFault upTo mostTables mostColumns
 tableFault d e =
@@ -46,6 +48,7 @@ tableFault d e =
     ∷ record { broken = not (eqb (e .number) (suc (length (d .widths)))); number = 3 }
     ∷ [])
 
+-- and "4: an unknown table or view. 5: terms fewer or more than the columns. 6: one variable number both shown and hidden."
 unfoldable pub viewFault : Declared → Numbered Line → ℕ
 unfolding firstFault upTo mostViews lineWithin known wide clashing
 viewFault d e =
@@ -57,6 +60,7 @@ viewFault d e =
     ∷ record { broken = clashing [] (e .value); number = 6 }
     ∷ [])
 
+-- 3 also "a partition's views that don't ascend strictly"
 unfoldable pub partitionFault : Declared → Numbered (List ℕ) → ℕ
 unfolding firstFault upTo mostViews mostPartitions ascend all any
 partitionFault d e =
@@ -75,6 +79,7 @@ unfoldable pub unless : ℕ → Declared → Entered
 unless zero d = entered d
 unless (suc n) d = faulty (suc n)
 
+-- "1: malformed line", else the first of the checks
 unfoldable pub entry : {X : Type 0} → Option (Numbered X) → (Numbered X → ℕ) → (X → Declared) → Entered
 unfolding unless
 entry none fault add = faulty 1
@@ -82,9 +87,11 @@ entry (some e) fault add = unless (fault e) (add (e .value))
 
 -- ---- the blocks
 
+-- "Each block is a line of names, then one or more lines of values in that order."
 pub data Block : Type 0 where
   tables views partitions : Block
 
+-- a line of values behind what is declared so far, "in file order and nothing else"
 unfoldable pub enter : Block → Declared → List ℕ → Entered
 unfolding entry tableLine viewLine partitionLine tableFault viewFault partitionFault
 enter tables d l =
@@ -129,6 +136,7 @@ loadFrom b started d k (l ∷ ls) tail =
     cond (started && isNext b l) (loadFrom (nextBlock b) false d (suc k) ls tail)
     (goOn (enter b d l) k (λ d′. loadFrom b true d′ (suc k) ls tail))
 
+-- the first names line; "an empty text at line 1"
 unfoldable pub loadLines : List (List ℕ) → List ℕ → Loading
 unfolding loadFrom nothing sameBytes tableColumns
 loadLines [] tail = refused 1 1
