@@ -5,5 +5,6 @@ pub mod Rules
 pub mod Columns
 -- Labels.
 pub mod Views
+pub mod Masks
 -- The order of labels.
 pub mod Halves

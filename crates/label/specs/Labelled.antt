@@ -4,7 +4,7 @@ use mathlib.Core.List.{List, map}
 use mathlib.Core.Logic.{_↔_}
 use mathlib.Core.Option.{some}
 use Prim.Native.Nat.{ℕ, _^_, _≤_, _<_}
-use lib.ListN.{length, getElem?}
+use lib.ListN.{length, getD, getElem?}
 use Rattle.theory.specs.Query.{_∈_}
 use Rattle.theory.specs.Query.{Line as TheLine}
 use Rattle.words.specs.Bits.{bit}
@@ -26,6 +26,11 @@ OfTable views table mask =
 pub record TableViews (p : Policy) (table mask : ℕ) : Type 0 where
   pub below : mask < 2 ^ 32
   pub bits : 1 ≤ table → (views : List TheLine) → Holds p views → OfTable views table mask
+
+-- the views of each table
+pub record TableMasks (p : Policy) (masks : List ℕ) : Type 0 where
+  pub long : length masks ≡ 17
+  pub mask : (table : ℕ) → table ≤ 16 → TableViews p table (getD masks table 0)
 
 -- the value a holds the line, and the mask has the views of its table; these have as many columns as the line
 pub record Labelled (p : Policy) (mask width : ℕ) (a : Line) (views : List TheLine) (A : TheLine) : Type 0 where

@@ -10,11 +10,12 @@ ghost use Rattle.theory.specs.Executable.Test.{same as sameTerm};
 ghost use Rattle.theory.specs.Executable.Cover.{obeys as obeysRules, covers as coversLine};
 ghost use Rattle.theory.specs.Executable.Label.{label};
 ghost use Rattle.model.specs.Value.{termValue, lineValue};
-ghost use Rattle.label.specs.Labelled.{TableViews, Labelled};
+ghost use Rattle.label.specs.Labelled.{TableMasks, Labelled};
 ghost use Rattle.label.specs.Order.{atOrBelow};
 use model::CONSTANT;
 use model::HIDDEN;
 use model::Line;
+use model::MOST_TABLES;
 use model::Policy;
 use model::SHOWN;
 use model::Term;
@@ -77,18 +78,23 @@ pub fn covers(width: usize, v: Line, a: Line) -> bool
 
 // ---- labels
 
-// The views of a table, view n at bit n - 1.
-pub fn table_views(p: Policy, table: u64) -> u64
-    ensures { λ r. ⌜ TableViews p table r ⌝ }
+// The views of each table, view n at bit n - 1. Unused views have table 0.
+pub fn table_views(p: Policy) -> [u64; 17]
+    ensures { λ r. ⌜ TableMasks p r ⌝ }
 {
-    let mut word = 0;
+    let mut masks = [0; 17];
     let mut k = 0;
     while k < 32 {
         let v = p.views[k];
-        word = words::set_bit_if(word, k as u64, v.table == table);
+        let table = v.table;
+        if table <= MOST_TABLES {
+            let at = table as usize;
+            let m = masks[at];
+            masks[at] = words::set_bit(m, k as u64);
+        }
         k += 1;
     }
-    word
+    masks
 }
 
 // The label of a line of `width` columns; `mask` has the views of its table.

@@ -13,7 +13,7 @@ use Rattle.model.specs.declared.Policy.{Policy}
 use Rattle.policy.specs.Text.{Declared}
 use Rattle.policy.specs.Value.{WellFormed}
 use Rattle.policy.specs.Policy.{policyValue}
-use Rattle.reduce.specs.Going.{Held}
+use Rattle.reduce.specs.Pairs.{Held}
 use Rattle.reduce.specs.Showing.{Small}
 use Rattle.labels.specs.declared.Labels.{Labels}
 

@@ -1,33 +1,28 @@
--- A map that sends lines to lines is an assignment of a target to each line in which every two lines, and each line with
+-- A map that sends lines to lines is an assignment of a target to each of them in which every two lines, and each line with
 -- itself, agree.
 use mathlib.Core.Path.{_≡_, refl, sym, ap, subst, _∙_}
 use mathlib.Core.Logic.{_↔_, ⊎-elim}
-use mathlib.Core.Bool.{_&&_}
+use mathlib.Core.Bool.{Bool, true, false, cond, _&&_}
 use mathlib.Core.List.{List, [], _++_, zip, List·Memᴰ·not-nil, List·Memᴰ·append-cases, Memᴰ·append-left, Memᴰ·append-right, Memᴰ·cast}
 use Prim.Native.Nat.{ℕ, zero, suc, _<_}
 use native.Mathlib.Nat.{not-suc-le-zero, le-refl, le-step, le-of-suc-le-suc, eq-or-lt-of-le}
-use lib.Dec.{T, eqb}
+use lib.Dec.{T}
 use lib.ListN.{length, length-map}
 use mir.Facts.{eqb-yes, yes-eqb}
 use Rattle.theory.specs.Query.{Term, constant, shown, hidden, over, Line, Query, _∈_}
-use Rattle.theory.specs.Reduce.{image, Sends}
-use Rattle.theory.specs.Executable.Test.{all, same}
-use Rattle.theory.specs.Executable.Reduce.{keeps, agrees, mappable, sendable}
-use Rattle.theory.proofs.Tuples.{tuple-path, map-zip, zip-map, getD-mem, mem-getD}
-use Rattle.theory.proofs.Executable.Test.{and-iff, implies-iff, all-iff, same-iff}
+use Rattle.theory.specs.Reduce.{image, without, Sends}
+use Rattle.theory.specs.Executable.Test.{all}
+use Rattle.theory.specs.Executable.Reduce.{keeps, agrees, mappable, sendable, mayGo}
+use Rattle.theory.proofs.Tuples.{tuple-path, map-zip, zip-map}
+use Rattle.theory.proofs.Executable.Test.{and-iff, all-iff, same-iff}
 use Rattle.theory.proofs.Executable.Reduce.{mappable-iff, sendable-iff}
-use Rattle.reduce.specs.Agree.{goes, agree, lineAt}
-use Rattle.reduce.proofs.Pairs.{Joint, joint-iff}
+use Rattle.words.specs.Bits.{bit, isSet}
+use Rattle.reduce.specs.Agree.{agree, lineAt}
+use Rattle.reduce.specs.Left.{linesAt}
+use Rattle.reduce.proofs.Agree.{Goes, agrees-iff, agree-iff}
+use Rattle.reduce.proofs.Left.{in-lines, lines-in}
 
--- ---- pairs of terms
-
-agrees-iff : (y z : Term × Term) → T (agrees y z) ↔ (y .0 ≡ z .0 → y .1 ≡ z .1)
-unfolding agrees
-agrees-iff y z =
-    let k = implies-iff (same (y .0) (z .0)) (same (y .1) (z .1)) in (
-      λ h e. same-iff (y .1) (z .1) .0 (k .0 h (same-iff (y .0) (z .0) .1 e)),
-      λ f. k .1 (λ h. same-iff (y .1) (z .1) .1 (f (same-iff (y .0) (z .0) .0 h))),
-    )
+-- ---- a line and what a map makes of it
 
 keeps-from : (m : ℕ → Term) (t u : Term) → image m t ≡ u → T (keeps (t, u))
 unfolding keeps
@@ -35,44 +30,7 @@ keeps-from m (constant c) u e = same-iff (constant c) u .1 e
 keeps-from m (shown n) u e = same-iff (shown n) u .1 e
 keeps-from m (hidden n) u e = tt
 
--- ---- pairs of lines
-
-pub record Goes (A S : Line) : Type 0 where
-  pub table : A .table ≡ S .table
-  pub width : length (A .columns) ≡ length (S .columns)
-  pub kept : (z : Term × Term) → z ∈ zip (A .columns) (S .columns) → T (keeps z)
-
-goes-iff : (A S : Line) → T (goes A S) ↔ Goes A S
-unfolding goes
-goes-iff A S =
-    let t = eqb (A .table) (S .table) in
-    let w = eqb (length (A .columns)) (length (S .columns)) in
-    let z = all keeps (zip (A .columns) (S .columns)) in
-    let a = all-iff keeps (zip (A .columns) (S .columns)) in (
-      λ h.
-          let (x, r) = and-iff t (w && z) .0 h in
-          let (y, s) = and-iff w z .0 r in record { table = eqb-yes x; width = eqb-yes y; kept = a .0 s },
-      λ g. and-iff t (w && z) .1 (yes-eqb (g .table), and-iff w z .1 (yes-eqb (g .width), a .1 (g .kept))),
-    )
-
-pub agree-iff : (A S B D : Line) → T (agree A S B D) ↔ (Goes A S × Goes B D × Joint A S B D)
-unfolding agree
-agree-iff A S B D =
-    let j = all (λ y. all (agrees y) (zip (B .columns) (D .columns))) (zip (A .columns) (S .columns)) in (
-      λ h.
-          let (x, r) = and-iff (goes A S) (goes B D && j) .0 h in
-          let (y, s) = and-iff (goes B D) j .0 r in (goes-iff A S .0 x, goes-iff B D .0 y, joint-iff A S B D .0 s),
-      λ r. and-iff (goes A S) (goes B D && j) .1
-          (goes-iff A S .1 (r .0), and-iff (goes B D) j .1 (goes-iff B D .1 (r .1), joint-iff A S B D .1 (r .2))),
-    )
-
-pub agree-swap : (A S B D : Line) → T (agree A S B D) → T (agree B D A S)
-agree-swap A S B D h =
-    let (x, y, j) = agree-iff A S B D .0 h in
-    agree-iff B D A S .1 (y, x, λ z i w k. agrees-iff z w .1 (λ e. sym (agrees-iff w z .0 (j w k z i) (sym e))))
-
--- a line and what a map makes of it
-goes-image : (m : ℕ → Term) (A : Line) → Goes A (over (image m) A)
+pub goes-image : (m : ℕ → Term) (A : Line) → Goes A (over (image m) A)
 goes-image m A = record {
   table = refl;
   width = sym (length-map (A .columns) (image m));
@@ -111,57 +69,82 @@ module _ (g : ℕ → List (Term × Term)) where
 
 -- ---- assignments
 
--- a line of R for each line of Q, every two of which agree
-pub record Assigned (Q R : Query) : Type 0 where
+-- a line of R for each line of Q at the bits of a word, every two of which agree
+pub record Assigned (Q : Query) (rows : ℕ) (R : Query) : Type 0 where
   pub target : ℕ → Line
-  pub within : (i : ℕ) → i < length Q → target i ∈ R
-  pub joint : (i j : ℕ) → i < length Q → j < length Q → T (agree (lineAt Q i) (target i) (lineAt Q j) (target j))
+  pub within : (i : ℕ) → i < length Q → bit rows i ≡ 1 → target i ∈ R
+  pub joint : (i j : ℕ) → i < length Q → j < length Q → bit rows i ≡ 1 → bit rows j ≡ 1
+      → T (agree (lineAt Q i) (target i) (lineAt Q j) (target j))
 
-module _ (Q R : Query) where
-  module _ (a : Assigned Q R) where
+-- where a test passes, the list, and nothing where it fails
+if-in : {X : Type 0} (b : Bool) (l : List X) {x : X} → T b → x ∈ l → x ∈ cond b l []
+if-in true l t m = m
+if-in false l t m = absurd t
+
+in-if : {X : Type 0} (b : Bool) (l : List X) {x : X} → x ∈ cond b l [] → T b × (x ∈ l)
+in-if true l m = (tt, m)
+in-if false l m = absurd (List·Memᴰ·not-nil m)
+
+module _ (Q : Query) (rows : ℕ) (R : Query) where
+  module _ (a : Assigned Q rows R) where
+    -- the terms of a line over those of its target
+    over-target : ℕ → List (Term × Term)
+    over-target i = zip (lineAt Q i .columns) (a .target i .columns)
+
     pairs : ℕ → List (Term × Term)
-    pairs i = zip (lineAt Q i .columns) (a .target i .columns)
+    pairs i = cond (isSet rows i) (over-target i) []
 
-    goes-target : (i : ℕ) → i < length Q → Goes (lineAt Q i) (a .target i)
-    goes-target i l = agree-iff (lineAt Q i) (a .target i) (lineAt Q i) (a .target i) .0 (a .joint i i l l) .0
+    goes-target : (i : ℕ) → i < length Q → bit rows i ≡ 1 → Goes (lineAt Q i) (a .target i)
+    goes-target i l h = agree-iff (lineAt Q i) (a .target i) (lineAt Q i) (a .target i) .0 (a .joint i i l l h h) .0
 
     -- the pairs of all lines belong to one map
     one-map : T (mappable (together pairs (length Q)))
-    unfolding mappable pairs
+    unfolding mappable pairs over-target
     one-map =
         let zs = together pairs (length Q) in
         all-iff (λ y. keeps y && all (agrees y) zs) zs .1
-        (λ y i. let (k, l, y∈) = in-together pairs (length Q) y i in
+        (λ y i.
+        let (k, l, y∈) = in-together pairs (length Q) y i in
+        let (t, y∈′) = in-if (isSet rows k) (over-target k) y∈ in
         and-iff (keeps y) (all (agrees y) zs) .1 (
-          goes-target k l .kept y y∈,
+          goes-target k l (eqb-yes t) .kept y y∈′,
           all-iff (agrees y) zs .1
-              (λ z j. let (n, b, z∈) = in-together pairs (length Q) z j in
-              agree-iff (lineAt Q k) (a .target k) (lineAt Q n) (a .target n) .0 (a .joint k n l b) .2 y y∈ z z∈),
+              (λ z j.
+              let (n, b, z∈) = in-together pairs (length Q) z j in
+              let (u, z∈′) = in-if (isSet rows n) (over-target n) z∈ in
+              agree-iff (lineAt Q k) (a .target k) (lineAt Q n) (a .target n) .0 (a .joint k n l b (eqb-yes t) (eqb-yes u)) .2 y y∈′ z z∈′),
         ))
 
     -- a map of these pairs sends each line to its target
-    sends : (m : ℕ → Term) → ((z : Term × Term) → z ∈ together pairs (length Q) → image m (z .0) ≡ z .1) → Sends m Q R
-    unfolding lineAt pairs
+    sends : (m : ℕ → Term) → ((z : Term × Term) → z ∈ together pairs (length Q) → image m (z .0) ≡ z .1) → Sends m (linesAt rows Q) R
+    unfolding pairs over-target
     sends m f A i =
-        let (k, l, e) = mem-getD (record { table = 0; columns = [] }) i in
-        let w = goes-target k l in
+        let (k, l, h, e) = lines-in rows Q i in
+        let w = goes-target k l h in
         let same : over (image m) (lineAt Q k) ≡ a .target k =
         tuple-path (w .table)
-        (map-zip (image m) (lineAt Q k .columns) (a .target k .columns) (w .width) (λ z j. f z (together-in pairs (length Q) k z l j))) in
-        Memᴰ·cast (ap (over (image m)) (sym e) ∙ same) (a .within k l)
+        (map-zip (image m) (lineAt Q k .columns) (a .target k .columns) (w .width)
+        (λ z j. f z (together-in pairs (length Q) k z l (if-in (isSet rows k) (over-target k) (yes-eqb h) j)))) in
+        Memᴰ·cast (ap (over (image m)) (sym e) ∙ same) (a .within k l h)
 
-  assigned : (m : ℕ → Term) → Sends m Q R → Assigned Q R
-  unfolding lineAt
+  assigned : (m : ℕ → Term) → Sends m (linesAt rows Q) R → Assigned Q rows R
   assigned m s = record {
     target = λ i. over (image m) (lineAt Q i);
-    within = λ i l. s (lineAt Q i) (getD-mem Q i (record { table = 0; columns = [] }) l);
-    joint = λ i j l k. agree-image m (lineAt Q i) (lineAt Q j);
+    within = λ i l h. s (lineAt Q i) (in-lines rows Q i l h);
+    joint = λ i j l k h g. agree-image m (lineAt Q i) (lineAt Q j);
   }
 
-  pub assigned-iff : Assigned Q R ↔ T (sendable [] Q R)
-  assigned-iff =
-      let k = sendable-iff [] Q R in (
-        λ a. let (m, f) = mappable-iff (together (pairs a) (length Q)) .0 (one-map a) in
-            k .1 (m, (λ z i. absurd (List·Memᴰ·not-nil i)), sends a m f),
-        λ h. let (m, f, s) = k .0 h in assigned m s,
-      )
+  pub assigned-iff : Assigned Q rows R ↔ ((m : ℕ → Term) × Sends m (linesAt rows Q) R)
+  assigned-iff = (
+    λ a. let (m, f) = mappable-iff (together (pairs a) (length Q)) .0 (one-map a) in (m, sends a m f),
+    λ r. assigned (r .0) (r .1),
+  )
+
+-- ---- a line that may go
+
+pub may-go-sends : (P R : Query) (i : ℕ) → without i P ≡ R → T (mayGo P i) ↔ ((m : ℕ → Term) × Sends m P R)
+unfolding mayGo
+may-go-sends P R i e =
+    let w = sendable-iff [] P R in
+    subst (λ (S : Query). T (sendable [] P S) ↔ ((m : ℕ → Term) × Sends m P R)) (sym e)
+    (λ t. let (m, z, s) = w .0 t in (m, s), λ r. w .1 (r .0, (λ z i. absurd (List·Memᴰ·not-nil i)), r .1))

@@ -7,6 +7,7 @@ use native.Mathlib.Decide.{ℕ-discrete, decLt}
 use native.Mathlib.Omega.{arith}
 use lib.Dec.{T, eqb, leb, leb→le, le→leb}
 use lib.ListN.{length}
+use Rattle.theory.specs.Cover.{at}
 use Rattle.theory.specs.Query.{constant, shown, hidden, _∈_}
 use Rattle.theory.specs.Query.{Term as TheTerm, Line as TheLine}
 use Rattle.theory.specs.Executable.Test.{kind, number}
@@ -20,7 +21,7 @@ use Rattle.model.specs.declared.Term.{Term}
 use Rattle.model.specs.declared.Line.{Line}
 use Rattle.reduce.specs.Columns.{termAt}
 use Rattle.reduce.specs.Showing.{hiddenTerm, withHidden, HiddenWord}
-use Rattle.reduce.proofs.Pairs.{col, used, unused}
+use Rattle.reduce.proofs.LineValues.{used, unused}
 
 pub hidden-small : (t : Term) → T (hiddenTerm t) → t .number < 64
 unfolding hiddenTerm
@@ -72,20 +73,22 @@ hidden-number : (n : ℕ) → termValue (hidden n) .number ≡ n
 unfolding termValue kind number
 hidden-number n = refl
 
-pub hidden-in : (A : TheLine) (w : ℕ) → length (A .columns) ≤ 8 → HiddenWord (lineValue A) 8 w
-    → (n : ℕ) → (bit w n ≡ 1) ↔ ((n < 64) × (hidden n ∈ A .columns))
-hidden-in A w few h n = (
-  λ e. let (b, l, t, q) = h n .0 e in to b t q (decLt b (length (A .columns))),
+-- the hidden variables of a line's value are those of the line that have a bit
+pub hidden-in : (A : TheLine) (n : ℕ) → length (A .columns) ≤ 8
+    → ((b : ℕ) × (b < 8) × T (hiddenTerm (termAt (lineValue A) b)) × (termAt (lineValue A) b .number ≡ n))
+    ↔ ((n < 64) × (hidden n ∈ A .columns))
+hidden-in A n few = (
+  λ r. to (r .0) (r .2) (r .3) (decLt (r .0) (length (A .columns))),
   λ r.
       let (p, l, q) = mem-getD (constant 0) (r .1) in
       let v : termAt (lineValue A) p ≡ termValue (hidden n) = used A few p l ∙ ap termValue q in
-      h n .1 (p, omega arith, rw v (hidden-value n (r .0)), rw v (hidden-number n)),
+      (p, omega arith, rw v (hidden-value n (r .0)), rw v (hidden-number n)),
 )
   where
     to : (b : ℕ) → T (hiddenTerm (termAt (lineValue A) b)) → termAt (lineValue A) b .number ≡ n → Dec (b < length (A .columns))
         → (n < 64) × (hidden n ∈ A .columns)
     to b t q (yes l) =
         let v = used A few b l in
-        let i : col A b ≡ hidden n = value-hidden (col A b) n (rw v at t) (rw v at q) in
+        let i : at A b ≡ hidden n = value-hidden (at A b) n (rw v at t) (rw v at q) in
         (rw q at (hidden-small (termAt (lineValue A) b) t), subst (λ (u : TheTerm). u ∈ A .columns) i (getD-mem (A .columns) b (constant 0) l))
     to b t q (no f) = absurd (unused-hidden (rw (unused A few b (omega arith)) at t))

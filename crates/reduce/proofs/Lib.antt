@@ -1,18 +1,23 @@
 -- Lines that one map can send to lines, column by column.
 pub mod Below
-pub mod Pairs
--- A map as an assignment of targets, and the search for one.
-pub mod Assign
-pub mod Rows
+pub mod Agree
+pub mod LineValues
+pub mod EqualColumns
+-- The lines of a query, and those left.
+pub mod Left
 pub mod Lines
-pub mod Candidates
+-- The pairs of a line and a target.
+pub mod LinePairs
+pub mod Tables
+-- A map as an assignment of targets, and the search for one.
+pub mod Rows
+pub mod Assign
 pub mod Maps
 -- Taking lines out.
-pub mod Shift
 pub mod Passes
+pub mod Staying
 -- Showing.
 pub mod Hidden
 pub mod Seen
 pub mod Mapped
 pub mod Shown
-pub mod Kept

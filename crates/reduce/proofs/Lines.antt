@@ -1,17 +1,20 @@
--- The lines of a query, by the value that holds it.
+-- The lines of a query, by the value that holds it, and those that are left, one by one.
 use mathlib.Core.Path.{_≡_, ap, _∙_}
-use mathlib.Core.List.{[], map}
-use Prim.Native.Nat.{ℕ, _-_, _≤_, _<_}
-use lib.ListN.{length, getD, replicate, length-map, List·getD-append, List·getD-eq-default}
+use mathlib.Core.Bool.{cond}
+use mathlib.Core.List.{[], _∷_, _++_, map}
+use Prim.Native.Nat.{ℕ, _+_, _-_, _≤_, _<_}
+use native.Mathlib.Numerals.{add-one}
+use lib.ListN.{length, getD, take, replicate, length-map, List·getD-append}
 use Rattle.theory.specs.Query.{Query}
 use Rattle.theory.proofs.Tuples.{getD-map, getD-mem}
 use Rattle.model.specs.Value.{pad, unusedLine, lineValue, queryValue}
 use Rattle.model.specs.declared.Line.{Line}
 use Rattle.model.specs.declared.Query.{Query as QueryValue}
-use Rattle.model.proofs.Pad.{pad-get, pad-length}
+use Rattle.words.specs.Bits.{isSet}
 use Rattle.reduce.specs.Agree.{lineAt}
-use Rattle.reduce.specs.Going.{Held}
-use Rattle.reduce.proofs.Shift.{any-default}
+use Rattle.reduce.specs.Left.{pick}
+use Rattle.reduce.specs.Pairs.{Held}
+use Rattle.reduce.proofs.Left.{pick-more}
 
 module _ {q : QueryValue} {Q : Query} (held : Held q Q) where
   pub held-count : q .count ≡ length Q
@@ -31,17 +34,8 @@ module _ {q : QueryValue} {Q : Query} (held : Held q Q) where
   unfolding lineAt
   held-few i h = held .columns (lineAt Q i) (getD-mem Q i (record { table = 0; columns = [] }) h)
 
-  pub held-long : length (q .lines) ≡ 8
-  unfolding queryValue
-  held-long =
-      ap (λ (x : QueryValue). length (x .lines)) (held .is)
-      ∙ pad-length 8 unusedLine (map lineValue Q) (rw (length-map Q lineValue) (held .lines))
-
-  -- the lines behind the last are unused
-  pub held-behind : (b : ℕ) (d : Line) → length Q ≤ b → b < length (q .lines) → getD (q .lines) b d ≡ unusedLine
-  unfolding queryValue
-  held-behind b d h l =
-      any-default d unusedLine (q .lines) b l
-      ∙ ap (λ (x : QueryValue). getD (x .lines) b unusedLine) (held .is)
-      ∙ pad-get 8 unusedLine (map lineValue Q) b
-      ∙ List·getD-eq-default (map lineValue Q) unusedLine (rw (length-map Q lineValue) h)
+-- one line more
+pub left-more : (w : ℕ) (Q : Query) (i : ℕ) → i < length Q
+    → pick (isSet w) (take (i + 1) Q) ≡ pick (isSet w) (take i Q) ++ cond (isSet w i) (lineAt Q i ∷ []) []
+unfolding lineAt
+left-more w Q i h = ap (λ (k : ℕ). pick (isSet w) (take k Q)) (add-one i) ∙ pick-more (record { table = 0; columns = [] }) (isSet w) Q i h

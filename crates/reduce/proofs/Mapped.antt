@@ -2,7 +2,7 @@
 use mathlib.Core.Path.{_≡_, refl, sym, _∙_}
 use mathlib.Core.List.{List, map, map-append}
 use Prim.Native.Nat.{ℕ, zero, suc, _+_, _-_, _≤_, _<_}
-use native.Mathlib.Decide.{ℕ-discrete, decLt}
+use native.Mathlib.Decide.{ℕ-discrete}
 use native.Mathlib.Omega.{arith}
 use lib.ListN.{length, getD, set, replicate, length-set, length-map}
 use lib.Seq.{getD-set-same, getD-set-other, ext-getD}
@@ -14,31 +14,21 @@ module _ {X : Type 0} (d : X) (f : X → X) (old : List X) where
   pub record Mapped (k : ℕ) (l : List X) : Type 0 where
     pub long : length l ≡ length old
     pub made : (b : ℕ) → b < k → getD l b d ≡ f (getD old b d)
-    pub rest : (b : ℕ) → k ≤ b → getD l b d ≡ getD old b d
 
   pub mapped-none : Mapped 0 old
-  mapped-none = record { long = refl; made = λ b h. absurd (omega arith); rest = λ b h. refl }
+  mapped-none = record { long = refl; made = λ b h. absurd (omega arith) }
 
   pub mapped-more : {k : ℕ} {l : List X} (x : X) → Mapped k l → k < length old → x ≡ f (getD old k d) → Mapped (k + 1) (set l k x)
-  mapped-more {k} {l} x m h e = record {
-    long = length-set l k x ∙ m .long;
-    made = λ b g. go b g (ℕ-discrete b k);
-    rest = λ b g. getD-set-other l k b x d (λ q. omega arith) ∙ m .rest b (omega arith);
-  }
+  mapped-more {k} {l} x m h e = record { long = length-set l k x ∙ m .long; made = λ b g. go b g (ℕ-discrete b k) }
     where
       go : (b : ℕ) → b < k + 1 → Dec (b ≡ k) → getD (set l k x) b d ≡ f (getD old b d)
       go b g (yes q) = rw q (getD-set-same l k x d (omega (arith, m .long)) ∙ e)
       go b g (no n) = getD-set-other l k b x d n ∙ m .made b (omega arith)
 
-  -- the places from k on need no change
-  pub mapped-all : {k : ℕ} {l : List X} → Mapped k l → ((b : ℕ) → k ≤ b → b < length old → f (getD old b d) ≡ getD old b d) → l ≡ map f old
-  mapped-all {k} {l} m same =
+  pub mapped-all : {k : ℕ} {l : List X} → Mapped k l → length old ≤ k → l ≡ map f old
+  mapped-all {k} {l} m all =
       ext-getD d l (map f old) (m .long ∙ sym (length-map old f))
-      (λ b h. let g : b < length old = omega (arith, m .long) in go b g (decLt b k) ∙ sym (getD-map f old b d d g))
-    where
-      go : (b : ℕ) → b < length old → Dec (b < k) → getD l b d ≡ f (getD old b d)
-      go b g (yes h) = m .made b h
-      go b g (no h) = m .rest b (omega arith) ∙ sym (same b (omega arith) g)
+      (λ b h. let g : b < length old = omega (arith, m .long) in m .made b (omega arith) ∙ sym (getD-map f old b d d g))
 
 module _ {X : Type 0} (f : X → X) where
   map-replicate : (n : ℕ) (d : X) → f d ≡ d → map f (replicate n d) ≡ replicate n d

@@ -1,52 +1,23 @@
--- An assignment among the candidates is a map that sends every line to a line that is not skipped.
-use mathlib.Core.Path.{_≡_, refl, sym, ap, subst}
-use mathlib.Core.Logic.{_↔_, _≢_, ⊎-elim}
-use mathlib.Core.Bool.{Bool, true, false}
-use mathlib.Core.List.{List, [], _∷_, List·Memᴰ·head, List·Memᴰ·tail, List·Memᴰ·not-nil, List·Memᴰ·cases-cons}
-use Prim.Native.Nat.{ℕ, zero, suc, _+_, _*_, _/_, _%_, _≤_, _<_, zero-le, suc-le-suc}
-use native.Mathlib.Nat.{not-suc-le-zero, le-of-suc-le-suc, suc-inj, suc-ne-zero}
-use native.Mathlib.Decide.{decLt}
+-- An assignment among the candidates is a map that sends the lines at the bits of one word to those at the bits of another.
+use mathlib.Core.Path.{_≡_, subst}
+use mathlib.Core.Logic.{_↔_}
+use mathlib.Core.List.{List}
+use Prim.Native.Nat.{ℕ, _+_, _*_, _/_, _%_, _^_, _<_}
+use native.Mathlib.Decide.{ℕ-discrete, decLt}
 use native.Mathlib.Omega.{arith}
 use lib.Dec.{T}
-use lib.ListN.{length, getD}
-use Rattle.theory.specs.Query.{Line, Query, _∈_}
-use Rattle.theory.specs.Reduce.{without}
-use Rattle.theory.specs.Executable.Reduce.{mayGo}
-use Rattle.theory.proofs.Tuples.{getD-mem, mem-getD}
-use Rattle.theory.proofs.Executable.Test.{same-test}
+use lib.ListN.{length}
+use Rattle.theory.specs.Query.{Term, Line, Query}
+use Rattle.theory.specs.Reduce.{Sends}
 use Rattle.words.specs.Bits.{bit}
-use Rattle.words.proofs.Bits.{bit-zero}
 use Rattle.reduce.specs.Agree.{agree, lineAt}
 use Rattle.reduce.specs.Extends.{Extends}
-use Rattle.reduce.specs.Going.{Candidate, Targets, Candidates, PairWords}
-use Rattle.reduce.proofs.Assign.{Assigned, assigned-iff, agree-swap}
-
-yes-true : (b : Bool) → T b → b ≡ true
-yes-true true h = refl
-yes-true false h = absurd h
-
-true-yes : (b : Bool) → b ≡ true → T b
-true-yes b e = rw e tt
-
--- ---- a list without a place
-
-module _ {X : Type 0} (d : X) where
-  pub left-in : (i j : ℕ) (l : List X) → j ≢ i → j < length l → getD l j d ∈ without i l
-  left-in i j [] f h = absurd (not-suc-le-zero h)
-  left-in zero zero (x ∷ l) f h = absurd (f refl)
-  left-in zero (suc j) (x ∷ l) f h = getD-mem l j d (le-of-suc-le-suc h)
-  left-in (suc i) zero (x ∷ l) f h = List·Memᴰ·head refl
-  left-in (suc i) (suc j) (x ∷ l) f h = List·Memᴰ·tail (left-in i j l (λ e. f (ap suc e)) (le-of-suc-le-suc h))
-
-  pub in-left : (i : ℕ) (l : List X) {x : X} → x ∈ without i l → (j : ℕ) × (j < length l) × (j ≢ i) × (getD l j d ≡ x)
-  in-left i [] m = absurd (List·Memᴰ·not-nil m)
-  in-left zero (y ∷ l) m =
-      let (j, h, e) = mem-getD d m in (suc j, suc-le-suc h, (λ p. suc-ne-zero j p), e)
-  in-left (suc i) (y ∷ l) m =
-      ⊎-elim (λ e. (zero, suc-le-suc zero-le, (λ p. suc-ne-zero i (sym p)), sym e))
-      (λ t. let (j, h, f, e) = in-left i l t in (suc j, suc-le-suc h, (λ p. f (suc-inj p)), e)) (List·Memᴰ·cases-cons m)
-
--- ---- pairs
+use Rattle.reduce.specs.Left.{linesAt}
+use Rattle.reduce.specs.Pairs.{Candidate, Tabled}
+use Rattle.reduce.proofs.Agree.{agree-swap}
+use Rattle.reduce.proofs.Assign.{Assigned, assigned-iff}
+use Rattle.reduce.proofs.Left.{in-lines, lines-in}
+use Rattle.reduce.proofs.Rows.{bit-small}
 
 line-of : (i j : ℕ) → j < 8 → (i * 8 + j) / 8 ≡ i
 line-of i j h = omega arith
@@ -54,113 +25,91 @@ line-of i j h = omega arith
 target-of : (i j : ℕ) → j < 8 → (i * 8 + j) % 8 ≡ j
 target-of i j h = omega arith
 
-abbrev nothing : Line
-nothing = record { table = 0; columns = [] }
+module _ {Q : Query} {c : ℕ} {words : List ℕ} (tabled : Tabled Q c words) (rows targets : ℕ) where
+  -- line i with target t and line j with target u
+  abbrev Agreed : (i t j u : ℕ) → Type 0
+  Agreed i t j u = T (agree (lineAt Q i) (lineAt Q t) (lineAt Q j) (lineAt Q u))
 
-module _ (Q : Query) (skip c : ℕ) (words : List ℕ) (cand : Candidates Q skip c) (pairs : PairWords Q c words) (few : length Q ≤ 8) where
-  module _ (x : Extends (length Q) 0 c words) where
-    small : (i : ℕ) → i < length Q → x .target i < 8
-    small i l = x .small i zero-le l
+  module _ (x : Extends rows targets c words) (few : targets < 2 ^ 8) where
+    small : (i : ℕ) → bit rows i ≡ 1 → x .target i < 8
+    small i h = bit-small few (x .allowed i h)
 
-    chosen : (i : ℕ) → i < length Q → Candidate Q skip (i * 8 + x .target i)
-    chosen i l = cand (i * 8 + x .target i) .0 (x .candidate i zero-le l)
+    chosen : (i : ℕ) → bit rows i ≡ 1 → Candidate Q (i * 8 + x .target i)
+    chosen i h = tabled .candidates (i * 8 + x .target i) .0 (x .candidate i h)
 
-    before : (i j : ℕ) → i < j → j < length Q
-        → T (agree (lineAt Q i) (lineAt Q (x .target i)) (lineAt Q j) (lineAt Q (x .target j)))
-    before i j h l =
-        let k : i < length Q = omega arith in
-        rw (line-of i (x .target i) (small i k), target-of i (x .target i) (small i k), line-of j (x .target j) (small j l), target-of j (x .target j) (small j l)) at
-        (pairs (i * 8 + x .target i) (x .candidate i zero-le k) (j * 8 + x .target j) .0 (x .joint i j zero-le h l) .1)
+    before : (i j : ℕ) → bit rows i ≡ 1 → bit rows j ≡ 1 → i < j → Agreed i (x .target i) j (x .target j)
+    before i j h g l =
+        rw (line-of i (x .target i) (small i h), target-of i (x .target i) (small i h), line-of j (x .target j) (small j g), target-of j (x .target j) (small j g)) at
+        (tabled .pairs (i * 8 + x .target i) (x .candidate i h) (j * 8 + x .target j) .0 (x .joint i j h g l) .1)
 
-    extends-assigned : Assigned Q (without skip Q)
-    unfolding lineAt
+    extends-assigned : Assigned Q rows (linesAt targets Q)
     extends-assigned = record {
       target = λ i. lineAt Q (x .target i);
-      within = λ i l.
-          let t = target-of i (x .target i) (small i l) in
-          left-in nothing skip (x .target i) Q (rw t at (chosen i l .other)) (rw t at (chosen i l .target));
-      joint = λ i j l k. go i j l k (decLt i j) (decLt j i);
+      within = λ i l h.
+          in-lines targets Q (x .target i) (rw (target-of i (x .target i) (small i h)) at (chosen i h .target)) (x .allowed i h);
+      joint = λ i j l k h g. go i j h g (decLt i j) (decLt j i);
     }
       where
-        go : (i j : ℕ) → i < length Q → j < length Q → Dec (i < j) → Dec (j < i)
-            → T (agree (lineAt Q i) (lineAt Q (x .target i)) (lineAt Q j) (lineAt Q (x .target j)))
-        go i j l k (yes h) d = before i j h k
-        go i j l k (no n) (yes h) = agree-swap (lineAt Q j) (lineAt Q (x .target j)) (lineAt Q i) (lineAt Q (x .target i)) (before j i h l)
-        go i j l k (no n) (no m) =
+        go : (i j : ℕ) → bit rows i ≡ 1 → bit rows j ≡ 1 → Dec (i < j) → Dec (j < i) → Agreed i (x .target i) j (x .target j)
+        go i j h g (yes l) d = before i j h g l
+        go i j h g (no n) (yes l) = agree-swap (lineAt Q j) (lineAt Q (x .target j)) (lineAt Q i) (lineAt Q (x .target i)) (before j i g h l)
+        go i j h g (no n) (no m) =
             let e : i ≡ j = omega arith in
-            subst (λ (o : ℕ). T (agree (lineAt Q i) (lineAt Q (x .target i)) (lineAt Q o) (lineAt Q (x .target o)))) e
-            (rw (line-of i (x .target i) (small i l), target-of i (x .target i) (small i l)) at (chosen i l .goes))
+            subst (λ (o : ℕ). Agreed i (x .target i) o (x .target o)) e
+            (rw (line-of i (x .target i) (small i h), target-of i (x .target i) (small i h)) at (chosen i h .goes))
 
-  module _ (a : Assigned Q (without skip Q)) where
-    -- the place of a line's target
-    place : (i : ℕ) → Dec (i < length Q) → ℕ
-    place i (yes l) = in-left nothing skip Q (a .within i l) .0
-    place i (no n) = 0
-
+  module _ (a : Assigned Q rows (linesAt targets Q)) (there : (i : ℕ) → bit rows i ≡ 1 → i < length Q) where
     record Right (i t : ℕ) : Type 0 where
       below : t < length Q
-      other : t ≢ skip
+      allowed : bit targets t ≡ 1
       same : lineAt Q t ≡ a .target i
 
-    place-right : (i : ℕ) → i < length Q → (d : Dec (i < length Q)) → Right i (place i d)
-    unfolding place lineAt
-    place-right i l (yes h) =
-        let r = in-left nothing skip Q (a .within i h) in record { below = r .1; other = r .2; same = r .3 }
-    place-right i l (no n) = absurd (n l)
+    -- the place of a line's target
+    place : (i : ℕ) → Dec (bit rows i ≡ 1) → ℕ
+    place i (yes h) = lines-in targets Q (a .within i (there i h) h) .0
+    place i (no n) = 0
+
+    place-right : (i : ℕ) → bit rows i ≡ 1 → (d : Dec (bit rows i ≡ 1)) → Right i (place i d)
+    unfolding place
+    place-right i h (yes g) =
+        let r = lines-in targets Q (a .within i (there i g) g) in record { below = r .1; allowed = r .2; same = r .3 }
+    place-right i h (no n) = absurd (n h)
 
     t : ℕ → ℕ
-    t i = place i (decLt i (length Q))
+    t i = place i (ℕ-discrete (bit rows i) 1)
 
-    right : (i : ℕ) → i < length Q → Right i (t i)
+    right : (i : ℕ) → bit rows i ≡ 1 → Right i (t i)
     unfolding t
-    right i l = place-right i l (decLt i (length Q))
+    right i h = place-right i h (ℕ-discrete (bit rows i) 1)
 
-    eight : (i : ℕ) → i < length Q → t i < 8
-    eight i l = omega (arith, right i l .below)
+    eight : (i : ℕ) → bit rows i ≡ 1 → t i < 8
+    eight i h = omega (arith, right i h .below, tabled .few)
 
-    agreeing : (i j : ℕ) → i < length Q → j < length Q → T (agree (lineAt Q i) (lineAt Q (t i)) (lineAt Q j) (lineAt Q (t j)))
-    agreeing i j l k = rw (right i l .same, right j k .same) (a .joint i j l k)
+    agreeing : (i j : ℕ) → bit rows i ≡ 1 → bit rows j ≡ 1 → Agreed i (t i) j (t j)
+    agreeing i j h g = rw (right i h .same, right j g .same) (a .joint i j (there i h) (there j g) h g)
 
-    candidate : (i : ℕ) → i < length Q → bit c (i * 8 + t i) ≡ 1
-    candidate i l =
-        let d = line-of i (t i) (eight i l) in
-        let m = target-of i (t i) (eight i l) in
-        cand (i * 8 + t i) .1
-        (record { line = rw d l; target = rw m (right i l .below); other = rw m (right i l .other); goes = rw (d, m) (agreeing i i l l) })
+    candidate : (i : ℕ) → bit rows i ≡ 1 → bit c (i * 8 + t i) ≡ 1
+    candidate i h =
+        let d = line-of i (t i) (eight i h) in
+        let m = target-of i (t i) (eight i h) in
+        tabled .candidates (i * 8 + t i) .1
+        (record { line = rw d (there i h); target = rw m (right i h .below); goes = rw (d, m) (agreeing i i h h) })
 
-    assigned-extends : Extends (length Q) 0 c words
+    assigned-extends : Extends rows targets c words
     assigned-extends = record {
       target = t;
-      small = λ i f l. eight i l;
-      candidate = λ i f l. candidate i l;
-      joint = λ i j f h l.
-          let k : i < length Q = omega arith in
-          pairs (i * 8 + t i) (candidate i k) (j * 8 + t j) .1 (
-            candidate j l,
-            rw (line-of i (t i) (eight i k), target-of i (t i) (eight i k), line-of j (t j) (eight j l), target-of j (t j) (eight j l)) (agreeing i j k l),
+      allowed = λ i h. right i h .allowed;
+      candidate = candidate;
+      joint = λ i j h g l.
+          tabled .pairs (i * 8 + t i) (candidate i h) (j * 8 + t j) .1 (
+            candidate j g,
+            rw (line-of i (t i) (eight i h), target-of i (t i) (eight i h), line-of j (t j) (eight j g), target-of j (t j) (eight j g)) (agreeing i j h g),
           );
     }
 
-  -- the search tells whether the line may go
-  pub search-goes : (r : Bool) → (r ≡ true) ↔ Extends (length Q) 0 c words → r ≡ mayGo Q skip
-  unfolding mayGo
-  search-goes r w =
-      let k = assigned-iff Q (without skip Q) in
-      same-test r (mayGo Q skip) (λ h. k .0 (extends-assigned (w .0 (yes-true r h)))) (λ h. true-yes r (w .1 (assigned-extends (k .1 h))))
+  pub extends-sends : targets < 2 ^ 8 → Extends rows targets c words → (m : ℕ → Term) × Sends m (linesAt rows Q) (linesAt targets Q)
+  extends-sends few x = assigned-iff Q rows (linesAt targets Q) .0 (extends-assigned x few)
 
--- a line that can go to no other may not go
-pub none-goes : (Q : Query) (i m : ℕ) → Targets Q i i m → m ≡ 0 → i < length Q → length Q ≤ 8 → false ≡ mayGo Q i
-unfolding mayGo lineAt
-none-goes Q i m targets e l few =
-    same-test false (mayGo Q i) (λ h. absurd h)
-    (λ h.
-    let a = assigned-iff Q (without i Q) .1 h in
-    let (j, k, f, s) = in-left nothing i Q (a .within i l) in
-    let d = line-of i j (omega arith) in
-    let t = target-of i j (omega arith) in
-    let g : T (agree (lineAt Q i) (lineAt Q j) (lineAt Q i) (lineAt Q j)) = rw s (a .joint i i l l) in
-    omega (
-      arith,
-      bit-zero (i * 8 + j),
-      rw e at (targets (i * 8 + j) .1 (d, record { line = rw d l; target = rw t k; other = rw t f; goes = rw (d, t) g })),
-    ))
+  pub sends-extends : ((i : ℕ) → bit rows i ≡ 1 → i < length Q) → (m : ℕ → Term) → Sends m (linesAt rows Q) (linesAt targets Q)
+      → Extends rows targets c words
+  sends-extends there m s = assigned-extends (assigned-iff Q rows (linesAt targets Q) .1 (m, s)) there

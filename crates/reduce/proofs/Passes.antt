@@ -1,38 +1,129 @@
--- One pass over the lines, from the last to the first.
-use mathlib.Core.Path.{_≡_, refl, sym, ap, _∙_}
-use mathlib.Core.Bool.{cond}
-use Prim.Native.Nat.{ℕ, suc, _-_, _<_}
+-- Taking out the lines that may go, one after the other, the last first.
+use mathlib.Core.Path.{_≡_, refl, sym, ap, subst, _∙_}
+use mathlib.Core.Logic.{_↔_, _≢_}
+use mathlib.Core.Bool.{Bool, true, false, cond, _||_}
+use mathlib.Core.List.{List, [], List·Memᴰ·not-nil}
+use Prim.Native.Nat.{ℕ, zero, suc, _+_, _*_, _-_, _/_, _%_, _^_, _≤_, _<_}
+use native.Mathlib.Nat.{le-refl, le-step, lt-of-lt-of-le, lt-of-le-of-lt}
+use native.Mathlib.Decide.{decLt}
 use native.Mathlib.Omega.{arith}
-use Rattle.theory.specs.Query.{Query}
-use Rattle.theory.specs.Reduce.{without}
+use lib.Dec.{T, eqb}
+use lib.ListN.{length}
+use lib.Pow.{pow-mono}
+use mir.Facts.{eqb-yes}
+use Rattle.theory.specs.Query.{Term, hidden, Line, Query, over, _∈_}
+use Rattle.theory.specs.Reduce.{image, without, Sends}
+use Rattle.theory.specs.Executable.Test.{allBelow}
 use Rattle.theory.specs.Executable.Reduce.{mayGo, reduceBelow, reduce}
-use Rattle.model.specs.Value.{queryValue}
-use Rattle.model.specs.declared.Query.{Query as QueryValue}
-use Rattle.reduce.specs.Going.{Held}
-use Rattle.reduce.proofs.Lines.{held-count}
+use Rattle.theory.proofs.Reduce.{sends-self, sends-twice}
+use Rattle.theory.proofs.Executable.Test.{or-iff, allBelow-iff, same-test}
+use Rattle.theory.proofs.Executable.Reduce.{sendable-iff}
+use Rattle.words.specs.Bits.{bit, isSet, clearBit, meet}
+use Rattle.words.proofs.Bits.{bit-beyond}
+use Rattle.words.proofs.ClearBits.{clear-bit-iff, clear-bit-le, clear-bit-other, low-bits-set, low-bits-below}
+use Rattle.words.proofs.Tests.{meet-iff}
+use Rattle.reduce.specs.Agree.{lineAt}
+use Rattle.reduce.specs.Extends.{Extends}
+use Rattle.reduce.specs.Left.{linesAt, Folds}
+use Rattle.reduce.specs.Pairs.{Goings, Tabled}
+use Rattle.reduce.proofs.Agree.{goes-iff}
+use Rattle.reduce.proofs.Assign.{goes-image, may-go-sends}
+use Rattle.reduce.proofs.Left.{in-lines, lines-in, lines-subset, lines-without, lines-all}
+use Rattle.reduce.proofs.Maps.{extends-sends, sends-extends}
+use Rattle.reduce.proofs.Rows.{extends-more}
 
--- r holds what is left of Q once the lines from i on were tried
-pub record Reducing (r : QueryValue) (i : ℕ) (Q : Query) : Type 0 where
-  pub left : Query
-  pub held : Held r left
-  pub same : reduceBelow i left ≡ reduce Q
+-- what is sent is sent of fewer lines too
+sends-of : {m : ℕ → Term} {Q R : Query} (w : ℕ) → Sends m Q R → Sends m (linesAt w Q) R
+sends-of {Q = Q} w s A i = s A (lines-subset w Q i)
 
-pub reducing-none : (q : QueryValue) (Q : Query) → Held q Q → Reducing q (q .count) Q
-unfolding reduce
-reducing-none q Q h = record { left = Q; held = h; same = rw (held-count h) refl }
+pub folds-all : (Q : Query) (n : ℕ) → length Q ≡ n → Folds Q (2 ^ n - 1)
+folds-all Q n e = (hidden, rw (lines-all Q n e) (sends-self Q))
 
-pub reducing-more : (r : QueryValue) (i : ℕ) (Q : Query) → Reducing r i Q → 0 < i → (r′ : QueryValue)
-    → ((P : Query) → Held r P → Held r′ (cond (mayGo P (i - 1)) (without (i - 1) P) P)) → Reducing r′ (i - 1) Q
-unfolding reduceBelow
-reducing-more r i Q s h r′ f =
-    let P = s .left in
-    let e : i ≡ suc (i - 1) = omega arith in
-    record {
-      left = cond (mayGo P (i - 1)) (without (i - 1) P) P;
-      held = f P (s .held);
-      same = sym (ap (λ (k : ℕ). reduceBelow k P) e) ∙ s .same;
+pub in-eight : {w n : ℕ} → w < 2 ^ n → n ≤ 8 → w < 2 ^ 8
+in-eight {n = n} small few = lt-of-lt-of-le small (pow-mono {i = n} few)
+
+-- what is left once a bit is cleared
+pub cleared : {r : ℕ} (n w k : ℕ) → r ≡ clearBit w k → w < 2 ^ n → r < 2 ^ n
+cleared n w k e small = rw e (lt-of-le-of-lt (clear-bit-le w k) small)
+
+-- the lines at the bits of a word below 2 ^ n are among the first n
+pub below-there : {w n i : ℕ} → w < 2 ^ n → bit w i ≡ 1 → i < n
+below-there {w} {n} {i} small h = go (decLt i n)
+  where
+    go : Dec (i < n) → i < n
+    go (yes l) = l
+    go (no f) = absurd (omega (arith, bit-beyond {n = w} i (lt-of-lt-of-le small (pow-mono {i = n} (omega arith)))))
+
+module _ {Q : Query} {c : ℕ} {words : List ℕ} (tabled : Tabled Q c words) where
+  -- lines that go alone are left out
+  pub folds-more : (rows rest alone : ℕ) → rest < 2 ^ 8 → ((p : ℕ) → bit alone p ≡ 1 → bit c p ≡ 1) → Folds Q rows
+      → Extends rows rest alone words → Folds Q rest
+  folds-more rows rest alone few f g x =
+      let (m, s) = extends-sends tabled rows rest few (extends-more f x) in (λ n. image m (g .0 n), sends-twice (g .0) m (g .1) s)
+
+  module _ (rows : ℕ) (there : (i : ℕ) → bit rows i ≡ 1 → i < length Q) (folds : Folds Q rows) where
+    -- What is left of Q once the lines from i on were tried.
+    pub record Taking (i left : ℕ) : Type 0 where
+      pub small : left < 2 ^ 8
+      pub front : (j : ℕ) → j < i → bit left j ≡ 1
+      pub kept : Folds Q left
+      pub same : reduceBelow i (linesAt left Q) ≡ reduce Q
+
+    pub taking-none : (n : ℕ) → length Q ≡ n → Taking n (2 ^ n - 1)
+    unfolding reduce
+    taking-none n e = record {
+      small = low-bits-below n 8 (rw (← e) (tabled .few));
+      front = low-bits-set n;
+      kept = folds-all Q n e;
+      same = rw (lines-all Q n e, e) refl;
     }
 
-pub reducing-all : (r : QueryValue) (Q : Query) → Reducing r 0 Q → r ≡ queryValue (reduce Q)
-unfolding reduceBelow
-reducing-all r Q s = s .held .is ∙ ap queryValue (s .same)
+    module _ (i left : ℕ) (k : Taking (suc i) left) (l : i < length Q) where
+      abbrev pub rest : ℕ
+      rest = clearBit left i
+
+      rest-small : rest < 2 ^ 8
+      rest-small = cleared 8 left i refl (k .small)
+
+      out : without i (linesAt left Q) ≡ linesAt rest Q
+      out = lines-without left Q i l (λ j h. k .front j (omega arith))
+
+      all-to-rest : Extends rows rest c words → Folds Q rest
+      all-to-rest x =
+          let (m, s) = extends-sends tabled rows rest rest-small x in (λ n. image m (folds .0 n), sends-twice (folds .0) m (folds .1) s)
+
+      -- the search tells whether the line may go
+      may-go : T (mayGo (linesAt left Q) i) ↔ Extends rows rest c words
+      may-go =
+          let w = may-go-sends (linesAt left Q) (linesAt rest Q) i out in (
+            λ t.
+                let (m, s) = w .0 t in
+                let all = sends-twice (k .kept .0) m (k .kept .1) s in
+                sends-extends tabled rows rest there (λ n. image m (k .kept .0 n)) (sends-of rows all),
+            λ x. let (m, s) = all-to-rest x in w .1 (m, sends-of left s),
+          )
+
+      -- one step of the pass, by what the line may do
+      step : (b : Bool) → mayGo (linesAt left Q) i ≡ b → reduceBelow i (cond b (without i (linesAt left Q)) (linesAt left Q)) ≡ reduce Q
+      unfolding reduceBelow
+      step b e = rw (← e) (k .same)
+
+      pub taking-out : Extends rows rest c words → Taking i rest
+      taking-out x = record {
+        small = rest-small;
+        front = λ j h. clear-bit-other left i j (λ e. omega arith) ∙ k .front j (omega arith);
+        kept = all-to-rest x;
+        same = rw (← out) (step true (same-test (mayGo (linesAt left Q) i) true (λ t. tt) (λ t. may-go .1 x)));
+      }
+
+      pub taking-kept : (Extends rows rest c words → ⊥) → Taking i left
+      taking-kept f = record {
+        small = k .small;
+        front = λ j h. k .front j (omega arith);
+        kept = k .kept;
+        same = step false (same-test (mayGo (linesAt left Q) i) false (λ t. f (may-go .0 t)) (λ t. absurd t));
+      }
+
+    pub taking-all : (left : ℕ) → Taking 0 left → linesAt left Q ≡ reduce Q
+    unfolding reduceBelow
+    taking-all left k = k .same

@@ -1,68 +1,101 @@
 -- Searching for an assignment line by line, target by target.
 use mathlib.Core.Path.{_≡_, refl, sym, subst, _∙_}
-use mathlib.Core.Logic.{⊎-elim}
 use mathlib.Core.Bool.{cond}
 use mathlib.Core.List.{List}
-use Prim.Native.Nat.{ℕ, _+_, _*_, _/_, _%_, _^_, _≤_, _<_}
-use native.Mathlib.Nat.{eq-or-lt-of-le, lt-of-lt-of-le}
+use Prim.Native.Nat.{ℕ, _+_, _*_, _/_, _^_, _<_}
+use native.Mathlib.Nat.{lt-of-lt-of-le}
 use native.Mathlib.Decide.{ℕ-discrete, decLt}
 use native.Mathlib.Omega.{arith}
 use borrow.Author.Tests.{eq-eqb, ne-eqb}
-use lib.Bits.{bitAnd, and-mask}
+use lib.Bits.{bitAnd}
 use lib.Dec.{eqb}
 use lib.ListN.{getD}
 use lib.Pow.{pow-mono, shr-shr}
 use Rattle.words.specs.Bits.{bit, Least, LeastDropped}
-use Rattle.words.proofs.Bits.{bit-zero, bit-beyond, bit-mod}
+use Rattle.words.proofs.Bits.{bit-zero, bit-beyond}
 use Rattle.words.proofs.Masks.{bit-and-iff}
 use Rattle.words.proofs.Lowest.{dropped-same, dropped-other}
+use Rattle.words.proofs.Marks.{left-before}
 use Rattle.reduce.specs.Extends.{Row, EmptyRow, Extends}
 
-pub row-is : (c k : ℕ) → Row c k (bitAnd (c / 2 ^ (k * 8)) 255)
-row-is c k =
-    let e : bitAnd (c / 2 ^ (k * 8)) 255 ≡ c / 2 ^ (k * 8) % 2 ^ 8 = and-mask (c / 2 ^ (k * 8)) 8 in
+-- a bit of a word of eight
+pub bit-small : {w j : ℕ} → w < 2 ^ 8 → bit w j ≡ 1 → j < 8
+bit-small {w} {j} small e = go (decLt j 8)
+  where
+    go : Dec (j < 8) → j < 8
+    go (yes h) = h
+    go (no h) = absurd (omega (arith, bit-beyond {n = w} j (lt-of-lt-of-le small (pow-mono {i = 8} (omega arith)))))
+
+pub row-is : (c targets k : ℕ) → Row c targets k (bitAnd (c / 2 ^ (k * 8)) targets)
+row-is c targets k =
+    let same : (j : ℕ) → bit (c / 2 ^ (k * 8)) j ≡ bit c (k * 8 + j) = λ j. rw shr-shr in
     record {
-      bits = λ j l. rw e (bit-mod (c / 2 ^ (k * 8)) 8 j l ∙ rw shr-shr);
-      small = rw e (omega arith);
+      some = λ j e. let (x, y) = bit-and-iff (c / 2 ^ (k * 8)) targets j .0 e in (y, sym (same j) ∙ x);
+      all = λ j x y. bit-and-iff (c / 2 ^ (k * 8)) targets j .1 (same j ∙ y, x);
     }
 
-pub row-empty : (n k c i : ℕ) → k ≤ i → i < n → Row c i 0 → EmptyRow n k c
-row-empty n k c i f t r = record { line = i; from = f; to = t; none = λ j l. sym (r .bits j l) ∙ bit-zero j }
+pub row-empty : {rows targets c k : ℕ} → bit rows k ≡ 1 → Row c targets k 0 → EmptyRow rows targets c
+row-empty {k = k} h r = record { line = k; in-rows = h; none = λ j x y. omega (arith, r .all j x y, bit-zero j) }
 
-module _ (n k c : ℕ) (words : List ℕ) where
-  pub empty-none : EmptyRow n k c → Extends n k c words → ⊥
-  empty-none e x = omega (arith, x .candidate (e .line) (e .from) (e .to), e .none (x .target (e .line)) (x .small (e .line) (e .from) (e .to)))
+module _ {rows targets c : ℕ} {words : List ℕ} where
+  pub empty-none : EmptyRow rows targets c → Extends rows targets c words → ⊥
+  empty-none e x = e .none (x .target (e .line)) (x .allowed (e .line) (e .in-rows)) (x .candidate (e .line) (e .in-rows))
 
-  pub extends-none : n ≤ k → Extends n k c words
-  extends-none h =
+  pub extends-none : rows ≡ 0 → Extends rows targets c words
+  extends-none e =
+      let nothing : (i : ℕ) → bit rows i ≡ 1 → ⊥ = λ i h. omega (arith, bit-zero i, rw e at h) in
       record {
         target = λ i. 0;
-        small = λ i f t. omega arith;
-        candidate = λ i f t. absurd (omega arith);
-        joint = λ i j f m t. absurd (omega arith);
+        allowed = λ i h. absurd (nothing i h);
+        candidate = λ i h. absurd (nothing i h);
+        joint = λ i j h g l. absurd (nothing i h);
       }
 
+  -- fewer candidates, or more
+  pub extends-more : {b : ℕ} → ((p : ℕ) → bit c p ≡ 1 → bit b p ≡ 1) → Extends rows targets c words → Extends rows targets b words
+  extends-more f x = record {
+    target = x .target;
+    allowed = x .allowed;
+    candidate = λ i h. f (i * 8 + x .target i) (x .candidate i h);
+    joint = x .joint;
+  }
+
+module _ (rows targets c k rest : ℕ) (words : List ℕ) (first : Least 64 rows k) (others : LeastDropped 64 rows rest) where
   -- the candidates once line k has target j
   abbrev pub left : ℕ → ℕ
   left j = bitAnd c (getD words (k * 8 + j) 0)
 
-  pub extends-split : Extends n k c words → k < n → (j : ℕ) × (j < 8) × (bit c (k * 8 + j) ≡ 1) × Extends n (k + 1) (left j) words
-  extends-split x h =
+  -- line k can have target j
+  abbrev Open : ℕ → Type 0
+  Open j = (bit targets j ≡ 1) × (bit c (k * 8 + j) ≡ 1)
+
+  in-rows : (i : ℕ) → bit rest i ≡ 1 → bit rows i ≡ 1
+  in-rows i h = left-before i first others h
+
+  behind : (i : ℕ) → bit rest i ≡ 1 → k < i
+  behind i h = go (decLt k i) (ℕ-discrete i k)
+    where
+      go : Dec (k < i) → Dec (i ≡ k) → k < i
+      go (yes l) d = l
+      go (no n) (yes e) = absurd (omega (arith, dropped-same others first, rw e at h))
+      go (no n) (no f) = absurd (omega (arith, first .none i (omega arith), in-rows i h))
+
+  extends-split : Extends rows targets c words → (j : ℕ) × Open j × Extends rest targets (left j) words
+  extends-split x =
       let t = x .target in (
         t k,
-        x .small k (omega arith) h,
-        x .candidate k (omega arith) h,
+        (x .allowed k (first .set), x .candidate k (first .set)),
         record {
           target = t;
-          small = λ i f l. x .small i (omega arith) l;
-          candidate = λ i f l.
+          allowed = λ i h. x .allowed i (in-rows i h);
+          candidate = λ i h.
               bit-and-iff c (getD words (k * 8 + t k) 0) (i * 8 + t i) .1
-              (x .candidate i (omega arith) l, x .joint k i (omega arith) (omega arith) l);
-          joint = λ i j f m l. x .joint i j (omega arith) m l;
+              (x .candidate i (in-rows i h), x .joint k i (first .set) (in-rows i h) (behind i h));
+          joint = λ i j h g l. x .joint i j (in-rows i h) (in-rows j g) l;
         },
       )
 
-  module _ (j : ℕ) (x : Extends n (k + 1) (left j) words) where
+  module _ (j : ℕ) (x : Extends rest targets (left j) words) where
     chosen : ℕ → ℕ
     chosen i = cond (eqb i k) j (x .target i)
 
@@ -70,61 +103,60 @@ module _ (n k c : ℕ) (words : List ℕ) where
     unfolding chosen
     here = rw (eq-eqb k k refl)
 
-    later : (i : ℕ) → k < i → chosen i ≡ x .target i
+    later : (i : ℕ) → (i ≡ k → ⊥) → chosen i ≡ x .target i
     unfolding chosen
-    later i h = rw (ne-eqb i k (λ e. omega arith))
+    later i f = rw (ne-eqb i k f)
 
-    pub extends-join : j < 8 → bit c (k * 8 + j) ≡ 1 → Extends n k c words
-    extends-join small set =
-        record {
-          target = chosen;
-          small = λ i f l. ⊎-elim (λ e. rw (← e, here) small) (λ m. rw (later i m) (x .small i (omega arith) l)) (eq-or-lt-of-le f);
-          candidate = λ i f l. ⊎-elim (λ e. rw (← e, here) set) (λ m. rw (later i m) (both i m l .0)) (eq-or-lt-of-le f);
-          joint = λ i o f m l. ⊎-elim
-              (λ e. rw (← e, here, later o (omega arith)) (both o (omega arith) l .1))
-              (λ b. rw (later i b, later o (omega arith)) (x .joint i o (omega arith) m l)) (eq-or-lt-of-le f);
-        }
+    in-rest : (i : ℕ) → (i ≡ k → ⊥) → bit rows i ≡ 1 → bit rest i ≡ 1
+    in-rest i f h = dropped-other i others first f ∙ h
+
+    both : (i : ℕ) → bit rest i ≡ 1 → (bit c (i * 8 + x .target i) ≡ 1) × (bit (getD words (k * 8 + j) 0) (i * 8 + x .target i) ≡ 1)
+    both i h = bit-and-iff c (getD words (k * 8 + j) 0) (i * 8 + x .target i) .0 (x .candidate i h)
+
+    pub extends-join : Open j → Extends rows targets c words
+    extends-join o = record {
+      target = chosen;
+      allowed = λ i h. allow i h (ℕ-discrete i k);
+      candidate = λ i h. can i h (ℕ-discrete i k);
+      joint = λ i l h g m. join i l h g m (ℕ-discrete i k) (ℕ-discrete l k);
+    }
       where
-        both : (i : ℕ) → k < i → i < n → (bit c (i * 8 + x .target i) ≡ 1) × (bit (getD words (k * 8 + j) 0) (i * 8 + x .target i) ≡ 1)
-        both i m l = bit-and-iff c (getD words (k * 8 + j) 0) (i * 8 + x .target i) .0 (x .candidate i (omega arith) l)
+        allow : (i : ℕ) → bit rows i ≡ 1 → Dec (i ≡ k) → bit targets (chosen i) ≡ 1
+        allow i h (yes e) = rw (e, here) (o .0)
+        allow i h (no f) = rw (later i f) (x .allowed i (in-rest i f h))
+
+        can : (i : ℕ) → bit rows i ≡ 1 → Dec (i ≡ k) → bit c (i * 8 + chosen i) ≡ 1
+        can i h (yes e) = rw (e, here) (o .1)
+        can i h (no f) = rw (later i f) (both i (in-rest i f h) .0)
+
+        join : (i l : ℕ) → bit rows i ≡ 1 → bit rows l ≡ 1 → i < l → Dec (i ≡ k) → Dec (l ≡ k)
+            → bit (getD words (i * 8 + chosen i) 0) (l * 8 + chosen l) ≡ 1
+        join i l h g m (yes e) (yes f) = absurd (omega arith)
+        join i l h g m (yes e) (no f) = rw (e, here, later l f) (both l (in-rest l f g) .1)
+        join i l h g m (no e) (yes f) = absurd (omega (arith, behind i (in-rest i e h)))
+        join i l h g m (no e) (no f) = rw (later i e, later l f) (x .joint i l (in-rest i e h) (in-rest l f g) m)
 
   -- the targets of line k tried so far, all but those in `row`, lead to nothing
   pub record Tried (row : ℕ) : Type 0 where
-    pub some : (j : ℕ) → j < 8 → bit row j ≡ 1 → bit c (k * 8 + j) ≡ 1
-    pub small : row < 2 ^ 8
-    pub nothing : (j : ℕ) → j < 8 → bit c (k * 8 + j) ≡ 1 → bit row j ≡ 0 → Extends n (k + 1) (left j) words → ⊥
+    pub some : (j : ℕ) → bit row j ≡ 1 → Open j
+    pub nothing : (j : ℕ) → Open j → bit row j ≡ 0 → Extends rest targets (left j) words → ⊥
 
-  pub tried-none : {row : ℕ} → Row c k row → Tried row
-  tried-none r =
-      record {
-        some = λ j l e. sym (r .bits j l) ∙ e;
-        small = r .small;
-        nothing = λ j l e z x. omega (arith, r .bits j l);
-      }
+  pub tried-none : {row : ℕ} → Row c targets k row → Tried row
+  tried-none r = record {
+    some = r .some;
+    nothing = λ j o z x. omega (arith, r .all j (o .0) (o .1));
+  }
 
-  pub least-small : {row j : ℕ} → Tried row → Least 64 row j → j < 8
-  least-small {row} {j} t l = go (decLt j 8)
-    where
-      go : Dec (j < 8) → j < 8
-      go (yes h) = h
-      go (no h) = absurd (omega (arith, l .set, bit-beyond {n = row} j (lt-of-lt-of-le (t .small) (pow-mono {i = 8} (omega arith)))))
-
-  pub tried-more : {row j next : ℕ} → Tried row → Least 64 row j → LeastDropped 64 row next → (Extends n (k + 1) (left j) words → ⊥)
+  pub tried-more : {row j next : ℕ} → Tried row → Least 64 row j → LeastDropped 64 row next → (Extends rest targets (left j) words → ⊥)
       → Tried next
-  tried-more {row} {j} {next} t l d f =
-      record {
-        some = λ i b e. t .some i b (go i (ℕ-discrete i j) e);
-        small = omega (arith, d .less, t .small);
-        nothing = λ i b e z x. last i b e z x (ℕ-discrete i j);
-      }
+  tried-more {row} {j} {next} t l d f = record {
+    some = λ i e. t .some i (left-before i l d e);
+    nothing = λ i o z x. go i o z x (ℕ-discrete i j);
+  }
     where
-      go : (i : ℕ) → Dec (i ≡ j) → bit next i ≡ 1 → bit row i ≡ 1
-      go i (yes p) e = absurd (omega (arith, dropped-same d l, rw p at e))
-      go i (no p) e = sym (dropped-other i d l p) ∙ e
+      go : (i : ℕ) → Open i → bit next i ≡ 0 → Extends rest targets (left i) words → Dec (i ≡ j) → ⊥
+      go i o z x (yes p) = f (subst (λ (m : ℕ). Extends rest targets (left m) words) p x)
+      go i o z x (no p) = t .nothing i o (sym (dropped-other i d l p) ∙ z) x
 
-      last : (i : ℕ) → i < 8 → bit c (k * 8 + i) ≡ 1 → bit next i ≡ 0 → Extends n (k + 1) (left i) words → Dec (i ≡ j) → ⊥
-      last i b e z x (yes p) = f (subst (λ (m : ℕ). Extends n (k + 1) (left m) words) p x)
-      last i b e z x (no p) = t .nothing i b e (sym (dropped-other i d l p) ∙ z) x
-
-  pub tried-all : Tried 0 → k < n → Extends n k c words → ⊥
-  tried-all t h x = let (j, l, e, y) = extends-split x h in t .nothing j l e (bit-zero j) y
+  pub tried-all : Tried 0 → Extends rows targets c words → ⊥
+  tried-all t x = let (j, o, y) = extends-split x in t .nothing j o (bit-zero j) y

@@ -1,90 +1,92 @@
--- The values of shown terms, lines and queries.
+-- The values of shown terms and lines. Whatever the word, a shown line's value is the value of a line; with the word of a
+-- query's shared variables it is that of the line that the theory shows.
 use mathlib.Core.Path.{_≡_, refl, sym, ap, subst, _∙_}
-use mathlib.Core.Bool.{Bool, true, false, cond}
-use mathlib.Core.List.{map, map-map}
+use mathlib.Core.Bool.{Bool, true, false, cond, _&&_, and-false}
+use mathlib.Core.List.{List, map, map-map}
 use Prim.Native.Nat.{ℕ, _≤_, _<_}
 use native.Mathlib.Omega.{arith}
-use lib.ListN.{length, getD, length-map}
+use lib.Dec.{leb}
+use lib.ListN.{length, length-map}
 use mir.Facts.{eqb-yes, yes-eqb}
 use borrow.Author.Tests.{le-leb}
 use Rattle.theory.specs.Query.{constant, shown, hidden, over, Query, _∈_}
 use Rattle.theory.specs.Query.{Term as TheTerm, Line as TheLine}
 use Rattle.theory.specs.Executable.Test.{kind, number}
-use Rattle.theory.specs.Executable.Show.{shared, showTerm, show}
-use Rattle.theory.proofs.Tuples.{map-same}
+use Rattle.theory.specs.Executable.Show.{shared, showTerm}
+use Rattle.theory.proofs.Tuples.{map-same, map-self, over-same}
 use Rattle.theory.proofs.Executable.Test.{same-test}
 use Rattle.words.specs.Bits.{isSet}
-use Rattle.model.specs.Value.{pad, unusedTerm, unusedLine, termValue, termsValue, lineValue, queryValue}
+use Rattle.words.proofs.Bits.{is-clear, bit-zero}
+use Rattle.model.specs.Value.{pad, unusedTerm, termValue, termsValue, lineValue}
+use Rattle.model.specs.declared.Term.{Term}
 use Rattle.model.specs.declared.Line.{Line}
-use Rattle.model.specs.declared.Query.{Query as QueryValue}
 use Rattle.model.proofs.Terms.{terms-few}
-use Rattle.reduce.specs.Going.{Held}
 use Rattle.reduce.specs.Showing.{Small, hiddenTerm, SharedWord, showValue, showLine}
-use Rattle.reduce.proofs.Lines.{held-count, held-behind}
 use Rattle.reduce.proofs.Mapped.{map-pad}
-
-show-unused : (w : ℕ) → showValue w unusedTerm ≡ unusedTerm
-unfolding showValue hiddenTerm unusedTerm
-show-unused w = refl
-
-pub show-unused-line : (w : ℕ) → showLine w unusedLine ≡ unusedLine
-unfolding showLine showValue hiddenTerm unusedLine unusedTerm
-show-unused-line w = refl
-
-module _ (Q : Query) (w : ℕ) (word : SharedWord Q w) where
-  set-shared : (n : ℕ) → n < 64 → isSet w n ≡ shared Q n
-  set-shared n l = same-test (isSet w n) (shared Q n) (λ h. word n l .0 (eqb-yes h)) (λ h. yes-eqb (word n l .1 h))
-
-  hidden-shown : (n : ℕ) → n < 64 → showValue w (termValue (hidden n)) ≡ termValue (showTerm Q (hidden n))
-  unfolding showValue hiddenTerm termValue kind number showTerm
-  hidden-shown n l = rw (le-leb n 63 (omega arith), set-shared n l) (go (shared Q n))
-    where
-      go : (b : Bool) → cond b (record { mark = 2; number = n }) (termValue (hidden n)) ≡ termValue (cond b (shown n) (hidden n))
-      go true = refl
-      go false = refl
-
-  term-shown : (u : TheTerm) → ((n : ℕ) → u ≡ hidden n → n < 64) → showValue w (termValue u) ≡ termValue (showTerm Q u)
-  unfolding showValue hiddenTerm termValue kind number showTerm
-  term-shown (constant c) small = refl
-  term-shown (shown n) small = refl
-  term-shown (hidden n) small = hidden-shown n (small n refl)
-
-  module _ (few : (A : TheLine) → A ∈ Q → length (A .columns) ≤ 8) (small : Small Q) where
-    terms-shown : (A : TheLine) → A ∈ Q → map (showValue w) (termsValue (A .columns)) ≡ termsValue (map (showTerm Q) (A .columns))
-    terms-shown A i =
-        let ts = A .columns in
-        let short : length (map (showTerm Q) ts) ≤ 8 = rw (length-map ts (showTerm Q)) (few A i) in
-        rw (terms-few ts (few A i), terms-few (map (showTerm Q) ts) short, map-pad (showValue w) 8 unusedTerm (map termValue ts) (show-unused w), map-map (showValue w) termValue ts, map-map termValue (showTerm Q) ts)
-        (ap (pad 8 unusedTerm)
-        (map-same (λ t. showValue w (termValue t)) (λ t. termValue (showTerm Q t)) ts
-        (λ t j. term-shown t (λ n e. small n A i (subst (λ (u : TheTerm). u ∈ ts) e j)))))
-
-    line-shown : (A : TheLine) → A ∈ Q → showLine w (lineValue A) ≡ lineValue (over (showTerm Q) A)
-    unfolding showLine lineValue
-    line-shown A i = λ k. record { table = A .table; terms = terms-shown A i k }
-
-    lines-shown : map (showLine w) (pad 8 unusedLine (map lineValue Q)) ≡ pad 8 unusedLine (map lineValue (show Q))
-    unfolding show
-    lines-shown =
-        rw (map-pad (showLine w) 8 unusedLine (map lineValue Q) (show-unused-line w), map-map (showLine w) lineValue Q, map-map lineValue (over (showTerm Q)) Q)
-        (ap (pad 8 unusedLine)
-        (map-same (λ A. showLine w (lineValue A)) (λ A. lineValue (over (showTerm Q) A)) Q (λ A i. line-shown A i)))
-
--- the value that holds the query with its shared variables shown
-pub held-shown : {q : QueryValue} {Q : Query} → Held q Q → Small Q → (w : ℕ) → SharedWord Q w → (r : QueryValue) → r .count ≡ q .count
-    → r .lines ≡ map (showLine w) (q .lines) → r ≡ queryValue (show Q)
-unfolding queryValue show
-held-shown {q} {Q} held small w word r count lines =
-    let c : r .count ≡ length (map (over (showTerm Q)) Q) = count ∙ held-count held ∙ sym (length-map Q (over (showTerm Q))) in
-    let l : r .lines ≡ pad 8 unusedLine (map lineValue (map (over (showTerm Q)) Q)) =
-    lines ∙ ap (λ (x : QueryValue). map (showLine w) (x .lines)) (held .is) ∙ lines-shown Q w word (held .columns) small in
-    λ i. record { count = c i; lines = l i }
-
--- an unused line behind the last needs no change
-pub behind-shown : {q : QueryValue} {Q : Query} → Held q Q → (w b : ℕ) (d : Line) → length Q ≤ b → b < length (q .lines)
-    → showLine w (getD (q .lines) b d) ≡ getD (q .lines) b d
-behind-shown held w b d h l = rw (held-behind held b d h l) (show-unused-line w)
 
 pub line-is : (w : ℕ) (r l : Line) → r .table ≡ l .table → r .terms ≡ map (showValue w) (l .terms) → r ≡ showLine w l
 unfolding showLine
 line-is w r l e f = λ i. record { table = e i; terms = f i }
+
+-- ---- no variable is shared
+
+none-shown : (t : Term) → showValue 0 t ≡ t
+unfolding showValue
+none-shown t = rw (is-clear 0 (t .number) (bit-zero (t .number)), and-false (hiddenTerm t))
+
+pub show-none : (l : Line) → l ≡ showLine 0 l
+show-none l = line-is 0 l l refl (sym (map-self (showValue 0) (l .terms) (λ t m. none-shown t)))
+
+-- ---- any word
+
+-- the term that the value of a shown term stands for
+unfoldable pub shownBy : ℕ → TheTerm → TheTerm
+shownBy w (constant c) = constant c
+shownBy w (shown n) = shown n
+shownBy w (hidden n) = cond (leb n 63 && isSet w n) (shown n) (hidden n)
+
+module _ (w : ℕ) where
+  unused-shown : showValue w unusedTerm ≡ unusedTerm
+  unfolding showValue hiddenTerm unusedTerm
+  unused-shown = refl
+
+  hidden-value : (b : Bool) (n : ℕ) → cond b (record { mark = 2; number = n }) (termValue (hidden n)) ≡ termValue (cond b (shown n) (hidden n))
+  unfolding termValue kind number
+  hidden-value true n = refl
+  hidden-value false n = refl
+
+  term-value : (u : TheTerm) → showValue w (termValue u) ≡ termValue (shownBy w u)
+  unfolding showValue hiddenTerm termValue kind number shownBy
+  term-value (constant c) = refl
+  term-value (shown n) = refl
+  term-value (hidden n) = hidden-value (leb n 63 && isSet w n) n
+
+  terms-value : (ts : List TheTerm) → length ts ≤ 8 → map (showValue w) (termsValue ts) ≡ termsValue (map (shownBy w) ts)
+  terms-value ts few =
+      let short : length (map (shownBy w) ts) ≤ 8 = rw (length-map ts (shownBy w)) few in
+      rw (terms-few ts few, terms-few (map (shownBy w) ts) short, map-pad (showValue w) 8 unusedTerm (map termValue ts) unused-shown, map-map (showValue w) termValue ts, map-map termValue (shownBy w) ts)
+      (ap (pad 8 unusedTerm) (map-same (λ t. showValue w (termValue t)) (λ t. termValue (shownBy w t)) ts (λ t j. term-value t)))
+
+  pub line-value : (A : TheLine) → length (A .columns) ≤ 8 → showLine w (lineValue A) ≡ lineValue (over (shownBy w) A)
+  unfolding showLine lineValue
+  line-value A few = λ k. record { table = A .table; terms = terms-value (A .columns) few k }
+
+-- ---- the word of the shared variables
+
+module _ (R : Query) (w : ℕ) (word : SharedWord R w) where
+  set-shared : (n : ℕ) → n < 64 → isSet w n ≡ shared R n
+  set-shared n l = same-test (isSet w n) (shared R n) (λ h. word n l .0 (eqb-yes h)) (λ h. yes-eqb (word n l .1 h))
+
+  shown-same : (u : TheTerm) → ((n : ℕ) → u ≡ hidden n → n < 64) → shownBy w u ≡ showTerm R u
+  unfolding shownBy showTerm
+  shown-same (constant c) small = refl
+  shown-same (shown n) small = refl
+  shown-same (hidden n) small = rw (le-leb n 63 (omega (arith, small n refl)), set-shared n (small n refl))
+
+  pub line-shown : ((A : TheLine) → A ∈ R → length (A .columns) ≤ 8) → Small R → (A : TheLine) → A ∈ R
+      → showLine w (lineValue A) ≡ lineValue (over (showTerm R) A)
+  line-shown few small A i =
+      line-value w A (few A i)
+      ∙ ap lineValue
+      (over-same (shownBy w) (showTerm R) A
+      (λ t j. shown-same t (λ n e. small n A i (subst (λ (u : TheTerm). u ∈ A .columns) e j))))

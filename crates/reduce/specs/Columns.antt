@@ -1,9 +1,14 @@
--- The same by the values of lines: eight terms each, unused ones behind.
-use mathlib.Core.Bool.{Bool, cond, not, _&&_, _||_}
-use Prim.Native.Nat.{ℕ}
+-- Terms and columns by the values of lines: eight terms each, unused ones behind.
+use mathlib.Core.Path.{_≡_}
+use mathlib.Core.Logic.{_↔_}
+use mathlib.Core.Bool.{Bool, cond, not, _&&_}
+use Prim.Native.Nat.{ℕ, _/_, _%_, _<_}
 use lib.Dec.{eqb}
-use lib.ListN.{getD}
+use lib.ListN.{length, getD}
+use Rattle.theory.specs.Query.{Line as TheLine}
+use Rattle.theory.specs.Cover.{at}
 use Rattle.theory.specs.Executable.Test.{allBelow}
+use Rattle.words.specs.Bits.{bit}
 use Rattle.model.specs.Value.{unusedTerm}
 use Rattle.model.specs.declared.Term.{Term}
 use Rattle.model.specs.declared.Line.{Line}
@@ -15,10 +20,6 @@ unfoldable pub keepsTerm : Term → Term → Bool
 unfolding sameTerm
 keepsTerm t u = cond (eqb (t .mark) 3) (not (eqb (u .mark) 0)) (sameTerm t u)
 
-unfoldable pub agreesTerms : Term → Term → Term → Term → Bool
-unfolding sameTerm
-agreesTerms t u v w = not (sameTerm t v) || sameTerm u w
-
 -- the term in a column
 unfoldable pub termAt : Line → ℕ → Term
 unfolding unusedTerm
@@ -28,10 +29,12 @@ unfoldable pub goesLine : Line → Line → Bool
 unfolding keepsTerm termAt allBelow
 goesLine a s = eqb (a .table) (s .table) && allBelow 8 (λ p. keepsTerm (termAt a p) (termAt s p))
 
-unfoldable pub agreesColumn : Term → Term → Line → Line → Bool
-unfolding agreesTerms termAt allBelow
-agreesColumn t u b s = allBelow 8 (λ q. agreesTerms t u (termAt b q) (termAt s q))
+-- column b / 8 of line A has the term of column b % 8 of line B
+pub record SameColumn (A B : TheLine) (b : ℕ) : Type 0 where
+  pub first : b / 8 < length (A .columns)
+  pub second : b % 8 < length (B .columns)
+  pub same : at A (b / 8) ≡ at B (b % 8)
 
-unfoldable pub agreesLine : Line → Line → Line → Line → Bool
-unfolding agreesColumn termAt allBelow
-agreesLine a s b t = allBelow 8 (λ p. agreesColumn (termAt a p) (termAt s p) b t)
+-- all such columns, as the bits of a word
+abbrev pub SameColumns : TheLine → TheLine → ℕ → Type 0
+SameColumns A B w = (b : ℕ) → (bit w b ≡ 1) ↔ SameColumn A B b

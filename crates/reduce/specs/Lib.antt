@@ -1,5 +1,6 @@
 pub mod Agree
 pub mod Columns
 pub mod Extends
-pub mod Going
+pub mod Left
+pub mod Pairs
 pub mod Showing

@@ -30,6 +30,11 @@ abbrev pub HiddenWord : Line → ℕ → ℕ → Type 0
 HiddenWord l k w =
     (n : ℕ) → (bit w n ≡ 1) ↔ ((b : ℕ) × (b < k) × T (hiddenTerm (termAt l b)) × (termAt l b .number ≡ n))
 
+-- the same where the line is there, and nothing where it is not
+abbrev pub HiddenIf : Bool → Line → ℕ → Type 0
+HiddenIf there l w =
+    (n : ℕ) → (bit w n ≡ 1) ↔ (T there × ((b : ℕ) × (b < 8) × T (hiddenTerm (termAt l b)) × (termAt l b .number ≡ n)))
+
 -- w has the shared variables
 abbrev pub SharedWord : Query → ℕ → Type 0
 SharedWord Q w = (n : ℕ) → n < 64 → (bit w n ≡ 1) ↔ T (shared Q n)

@@ -3,51 +3,54 @@
 ghost use mathlib.Core.Path.{_≡_};
 ghost use mathlib.Core.Logic.{_↔_};
 ghost use mathlib.Core.Bool.{true, false};
-ghost use Prim.Native.Nat.{_≤_, _<_};
+ghost use Prim.Native.Nat.{_^_, _<_};
 ghost use lib.ListN.{length};
 ghost use Rattle.reduce.specs.Extends.{Row, EmptyRow, Extends};
 
-// The targets of line k: bit j for target j.
-fn row_of(candidates: u64, k: usize) -> u64
-    requires { ⌜ k < 8 ⌝ }
-    ensures { λ r. ⌜ Row candidates k r ⌝ }
+// The targets of line k that are among `targets`: bit j for target j.
+fn row_of(candidates: u64, targets: u64, k: u64) -> u64
+    requires { ⌜ (k < 8) × (targets < 2 ^ 8) ⌝ }
+    ensures { λ r. ⌜ Row candidates targets k r ⌝ }
 {
-    (candidates >> (k * 8)) & 255
+    (candidates >> (k * 8)) & targets
 }
 
-// Whether each of the lines from k on, to line n, has a target.
-fn rows_left(candidates: u64, k: usize, n: usize) -> bool
-    requires { ⌜ (k ≤ n) × (n ≤ 8) ⌝ }
-    ensures { λ r. ⌜ (r ≡ false → EmptyRow n k candidates) ⌝ }
+// Whether each of the lines of `rows` has a target.
+fn rows_left(rows: u64, targets: u64, candidates: u64) -> bool
+    requires { ⌜ (rows < 2 ^ 8) × (targets < 2 ^ 8) ⌝ }
+    ensures { λ r. ⌜ (r ≡ false → EmptyRow rows targets candidates) ⌝ }
 {
-    let mut i = k;
-    while i < n {
-        if row_of(candidates, i) == 0 {
+    let mut rest = rows;
+    while rest != 0 {
+        let k = words::least(rest);
+        if row_of(candidates, targets, k) == 0 {
             return false;
         }
-        i += 1;
+        rest = words::drop_least(rest);
     }
     true
 }
 
-// Whether each of the lines from k on, to line n, can be given one of its targets such that every two of these pairs of a
-// line and a target are compatible. Line i and target j are the pair i * 8 + j.
-pub fn search(k: usize, n: usize, candidates: u64, table: &[u64; 64]) -> bool
-    requires { ⌜ (k ≤ n) × (n ≤ 8) ⌝ }
+// Whether each of the lines of `rows` can be given one of its targets, one of `targets`, such that every two of these pairs
+// of a line and a target are compatible. Line i and target j are the pair i * 8 + j.
+pub fn search(rows: u64, targets: u64, candidates: u64, table: &[u64; 64]) -> bool
+    requires { ⌜ (rows < 2 ^ 8) × (targets < 2 ^ 8) ⌝ }
     requires { ⌜ length (now table) ≡ 64 ⌝ }
-    ensures { λ r. ⌜ (r ≡ true) ↔ Extends n k candidates (now (table .entry)) ⌝ }
+    ensures { λ r. ⌜ (r ≡ true) ↔ Extends rows targets candidates (now (table .entry)) ⌝ }
 {
-    if k == n {
+    if rows == 0 {
         return true;
     }
-    if !rows_left(candidates, k, n) {
+    if !rows_left(rows, targets, candidates) {
         return false;
     }
-    let mut row = row_of(candidates, k);
+    let k = words::least(rows);
+    let rest = words::drop_least(rows);
+    let mut row = row_of(candidates, targets, k);
     while row != 0 {
-        let at = k * 8 + words::least(row) as usize;
+        let at = (k * 8 + words::least(row)) as usize;
         let left = candidates & table[at];
-        if search(k + 1, n, left, table) {
+        if search(rest, targets, left, table) {
             return true;
         }
         row = words::drop_least(row);

@@ -1,12 +1,12 @@
-// Whether one map can send two lines to two targets, column by column.
+// Whether a line could go to another, column by column, and where two lines have the same term.
 
 ghost use mathlib.Core.Path.{_≡_};
-ghost use Prim.Native.Nat.{_≤_};
+ghost use Prim.Native.Nat.{_*_, _+_, _≤_, _<_};
 ghost use lib.ListN.{length};
 ghost use Rattle.theory.specs.Query.{Line as TheLine};
+ghost use Rattle.words.proofs.Marks.{Upto};
 ghost use Rattle.model.specs.Value.{lineValue};
-ghost use Rattle.reduce.specs.Agree.{agree};
-ghost use Rattle.reduce.specs.Columns.{sameTerm, keepsTerm, agreesTerms, goesLine, agreesColumn, agreesLine};
+ghost use Rattle.reduce.specs.Columns.{sameTerm, keepsTerm, termAt, goesLine, SameColumn, SameColumns};
 use model::HIDDEN;
 use model::Line;
 use model::Term;
@@ -31,18 +31,8 @@ fn keeps_term(t: Term, u: Term) -> bool
     same_term(t, u)
 }
 
-// Where t and v are equal, so are u and w.
-fn agrees_terms(t: Term, u: Term, v: Term, w: Term) -> bool
-    ensures { λ r. ⌜ r ≡ agreesTerms t u v w ⌝ }
-{
-    if same_term(t, v) {
-        return same_term(u, w);
-    }
-    true
-}
-
 // Line a could go to line s, were there no hidden variable in two columns.
-fn goes_line(a: Line, s: Line) -> bool
+pub fn goes_line(a: Line, s: Line) -> bool
     ensures { λ r. ⌜ r ≡ goesLine a s ⌝ }
 {
     if a.table != s.table {
@@ -60,46 +50,35 @@ fn goes_line(a: Line, s: Line) -> bool
     true
 }
 
-// Term t goes to u: no column of the line b, which goes to s, says otherwise.
-fn agrees_column(t: Term, u: Term, b: Line, s: Line) -> bool
-    ensures { λ r. ⌜ r ≡ agreesColumn t u b s ⌝ }
+// The word with the columns of line b that have term t, which stands in column p of a line.
+fn with_column(m: u64, p: usize, t: Term, b: Line) -> u64
+    requires { ⌜ p < 8 ⌝ }
+    ensures { λ r. ⌜ ((A B : TheLine) → t ≡ termAt (lineValue A) p → b ≡ lineValue B → length (A .columns) ≤ 8 → length (B .columns) ≤ 8 → Upto (SameColumn A B) (p * 8) m → Upto (SameColumn A B) (p * 8 + 8) r) ⌝ }
 {
+    if t.mark == UNUSED {
+        return m;
+    }
+    let mut r = m;
     let mut q = 0;
     while q < 8 {
-        let v = b.terms[q];
-        let w = s.terms[q];
-        if !agrees_terms(t, u, v, w) {
-            return false;
-        }
+        let u = b.terms[q];
+        let same = same_term(t, u);
+        r = words::set_bit_if(r, (p * 8 + q) as u64, same);
         q += 1;
     }
-    true
+    r
 }
 
-fn agrees_line(a: Line, s: Line, b: Line, t: Line) -> bool
-    ensures { λ r. ⌜ r ≡ agreesLine a s b t ⌝ }
+// The columns p and q of lines a and b that have the same term, as bit p * 8 + q.
+pub fn same_columns(a: Line, b: Line) -> u64
+    ensures { λ r. ⌜ ((A B : TheLine) → a ≡ lineValue A → b ≡ lineValue B → length (A .columns) ≤ 8 → length (B .columns) ≤ 8 → SameColumns A B r) ⌝ }
 {
+    let mut m = 0;
     let mut p = 0;
     while p < 8 {
-        let x = a.terms[p];
-        let y = s.terms[p];
-        if !agrees_column(x, y, b, t) {
-            return false;
-        }
+        let t = a.terms[p];
+        m = with_column(m, p, t, b);
         p += 1;
     }
-    true
-}
-
-// Whether one map can send line a to line s and line b to line t.
-pub fn compatible(a: Line, s: Line, b: Line, t: Line) -> bool
-    ensures { λ r. ⌜ ((A S B D : TheLine) → a ≡ lineValue A → s ≡ lineValue S → b ≡ lineValue B → t ≡ lineValue D → length (A .columns) ≤ 8 → length (S .columns) ≤ 8 → length (B .columns) ≤ 8 → length (D .columns) ≤ 8 → r ≡ agree A S B D) ⌝ }
-{
-    if !goes_line(a, s) {
-        return false;
-    }
-    if !goes_line(b, t) {
-        return false;
-    }
-    agrees_line(a, s, b, t)
+    m
 }

@@ -2,11 +2,10 @@
 
 mod assignment;
 mod columns;
-mod going;
+mod pairs;
 mod showing;
 mod taking;
 
-pub use columns::compatible;
-pub use going::may_go;
-pub use showing::show;
-pub use taking::reduce;
+pub use showing::shared;
+pub use showing::show_line;
+pub use taking::lines_left;

@@ -4,11 +4,10 @@ ghost use mathlib.Core.Path.{_≡_};
 ghost use mathlib.Core.Bool.{_&&_};
 ghost use Prim.Native.Nat.{_≤_};
 ghost use Rattle.theory.specs.Query.{Query as TheQuery};
-ghost use Rattle.theory.specs.Executable.Show.{show as theShown};
 ghost use Rattle.words.specs.Bits.{isSet};
-ghost use Rattle.model.specs.Value.{queryValue};
-ghost use Rattle.reduce.specs.Going.{Held};
-ghost use Rattle.reduce.specs.Showing.{Small, hiddenTerm, withHidden, HiddenWord, SharedWord, showValue, showLine};
+ghost use Rattle.reduce.specs.Left.{linesAt};
+ghost use Rattle.reduce.specs.Pairs.{Held};
+ghost use Rattle.reduce.specs.Showing.{hiddenTerm, withHidden, HiddenWord, HiddenIf, SharedWord, showValue, showLine};
 use model::HIDDEN;
 use model::LAST_VARIABLE;
 use model::Line;
@@ -50,10 +49,20 @@ fn hidden_word(l: Line) -> u64
     m
 }
 
-// The hidden variables that stand in two lines or more, as bits.
-fn shared_word(q: Query) -> u64
+// The hidden variables of a line that is there.
+fn hidden_if(there: bool, l: Line) -> u64
+    ensures { λ r. ⌜ HiddenIf there l r ⌝ }
+{
+    if !there {
+        return 0;
+    }
+    hidden_word(l)
+}
+
+// The hidden variables that stand in two of the lines left or more, as bits.
+pub fn shared(q: Query, left: u64) -> u64
     requires { ⌜ q .count ≤ 8 ⌝ }
-    ensures { λ r. ⌜ ((Q : TheQuery) → Held q Q → SharedWord Q r) ⌝ }
+    ensures { λ r. ⌜ ((Q : TheQuery) → Held q Q → SharedWord (linesAt left Q) r) ⌝ }
 {
     let n = q.count;
     let mut once = 0;
@@ -61,7 +70,8 @@ fn shared_word(q: Query) -> u64
     let mut i = 0;
     while i < n {
         let l = q.lines[i];
-        let w = hidden_word(l);
+        let there = words::has_bit(left, i as u64);
+        let w = hidden_if(there, l);
         twice = twice | (once & w);
         once = once | w;
         i += 1;
@@ -91,34 +101,19 @@ fn show_term(shared: u64, t: Term) -> Term
     t
 }
 
-fn show_line(shared: u64, l: Line) -> Line
+// The line with its shared variables shown.
+pub fn show_line(shared: u64, l: Line) -> Line
     ensures { λ r. ⌜ r ≡ showLine shared l ⌝ }
 {
+    if shared == 0 {
+        return l;
+    }
     let mut r = l;
     let mut k = 0;
     while k < 8 {
         let t = l.terms[k];
         r.terms[k] = show_term(shared, t);
         k += 1;
-    }
-    r
-}
-
-// The query with the hidden variables shown that stand in two lines or more.
-pub fn show(q: Query) -> Query
-    ensures { λ r. ⌜ ((Q : TheQuery) → Held q Q → Small Q → r ≡ queryValue (theShown Q)) ⌝ }
-{
-    if 8 < q.count {
-        return q;
-    }
-    let shared = shared_word(q);
-    let n = q.count;
-    let mut r = q;
-    let mut i = 0;
-    while i < n {
-        let l = q.lines[i];
-        r.lines[i] = show_line(shared, l);
-        i += 1;
     }
     r
 }

@@ -1,71 +1,82 @@
 // Taking out the lines that may go.
 
 ghost use mathlib.Core.Path.{_≡_};
-ghost use mathlib.Core.Bool.{cond};
-ghost use Prim.Native.Nat.{_+_, _≤_, _<_};
+ghost use Prim.Native.Nat.{_^_, _≤_, _<_};
 ghost use lib.ListN.{length};
 ghost use Rattle.theory.specs.Query.{Query as TheQuery};
-ghost use Rattle.theory.specs.Reduce.{without};
-ghost use Rattle.theory.specs.Executable.Reduce.{mayGo, reduce as theReduced};
-ghost use Rattle.model.specs.Value.{unusedLine, queryValue};
-ghost use Rattle.reduce.specs.Going.{Held};
-use crate::going::may_go;
-use model::Line;
+ghost use Rattle.theory.specs.Executable.Reduce.{reduce};
+ghost use Rattle.reduce.specs.Pairs.{Held, Goings, Tabled};
+ghost use Rattle.reduce.specs.Left.{linesAt, Folds};
+use crate::assignment::search;
+use crate::pairs::candidates;
+use crate::pairs::columns;
+use crate::pairs::goings;
+use crate::pairs::pair_words;
 use model::Query;
-use model::Term;
 
-fn unused_line() -> Line
-    ensures { λ r. ⌜ r ≡ unusedLine ⌝ }
-{
-    Line {
-        table: 0,
-        terms: [Term { mark: 0, number: 0 }; 8],
-    }
-}
+// The pairs of a line with itself, and the others.
+const STAYING: u64 = 0x8040_2010_0804_0201;
 
-// The query without line i: the lines behind it move up.
-fn taken_out(q: Query, i: usize) -> Query
-    requires { ⌜ (i < q .count) × (q .count ≤ 8) ⌝ }
-    ensures { λ r. ⌜ r .count + 1 ≡ q .count ⌝ }
-    ensures { λ r. ⌜ ((Q : TheQuery) → Held q Q → Held r (without i Q)) ⌝ }
-{
-    let last = q.count - 1;
-    let mut r = q;
-    let mut k = i;
-    while k < last {
-        let l = q.lines[k + 1];
-        r.lines[k] = l;
-        k += 1;
-    }
-    r.lines[last] = unused_line();
-    r.count = last;
-    r
-}
+const MOVING: u64 = 0x7fbf_dfef_f7fb_fdfe;
 
-// The query without line i, if that may go.
-fn tried(q: Query, i: usize) -> Query
-    requires { ⌜ (i < q .count) × (q .count ≤ 8) ⌝ }
-    ensures { λ r. ⌜ (i ≤ r .count) × (r .count ≤ 8) ⌝ }
-    ensures { λ r. ⌜ ((Q : TheQuery) → Held q Q → Held r (cond (mayGo Q i) (without i Q) Q)) ⌝ }
+// The lines without those that can go while the others stay, the last first. A map needs no more than targets for these,
+// since all lines can be sent to them; and a search for targets is long where many lines can go by themselves.
+fn fold(n: usize, candidates: u64, table: &[u64; 64]) -> u64
+    requires { ⌜ (n ≤ 8) × (length (now table) ≡ 64) ⌝ }
+    ensures { λ r. ⌜ r < 2 ^ n ⌝ }
+    ensures { λ r. ⌜ ((Q : TheQuery) → length Q ≡ n → Tabled Q candidates (now (table .entry)) → Folds Q r) ⌝ }
 {
-    if may_go(q, i) {
-        return taken_out(q, i);
-    }
-    q
-}
-
-// The query without the lines that may go.
-pub fn reduce(q: Query) -> Query
-    ensures { λ r. ⌜ ((Q : TheQuery) → Held q Q → r ≡ queryValue (theReduced Q)) ⌝ }
-{
-    if 8 < q.count {
-        return q;
-    }
-    let mut r = q;
-    let mut i = q.count;
+    let mut rows = words::low_bits(n as u64);
+    let mut i = n;
     while 0 < i {
         i -= 1;
-        r = tried(r, i);
+        let rest = words::clear_bit(rows, i as u64);
+        let alone = candidates & (STAYING | (255 << (i * 8)));
+        if search(rows, rest, alone, table) {
+            rows = rest;
+        }
     }
-    r
+    rows
+}
+
+// The lines left once each that may go is taken out, the last first.
+fn taken(n: usize, rows: u64, candidates: u64, table: &[u64; 64]) -> u64
+    requires { ⌜ (n ≤ 8) × (rows < 2 ^ n) × (length (now table) ≡ 64) ⌝ }
+    ensures { λ r. ⌜ ((Q : TheQuery) → length Q ≡ n → Tabled Q candidates (now (table .entry)) → Folds Q rows → linesAt r Q ≡ reduce Q) ⌝ }
+{
+    let mut left = words::low_bits(n as u64);
+    let mut i = n;
+    while 0 < i {
+        i -= 1;
+        let rest = words::clear_bit(left, i as u64);
+        if search(rows, rest, candidates, table) {
+            left = rest;
+        }
+    }
+    left
+}
+
+// The lines left, where some line could go to another.
+fn searched(q: Query, goings: u64) -> u64
+    requires { ⌜ q .count ≤ 8 ⌝ }
+    ensures { λ r. ⌜ ((Q : TheQuery) → Held q Q → Goings Q goings → linesAt r Q ≡ reduce Q) ⌝ }
+{
+    let n = q.count;
+    let same = columns(q);
+    let c = candidates(&same, goings);
+    let table = pair_words(&same, c);
+    let rows = fold(n, c, &table);
+    taken(n, rows, c, &table)
+}
+
+// The lines left once each that may go is taken out, line i at bit i.
+pub fn lines_left(q: Query) -> u64
+    requires { ⌜ q .count ≤ 8 ⌝ }
+    ensures { λ r. ⌜ ((Q : TheQuery) → Held q Q → linesAt r Q ≡ reduce Q) ⌝ }
+{
+    let g = goings(q);
+    if !words::meets(g, MOVING) {
+        return words::low_bits(q.count as u64);
+    }
+    searched(q, g)
 }

@@ -3,6 +3,7 @@ pub mod Bits
 pub mod Parts
 pub mod Masks
 pub mod SetBits
+pub mod ClearBits
 pub mod Lowest
 pub mod Tests
 pub mod Counts

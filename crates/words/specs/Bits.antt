@@ -1,7 +1,7 @@
 -- Words as numbers: a word of w bits is a number below 2 ^ w, and bit 0 is its lowest.
 use mathlib.Core.Path.{_≡_}
 use mathlib.Core.Bool.{Bool, true, false, cond, not, _&&_, _||_}
-use Prim.Native.Nat.{ℕ, zero, suc, _+_, _/_, _%_, _^_, _<_}
+use Prim.Native.Nat.{ℕ, zero, suc, _+_, _-_, _/_, _%_, _^_, _<_}
 use lib.Dec.{eqb}
 
 -- bit k of a word
@@ -15,6 +15,10 @@ isSet n k = eqb (bit n k) 1
 -- the word with bit k set
 unfoldable pub setBit : ℕ → ℕ → ℕ
 setBit n k = cond (isSet n k) n (n + 2 ^ k)
+
+-- the word with bit k clear
+unfoldable pub clearBit : ℕ → ℕ → ℕ
+clearBit n k = cond (isSet n k) (n - 2 ^ k) n
 
 -- some bit below w is set in both words
 unfoldable pub meet : ℕ → ℕ → ℕ → Bool

@@ -2,8 +2,8 @@
 
 ghost use mathlib.Core.Path.{_≡_};
 ghost use mathlib.Core.Bool.{cond};
-ghost use Prim.Native.Nat.{_+_, _*_, _/_, _%_, _^_, _<_};
-ghost use Rattle.words.specs.Bits.{isSet, setBit, meet, include, onesBelow, Least, LeastDropped};
+ghost use Prim.Native.Nat.{_+_, _*_, _/_, _%_, _^_, _-_, _<_};
+ghost use Rattle.words.specs.Bits.{isSet, setBit, clearBit, meet, include, onesBelow, Least, LeastDropped};
 
 // The word with bit `k` set.
 pub fn set_bit(m: u64, k: u64) -> u64
@@ -22,6 +22,22 @@ pub fn set_bit_if(m: u64, k: u64, passes: bool) -> u64
         return set_bit(m, k);
     }
     m
+}
+
+// The word with bit `k` clear.
+pub fn clear_bit(m: u64, k: u64) -> u64
+    requires { ⌜ k < 64 ⌝ }
+    ensures { λ r. ⌜ r ≡ clearBit m k ⌝ }
+{
+    set_bit(m, k) ^ (1 << k)
+}
+
+// The word of the `n` lowest bits.
+pub fn low_bits(n: u64) -> u64
+    requires { ⌜ n < 64 ⌝ }
+    ensures { λ r. ⌜ r ≡ 2 ^ n - 1 ⌝ }
+{
+    (1 << n) - 1
 }
 
 // Whether bit `k` is set.

@@ -1,25 +1,22 @@
-use mathlib.Core.Path.{_≡_}
-use Prim.Native.Nat.{_-_, _^_, _≤_, _<_}
+-- `label::table_views`: the masks hold the views before `k`.
+use mathlib.Core.Path.{refl}
+use mathlib.Core.Logic.{⊎-elim}
+use Prim.Native.Nat.{_-_, _≤_}
 use native.Mathlib.Omega.{arith}
-use borrow.Author.Tests.{eqb-true, eq-eqb}
-use lib.Dec.{eqb}
-use lib.ListN.{getD}
-use Rattle.words.proofs.Answers.{true-iff}
-use Rattle.words.proofs.Marks.{Upto, upto-none, upto-more}
-use Rattle.label.proofs.Words.{set-where-below}
-use Rattle.label.proofs.Views.{noLine, table-done}
+use Rattle.model.specs.Value.{pad}
+use Rattle.label.proofs.Masks.{Masks, masks-none, masks-other, masks-more, masks-all}
 use Rattle.label.proofs.table_views.Statement.{statement}
 use Rattle.label.proofs.table_views.Tie as tie
 
 abbrev Inv-loop : tie.InvT-loop
-Inv-loop table p word₀ k₀ word k =
-    (k ≤ 32) × (word < 2 ^ 32) × Upto (λ j. getD (p .views) j noLine .table ≡ table) k word
+Inv-loop p masks₀ k₀ masks k = (k ≤ 32) × Masks p k masks
 
 abbrev μ-loop : tie.MeasureT-loop
-μ-loop table p word₀ k₀ word k = 32 - k
+μ-loop p masks₀ k₀ masks k = 32 - k
 
 loop-holds : tie.Need-loop-holds Inv-loop μ-loop
-loop-holds c = (omega arith, omega arith, upto-none 0 (λ b l. absurd (omega arith)))
+unfolding pad
+loop-holds c = (omega arith, masks-none _)
 
 mul-v : tie.Need-mul-v Inv-loop μ-loop
 mul-v c = omega arith
@@ -27,8 +24,20 @@ mul-v c = omega arith
 element-copy-out-v : tie.Need-element-copy-out-v Inv-loop μ-loop
 element-copy-out-v c = omega arith
 
-set-bit-if-requires : tie.Need-set-bit-if-requires Inv-loop μ-loop
-set-bit-if-requires c κs = omega arith
+mul-m : tie.Need-mul-m Inv-loop μ-loop
+mul-m c = omega arith
+
+array-read-m : tie.Need-array-read-m Inv-loop μ-loop
+array-read-m c = omega arith
+
+set-bit-requires : tie.Need-set-bit-requires Inv-loop μ-loop
+set-bit-requires c κs = omega arith
+
+mul-masks : tie.Need-mul-masks Inv-loop μ-loop
+mul-masks c = omega arith
+
+array-write-masks : tie.Need-array-write-masks Inv-loop μ-loop
+array-write-masks c = omega arith
 
 add-k : tie.Need-add-k Inv-loop μ-loop
 add-k c = omega arith
@@ -38,19 +47,15 @@ loop-less c = omega arith
 
 loop-again : tie.Need-loop-again Inv-loop μ-loop
 loop-again c =
-    let at = c .before .before .before .before .loop in
-    let args = c .before .before .before .before .before .args in
-    let passes = eqb (getD (args .t1 .views) (at .k) noLine .table) (args .table) in (
+    let at = c .before .before .before .loop in (
       omega arith,
-      rw (c .set-bit-if .ensures) (set-where-below 32 (at .word) (at .k) passes (at .inv .1) (omega arith)),
-      rw (c .set-bit-if .ensures)
-          (upto-more passes (at .inv .2) (true-iff (λ e. eqb-true _ _ e, λ e. eq-eqb _ _ e))),
+      ⊎-elim (λ w. rw (w .2, w .1 .ensures) (masks-more _ (at .inv .1) _ refl (w .0 .taken) (omega arith)))
+          (λ w. rw (w .1) (masks-other _ (at .inv .1) (w .0 .left)))
+          (c .if1 .came),
     )
 
 returns : tie.Need-returns Inv-loop μ-loop
-returns c =
-    let inv = c .before .loop .inv in
-    record { below = inv .1; bits = λ first views h. table-done h _ _ _ first (c .loop-test .left) (inv .2) }
+returns c = masks-all _ (c .before .loop .inv .1) (c .loop-test .left)
 
 pub table-views-spec : {M : Type 1} → statement M
 table-views-spec =
@@ -61,7 +66,11 @@ table-views-spec =
     loop-holds
     mul-v
     element-copy-out-v
-    set-bit-if-requires
+    mul-m
+    array-read-m
+    set-bit-requires
+    mul-masks
+    array-write-masks
     add-k
     loop-less
     loop-again

@@ -10,7 +10,7 @@ shr-result : tie.Need-shr-result
 shr-result c = search needs
 
 returns : tie.Need-returns
-returns c = row-is _ _
+returns c = row-is _ _ _
 
 pub row-of-spec : {M : Type 1} → statement M
 row-of-spec = tie.close (tie.spec mul-result shr-result returns)

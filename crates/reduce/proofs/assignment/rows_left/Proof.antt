@@ -1,35 +1,46 @@
-use Prim.Native.Nat.{_-_, _≤_}
-use mathlib.Core.Path.{subst, sym}
+use Prim.Native.Nat.{ℕ, _≤_}
+use mathlib.Core.Path.{_≡_, subst, sym}
 use mathlib.Core.Bool.{false≢true}
 use native.Mathlib.Omega.{arith}
+use Rattle.words.specs.Bits.{bit}
+use Rattle.words.proofs.Marks.{left-before}
 use Rattle.reduce.specs.Extends.{Row}
-use Rattle.reduce.proofs.Rows.{row-empty}
+use Rattle.reduce.proofs.Rows.{bit-small, row-empty}
 use Rattle.reduce.proofs.assignment.rows_left.Statement.{statement}
 use Rattle.reduce.proofs.assignment.rows_left.Tie as tie
 
 abbrev Inv-loop : tie.InvT-loop
-Inv-loop candidates k n i₀ i = (k ≤ i) × (i ≤ n)
+Inv-loop rows targets candidates rest₀ rest = (rest ≤ rows) × ((i : ℕ) → bit rest i ≡ 1 → bit rows i ≡ 1)
 
 abbrev μ-loop : tie.MeasureT-loop
-μ-loop candidates k n i₀ i = n - i
+μ-loop rows targets candidates rest₀ rest = rest
 
 loop-holds : tie.Need-loop-holds Inv-loop μ-loop
-loop-holds c = (omega arith, omega arith)
+loop-holds c = (omega arith, λ i h. h)
+
+least-requires : tie.Need-least-requires Inv-loop μ-loop
+least-requires c κs = omega arith
+
+-- the line is one of the rows
+row : (c : tie.After-least Inv-loop μ-loop) → bit (c .before .before .before .args .rows) (c .least .result) ≡ 1
+row c = c .before .before .loop .inv .1 (c .least .result) (c .least .ensures .set)
 
 row-of-requires : tie.Need-row-of-requires Inv-loop μ-loop
-row-of-requires c κs = omega arith
+row-of-requires c κs = (bit-small (c .before .before .before .pre .0) (row c), c .before .before .before .pre .1)
 
 returns : tie.Need-returns Inv-loop μ-loop
-returns c e = row-empty _ _ _ _ (omega arith) (omega arith) (subst (Row _ _) (c .if1 .taken) (c .before .row-of .ensures))
+returns c e = row-empty (row (c .before .before)) (subst (Row _ _ _) (c .if1 .taken) (c .before .row-of .ensures))
 
-add-i : tie.Need-add-i Inv-loop μ-loop
-add-i c = omega arith
+drop-least-requires : tie.Need-drop-least-requires Inv-loop μ-loop
+drop-least-requires c κs = omega arith
 
 loop-less : tie.Need-loop-less Inv-loop μ-loop
-loop-less c = omega arith
+loop-less c = c .drop-least .ensures .less
 
 loop-again : tie.Need-loop-again Inv-loop μ-loop
-loop-again c = (omega arith, omega arith)
+loop-again c =
+    let inv = c .before .before .before .before .before .loop .inv in
+    (omega (arith, c .drop-least .ensures .less, inv .0), λ i h. inv .1 i (left-before i (c .before .before .before .least .ensures) (c .drop-least .ensures) h))
 
 returns-2 : tie.Need-returns-2 Inv-loop μ-loop
 returns-2 c e = absurd (false≢true (sym e))
@@ -41,9 +52,10 @@ rows-left-spec =
     Inv-loop
     μ-loop
     loop-holds
+    least-requires
     row-of-requires
     returns
-    add-i
+    drop-least-requires
     loop-less
     loop-again
     returns-2)

@@ -1,0 +1,50 @@
+-- What a loaded policy and a query text that reading accepts under its tables give to label.
+use mathlib.Core.Path.{_≡_, ap}
+use mathlib.Core.List.{List}
+use Prim.Native.Nat.{ℕ, _≤_, _<_}
+use native.Mathlib.Omega.{arith}
+use lib.Dec.{T, leb→le}
+use lib.ListN.{length}
+use Rattle.theory.specs.Query.{Query, hidden, _∈_}
+use Rattle.theory.specs.Query.{Line as TheLine}
+use Rattle.theory.specs.Executable.Test.{all}
+use Rattle.theory.proofs.Executable.Test.{and-iff, all-iff}
+use Rattle.model.specs.Limits.{mostTables, mostColumns, lastVariable, upTo, termWithin, lineWithin}
+use Rattle.model.specs.Value.{queryValue, tablesValue}
+use Rattle.model.specs.declared.Policy.{Policy}
+use Rattle.model.specs.declared.Query.{Query as QueryValue}
+use Rattle.model.proofs.Values.{few-terms}
+use Rattle.query.specs.Text.{read, accepted}
+use Rattle.query.proofs.Accepted.{WellRead, accepted-well-read}
+use Rattle.policy.specs.Text.{Declared}
+use Rattle.policy.specs.Value.{WellFormed}
+use Rattle.policy.specs.Policy.{policyValue}
+use Rattle.policy.proofs.Value.{up-to-iff}
+use Rattle.reduce.specs.Showing.{Small}
+use Rattle.labels.specs.Posed.{Posed}
+use Rattle.labels.specs.Text.{LoadedTo}
+
+-- "variables 0 to 63"
+small-read : {widths : List ℕ} {Q : Query} → WellRead widths Q → Small Q
+unfolding lineWithin termWithin lastVariable
+small-read w n A i m =
+    let t = all-iff termWithin (A .columns) .0 (and-iff (upTo mostTables (A .table)) (all termWithin (A .columns)) .0 (w .within A i) .1) (hidden n) m in
+    omega (arith, leb→le n 63 t)
+
+pub tables-of : {p : Policy} {d : Declared} → LoadedTo p d → p .tables ≡ tablesValue (d .widths)
+unfolding policyValue
+tables-of l = ap (λ (x : Policy). x .tables) (l .policy)
+
+pub posed : {p : Policy} {q : QueryValue} (d : Declared) (text : List ℕ) (Q : Query) → WellFormed d → read (d .widths) text ≡ accepted Q
+    → p ≡ policyValue d → q ≡ queryValue Q → Posed p q d Q
+unfolding mostColumns
+posed d text Q good e is holds =
+    let w = accepted-well-read (d .widths) text Q e .0 in
+    let narrow : (n : ℕ) → n ∈ d .widths → n ≤ 8 = λ n i. up-to-iff mostColumns n .0 (good .tables .each n i) .1 in
+    record {
+      policy = is;
+      good = good;
+      query = record { is = holds; lines = w .few; columns = λ A i. few-terms (d .widths) narrow A (w .fits A i) };
+      small = small-read w;
+      fits = w .fits;
+    }

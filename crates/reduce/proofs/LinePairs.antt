@@ -1,0 +1,95 @@
+-- The pairs of lines of a query, one by one: pair p is line p / 8 with line p % 8.
+use mathlib.Core.Path.{_≡_, sym, subst, _∙_}
+use mathlib.Core.Logic.{_↔_}
+use mathlib.Core.Bool.{Bool, cond, _&&_}
+use mathlib.Core.List.{List}
+use Prim.Native.Nat.{ℕ, _+_, _*_, _/_, _%_, _≤_, _<_}
+use native.Mathlib.Decide.{ℕ-discrete}
+use native.Mathlib.Omega.{arith}
+use borrow.Author.Tests.{ltb-true, lt-ltb}
+use lib.Dec.{T, ltb}
+use lib.ListN.{length, getD, set, length-set}
+use lib.Seq.{getD-set-same, getD-set-other}
+use Rattle.theory.specs.Query.{Query}
+use Rattle.theory.proofs.Executable.Test.{and-iff}
+use Rattle.words.specs.Bits.{setBit}
+use Rattle.words.proofs.Answers.{true-iff}
+use Rattle.words.proofs.Marks.{Upto, upto-more, upto-all, by-test}
+use Rattle.model.specs.declared.Line.{Line}
+use Rattle.model.specs.declared.Query.{Query as QueryValue}
+use Rattle.reduce.specs.Agree.{goes, lineAt}
+use Rattle.reduce.specs.Columns.{goesLine, SameColumns}
+use Rattle.reduce.specs.Pairs.{Held, Going, Goings, Columns}
+use Rattle.reduce.proofs.Lines.{held-count, held-line, held-few}
+use Rattle.reduce.proofs.LineValues.{goes-value}
+
+-- ---- which line could go to which
+
+module _ {q : QueryValue} {Q : Query} (held : Held q Q) where
+  below-iff : (j : ℕ) → T (ltb j (q .count)) ↔ (j < length Q)
+  below-iff j = true-iff (λ e. rw (held-count held) at (ltb-true j (q .count) e), λ h. lt-ltb j (q .count) (rw (held-count held) h))
+
+  going-iff : (p : ℕ) (d e : Line) → p / 8 < length Q
+      → T (ltb (p % 8) (q .count) && goesLine (getD (q .lines) (p / 8) d) (getD (q .lines) (p % 8) e)) ↔ Going Q p
+  going-iff p d e l =
+      let A = lineAt Q (p / 8) in
+      let S = lineAt Q (p % 8) in
+      let k = and-iff (ltb (p % 8) (q .count)) (goesLine (getD (q .lines) (p / 8) d) (getD (q .lines) (p % 8) e)) in
+      let b = below-iff (p % 8) in
+      let v : p % 8 < length Q → goesLine (getD (q .lines) (p / 8) d) (getD (q .lines) (p % 8) e) ≡ goes A S =
+      λ h. rw (held-line held (p / 8) d l, held-line held (p % 8) e h) (goes-value A S (held-few held (p / 8) l) (held-few held (p % 8) h)) in (
+        λ t. let (x, y) = k .0 t in let h = b .0 x in record { line = l; target = h; goes = subst T (v h) y },
+        λ g. k .1 (b .1 (g .target), subst T (sym (v (g .target))) (g .goes)),
+      )
+
+  pub goings-more : (p : ℕ) (d e : Line) (on : Bool) {m : ℕ} (r : ℕ) → p < q .count * 8
+      → on ≡ (ltb (p % 8) (q .count) && goesLine (getD (q .lines) (p / 8) d) (getD (q .lines) (p % 8) e))
+      → r ≡ cond on (setBit m p) m → Upto (Going Q) p m → Upto (Going Q) (p + 1) r
+  goings-more p d e on r h eo er k =
+      rw er (upto-more on k (by-test eo (going-iff p d e (omega (arith, held-count held)))))
+
+  pub goings-all : (p : ℕ) {m : ℕ} → q .count * 8 ≤ p → Upto (Going Q) p m → Goings Q m
+  goings-all p h k = upto-all k (λ b l g. omega (arith, held-count held, g .line))
+
+-- ---- for each pair the columns that have the same term
+
+-- the entries before p are as they should be
+pub record Compared (Q : Query) (p : ℕ) (table : List ℕ) : Type 0 where
+  pub long : length table ≡ 64
+  pub done : (b : ℕ) → b < p → b / 8 < length Q → b % 8 < length Q → SameColumns (lineAt Q (b / 8)) (lineAt Q (b % 8)) (getD table b 0)
+
+module _ {Q : Query} where
+  pub compared-none : (table : List ℕ) → length table ≡ 64 → Compared Q 0 table
+  compared-none table e = record { long = e; done = λ b l i j. absurd (omega arith) }
+
+  pub compared-more : (p w : ℕ) (table : List ℕ) → p < 64 → Compared Q p table
+      → SameColumns (lineAt Q (p / 8)) (lineAt Q (p % 8)) w → Compared Q (p + 1) (set table p w)
+  compared-more p w table h k right = record {
+    long = length-set table p w ∙ k .long;
+    done = λ b l i j. go b l i j (ℕ-discrete b p);
+  }
+    where
+      go : (b : ℕ) → b < p + 1 → b / 8 < length Q → b % 8 < length Q → Dec (b ≡ p)
+          → SameColumns (lineAt Q (b / 8)) (lineAt Q (b % 8)) (getD (set table p w) b 0)
+      go b l i j (yes e) =
+          subst (λ (x : ℕ). SameColumns (lineAt Q (x / 8)) (lineAt Q (x % 8)) (getD (set table p w) x 0)) (sym e)
+          (rw (getD-set-same table p w 0 (omega (arith, k .long))) right)
+      go b l i j (no f) = rw (getD-set-other table p b w 0 f) (k .done b (omega arith) i j)
+
+  -- a pair with no line
+  pub compared-skip : (p : ℕ) (table : List ℕ) → length Q ≤ p % 8 → Compared Q p table → Compared Q (p + 1) table
+  compared-skip p table h k = record { long = k .long; done = λ b l i j. go b l i j (ℕ-discrete b p) }
+    where
+      go : (b : ℕ) → b < p + 1 → b / 8 < length Q → b % 8 < length Q → Dec (b ≡ p)
+          → SameColumns (lineAt Q (b / 8)) (lineAt Q (b % 8)) (getD table b 0)
+      go b l i j (yes e) = absurd (omega arith)
+      go b l i j (no f) = k .done b (omega arith) i j
+
+  pub compared-all : (p : ℕ) (table : List ℕ) → length Q ≤ 8 → length Q * 8 ≤ p → Compared Q p table → Columns Q table
+  compared-all p table few h k = record {
+    long = k .long;
+    same = λ i j l m.
+        let d : (i * 8 + j) / 8 ≡ i = omega arith in
+        let r : (i * 8 + j) % 8 ≡ j = omega arith in
+        rw (d, r) at (k .done (i * 8 + j) (omega arith) (rw d l) (rw r m));
+  }

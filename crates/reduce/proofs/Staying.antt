@@ -1,0 +1,75 @@
+-- Where no line could go to another, no line may go.
+use mathlib.Core.Path.{_≡_, refl, sym, ap, subst, _∙_}
+use mathlib.Core.Logic.{_≢_, ⊎-elim}
+use mathlib.Core.Bool.{Bool, true, false, cond, _||_, false≢true}
+use mathlib.Core.List.{[]}
+use Prim.Native.Nat.{ℕ, zero, suc, _+_, _*_, _-_, _/_, _%_, _^_, _<_}
+use native.Mathlib.Nat.{le-refl, le-step}
+use native.Mathlib.Omega.{arith}
+use lib.Dec.{T, eqb}
+use lib.ListN.{length}
+use mir.Facts.{eqb-yes}
+use Rattle.theory.specs.Query.{Query, over, _∈_}
+use Rattle.theory.specs.Reduce.{image, without}
+use Rattle.theory.specs.Executable.Test.{allBelow}
+use Rattle.theory.specs.Executable.Reduce.{mayGo, reduceBelow, reduce}
+use Rattle.theory.proofs.Executable.Test.{or-iff, allBelow-iff, same-test}
+use Rattle.theory.proofs.Executable.Reduce.{sendable-iff}
+use Rattle.words.specs.Bits.{bit, isSet, clearBit, meet}
+use Rattle.words.proofs.ClearBits.{clear-bit-iff, low-bits-set}
+use Rattle.words.proofs.Tests.{meet-iff}
+use Rattle.reduce.specs.Agree.{goes, lineAt}
+use Rattle.reduce.specs.Left.{linesAt}
+use Rattle.reduce.specs.Pairs.{Goings}
+use Rattle.reduce.proofs.Agree.{goes-iff}
+use Rattle.reduce.proofs.Assign.{goes-image, may-go-sends}
+use Rattle.reduce.proofs.Left.{in-lines, lines-in, lines-without, lines-all}
+
+-- the pairs of two lines, as bits
+abbrev moving : ℕ
+moving = 9205322385119247870
+
+moving-set : (p : ℕ) → p < 64 → p / 8 ≢ p % 8 → bit moving p ≡ 1
+unfolding allBelow
+moving-set p l f =
+    ⊎-elim (λ t. absurd (f (eqb-yes t))) (λ t. eqb-yes t)
+    (or-iff (eqb (p / 8) (p % 8)) (isSet moving p) .0 (allBelow-iff (λ k. eqb (k / 8) (k % 8) || isSet moving k) 64 .0 tt p l))
+
+module _ (Q : Query) (g : ℕ) (goings : Goings Q g) (few : length Q < 9) (none : meet 64 g moving ≡ false) where
+  full : ℕ
+  full = 2 ^ length Q - 1
+
+  whole : linesAt full Q ≡ Q
+  unfolding full
+  whole = lines-all Q (length Q) refl
+
+  others : (i : ℕ) → i < length Q → without i Q ≡ linesAt (clearBit full i) Q
+  unfolding full
+  others i l =
+      ap (without i) (sym whole) ∙ lines-without full Q i l (λ j h. low-bits-set (length Q) j (omega arith))
+
+  -- a line that may go could go to another
+  stays : (i : ℕ) → i < length Q → T (mayGo Q i) → ⊥
+  unfolding full
+  stays i l t =
+      let (m, s) = may-go-sends Q (linesAt (clearBit full i) Q) i (others i l) .0 t in
+      let here : lineAt Q i ∈ Q = rw whole at (in-lines full Q i l (low-bits-set (length Q) i l)) in
+      let (j, h, b, e) = lines-in (clearBit full i) Q (s (lineAt Q i) here) in
+      let apart = clear-bit-iff full i j .0 b .1 in
+      let d : (i * 8 + j) / 8 ≡ i = omega arith in
+      let r : (i * 8 + j) % 8 ≡ j = omega arith in
+      let to : T (goes (lineAt Q i) (lineAt Q j)) = rw e (goes-iff (lineAt Q i) (over (image m) (lineAt Q i)) .1 (goes-image m (lineAt Q i))) in
+      let set = goings (i * 8 + j) .1 (record { line = rw d l; target = rw r h; goes = rw (d, r) to }) in
+      false≢true
+      (sym none ∙ meet-iff 64 g moving .1 (i * 8 + j, omega arith, set, moving-set (i * 8 + j) (omega arith) (rw (d, r) (λ p. apart (sym p)))))
+
+  below : (i : ℕ) → ((k : ℕ) → k < i → k < length Q) → reduceBelow i Q ≡ Q
+  unfolding reduceBelow
+  below zero h = refl
+  below (suc i) h =
+      let no : mayGo Q i ≡ false = same-test (mayGo Q i) false (stays i (h i (le-refl (suc i)))) (λ t. absurd t) in
+      rw no (below i (λ k l. h k (le-step l)))
+
+  pub nothing-goes : (n : ℕ) → n ≡ length Q → linesAt (2 ^ n - 1) Q ≡ reduce Q
+  unfolding reduce full
+  nothing-goes n e = rw e (whole ∙ sym (below (length Q) (λ k l. l)))

@@ -1,0 +1,68 @@
+use mathlib.Core.Path.{_≡_}
+use Prim.Native.Nat.{_+_, _*_, _-_, _≤_}
+use native.Mathlib.Omega.{arith}
+use borrow.Author.Needs.{needs}
+use lib.ListN.{length}
+use Rattle.theory.specs.Query.{Line as TheLine}
+use Rattle.words.proofs.Marks.{Upto, upto-none}
+use Rattle.model.specs.Value.{unusedTerm, lineValue}
+use Rattle.reduce.specs.Columns.{termAt, SameColumn}
+use Rattle.reduce.proofs.EqualColumns.{columns-all}
+use Rattle.reduce.proofs.columns.same_columns.Statement.{statement}
+use Rattle.reduce.proofs.columns.same_columns.Tie as tie
+
+abbrev Inv-loop : tie.InvT-loop
+Inv-loop b a m₀ p₀ m p =
+    (p ≤ 8)
+    × ((A B : TheLine) → a ≡ lineValue A → b ≡ lineValue B → length (A .columns) ≤ 8 → length (B .columns) ≤ 8 → Upto (SameColumn A B) (p * 8) m)
+
+abbrev μ-loop : tie.MeasureT-loop
+μ-loop b a m₀ p₀ m p = 8 - p
+
+loop-holds : tie.Need-loop-holds Inv-loop μ-loop
+loop-holds c = (omega arith, λ A B ea eb few few′. upto-none 0 (λ b l h. omega arith))
+
+mul-t : tie.Need-mul-t Inv-loop μ-loop
+mul-t c = omega arith
+
+element-copy-out-t : tie.Need-element-copy-out-t Inv-loop μ-loop
+element-copy-out-t c = search needs
+
+with-column-requires : tie.Need-with-column-requires Inv-loop μ-loop
+with-column-requires c κs = omega arith
+
+add-p : tie.Need-add-p Inv-loop μ-loop
+add-p c = omega arith
+
+loop-less : tie.Need-loop-less Inv-loop μ-loop
+loop-less c = omega arith
+
+loop-again : tie.Need-loop-again Inv-loop μ-loop
+unfolding termAt unusedTerm
+loop-again c = (
+  omega arith,
+  λ A B ea eb few few′.
+      let loop = c .before .before .before .loop in
+      let e : (loop .p + 1) * 8 ≡ loop .p * 8 + 8 = omega arith in
+      rw e (c .with-column .ensures A B (rw ea) eb few few′ (loop .inv .1 A B ea eb few few′)),
+)
+
+returns : tie.Need-returns Inv-loop μ-loop
+returns c = λ A B ea eb few few′.
+    let e : c .before .loop .p * 8 ≡ 64 = omega arith in
+    columns-all A B few few′ (rw e at (c .before .loop .inv .1 A B ea eb few few′))
+
+pub same-columns-spec : {M : Type 1} → statement M
+same-columns-spec =
+    tie.close
+    (tie.spec
+    Inv-loop
+    μ-loop
+    loop-holds
+    mul-t
+    element-copy-out-t
+    with-column-requires
+    add-p
+    loop-less
+    loop-again
+    returns)

@@ -1,0 +1,86 @@
+use mathlib.Core.Path.{_≡_}
+use Prim.Native.Nat.{_+_, _*_, _-_, _≤_}
+use native.Mathlib.Nat.{add-zero}
+use native.Mathlib.Omega.{arith}
+use borrow.Author.Needs.{needs}
+use lib.ListN.{length}
+use Rattle.theory.specs.Query.{Line as TheLine}
+use Rattle.words.proofs.Marks.{Upto}
+use Rattle.model.specs.Value.{unusedTerm, lineValue}
+use Rattle.reduce.specs.Columns.{termAt, SameColumn}
+use Rattle.reduce.proofs.EqualColumns.{column-more, column-skip}
+use Rattle.reduce.proofs.columns.with_column.Statement.{statement}
+use Rattle.reduce.proofs.columns.with_column.Tie as tie
+
+abbrev Inv-loop : tie.InvT-loop
+Inv-loop m p t b r₀ q₀ r q =
+    (q ≤ 8)
+    × ((A B : TheLine) → t ≡ termAt (lineValue A) p → b ≡ lineValue B → length (A .columns) ≤ 8 → length (B .columns) ≤ 8
+    → Upto (SameColumn A B) (p * 8) m → Upto (SameColumn A B) (p * 8 + q) r)
+
+abbrev μ-loop : tie.MeasureT-loop
+μ-loop m p t b r₀ q₀ r q = 8 - q
+
+returns : tie.Need-returns Inv-loop μ-loop
+returns c = λ A B et eb few few′ k. column-skip A B few few′ _ _ et (c .if1 .taken) k
+
+loop-holds : tie.Need-loop-holds Inv-loop μ-loop
+loop-holds c = (omega arith, λ A B et eb few few′ k. simp add-zero k)
+
+mul-u : tie.Need-mul-u Inv-loop μ-loop
+mul-u c = omega arith
+
+element-copy-out-u : tie.Need-element-copy-out-u Inv-loop μ-loop
+element-copy-out-u c = search needs
+
+same-term-requires : tie.Need-same-term-requires Inv-loop μ-loop
+same-term-requires c κs = tt
+
+mul-set-bit-if : tie.Need-mul-set-bit-if Inv-loop μ-loop
+mul-set-bit-if c = omega arith
+
+add-set-bit-if : tie.Need-add-set-bit-if Inv-loop μ-loop
+add-set-bit-if c = omega arith
+
+set-bit-if-requires : tie.Need-set-bit-if-requires Inv-loop μ-loop
+set-bit-if-requires c κs = omega arith
+
+add-q : tie.Need-add-q Inv-loop μ-loop
+add-q c = omega arith
+
+loop-less : tie.Need-loop-less Inv-loop μ-loop
+loop-less c = omega arith
+
+loop-again : tie.Need-loop-again Inv-loop μ-loop
+unfolding termAt unusedTerm
+loop-again c = (
+  omega arith,
+  λ A B et eb few few′ k.
+      let loop = c .before .before .before .before .loop in
+      column-more A B few few′ _ _ _ _ (c .before .same-term .result) (c .set-bit-if .result) et (rw eb) (omega arith)
+      (c .before .before .before .before .before .if1 .left) (c .before .same-term .ensures) (c .set-bit-if .ensures) (loop .inv .1 A B et eb few few′ k),
+)
+
+returns-2 : tie.Need-returns-2 Inv-loop μ-loop
+returns-2 c = λ A B et eb few few′ k.
+    let e : c .before .loop .q ≡ 8 = omega arith in
+    rw e at (c .before .loop .inv .1 A B et eb few few′ k)
+
+pub with-column-spec : {M : Type 1} → statement M
+with-column-spec =
+    tie.close
+    (tie.spec
+    Inv-loop
+    μ-loop
+    returns
+    loop-holds
+    mul-u
+    element-copy-out-u
+    same-term-requires
+    mul-set-bit-if
+    add-set-bit-if
+    set-bit-if-requires
+    add-q
+    loop-less
+    loop-again
+    returns-2)

@@ -1,0 +1,56 @@
+use native.Mathlib.Omega.{arith}
+use lib.Dec.{T}
+use Rattle.words.proofs.Marks.{Picked, picked-none, picked-more, picked-all, by-test}
+use Rattle.reduce.specs.Pairs.{joins}
+use Rattle.reduce.proofs.pairs.pair_word.Statement.{statement}
+use Rattle.reduce.proofs.pairs.pair_word.Tie as tie
+
+abbrev Inv-loop : tie.InvT-loop
+Inv-loop columns candidates p w₀ rest₀ w rest = Picked (λ b. T (joins columns p b)) candidates rest w
+
+abbrev μ-loop : tie.MeasureT-loop
+μ-loop columns candidates p w₀ rest₀ w rest = rest
+
+loop-holds : tie.Need-loop-holds Inv-loop μ-loop
+loop-holds c = picked-none
+
+least-requires : tie.Need-least-requires Inv-loop μ-loop
+least-requires c κs = omega arith
+
+join-requires : tie.Need-join-requires Inv-loop μ-loop
+join-requires c κs =
+    let k = c .least .ensures .below in
+    let pre = c .before .before .before .pre in (omega (arith, k, pre .0), omega (arith, k, pre .0), pre .1)
+
+set-bit-if-requires : tie.Need-set-bit-if-requires Inv-loop μ-loop
+set-bit-if-requires c κs = c .before .least .ensures .below
+
+drop-least-requires : tie.Need-drop-least-requires Inv-loop μ-loop
+drop-least-requires c κs = omega arith
+
+loop-less : tie.Need-loop-less Inv-loop μ-loop
+loop-less c = c .drop-least .ensures .less
+
+loop-again : tie.Need-loop-again Inv-loop μ-loop
+loop-again c =
+    picked-more (c .before .before .join .result) (c .before .set-bit-if .result) (c .before .before .before .before .before .loop .inv)
+    (c .before .before .before .least .ensures) (c .drop-least .ensures) (by-test (c .before .before .join .ensures) (λ t. t, λ t. t))
+    (c .before .set-bit-if .ensures)
+
+returns : tie.Need-returns Inv-loop μ-loop
+returns c = picked-all (rw (c .loop-test .left) at (c .before .loop .inv))
+
+pub pair-word-spec : {M : Type 1} → statement M
+pair-word-spec =
+    tie.close
+    (tie.spec
+    Inv-loop
+    μ-loop
+    loop-holds
+    least-requires
+    join-requires
+    set-bit-if-requires
+    drop-least-requires
+    loop-less
+    loop-again
+    returns)

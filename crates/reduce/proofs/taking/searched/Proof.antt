@@ -1,0 +1,38 @@
+use borrow.Author.Needs.{needs}
+use Rattle.reduce.proofs.Lines.{held-count}
+use Rattle.reduce.proofs.Tables.{tabled}
+use mathlib.Core.Path.{sym}
+use Rattle.reduce.proofs.taking.searched.Statement.{statement}
+use Rattle.reduce.proofs.taking.searched.Tie as tie
+
+columns-requires : tie.Need-columns-requires
+columns-requires c κs = search needs
+
+candidates-requires : tie.Need-candidates-requires
+candidates-requires c κs = search needs
+
+pair-words-requires : tie.Need-pair-words-requires
+pair-words-requires c κs = search needs
+
+fold-requires : tie.Need-fold-requires
+fold-requires c κs = search needs
+
+taken-requires : tie.Need-taken-requires
+taken-requires c κs = search needs
+
+returns : tie.Need-returns
+returns c = λ Q held goings.
+    let t = tabled held _ _ _ _ goings (c .before .before .before .before .before .before .before .before .columns .ensures Q held) (c .before .before .before .before .before .before .candidates .ensures) (c .before .before .before .before .pair-words .ensures) in
+    let n = sym (held-count held) in
+    c .taken .ensures Q n t (c .before .before .fold .ensures .1 Q n t)
+
+pub searched-spec : {M : Type 1} → statement M
+searched-spec =
+    tie.close
+    (tie.spec
+    columns-requires
+    candidates-requires
+    pair-words-requires
+    fold-requires
+    taken-requires
+    returns)

@@ -1,0 +1,118 @@
+// The words from which it is told which lines may go. Pair p is line p / 8 with target p % 8.
+
+ghost use mathlib.Core.Path.{_≡_};
+ghost use mathlib.Core.Bool.{_&&_};
+ghost use Prim.Native.Nat.{_≤_, _<_};
+ghost use lib.ListN.{length};
+ghost use Rattle.theory.specs.Query.{Query as TheQuery};
+ghost use Rattle.reduce.specs.Columns.{goesLine};
+ghost use Rattle.reduce.specs.Pairs.{Held, Goings, Columns, joins, Candidates, PairWord, PairWords};
+use crate::columns::goes_line;
+use crate::columns::same_columns;
+use model::Line;
+use model::Query;
+
+fn can_go(there: bool, a: Line, s: Line) -> bool
+    ensures { λ r. ⌜ r ≡ (there && goesLine a s) ⌝ }
+{
+    if !there {
+        return false;
+    }
+    goes_line(a, s)
+}
+
+// The pairs of a line with a line that it could go to.
+pub fn goings(q: Query) -> u64
+    requires { ⌜ q .count ≤ 8 ⌝ }
+    ensures { λ r. ⌜ ((Q : TheQuery) → Held q Q → Goings Q r) ⌝ }
+{
+    let n = q.count;
+    let mut m = 0;
+    let mut p = 0;
+    while p < n * 8 {
+        let a = q.lines[p / 8];
+        let s = q.lines[p % 8];
+        let on = can_go(p % 8 < n, a, s);
+        m = words::set_bit_if(m, p as u64, on);
+        p += 1;
+    }
+    m
+}
+
+// For each two lines the columns that have the same term.
+pub fn columns(q: Query) -> [u64; 64]
+    requires { ⌜ q .count ≤ 8 ⌝ }
+    ensures { λ r. ⌜ ((Q : TheQuery) → Held q Q → Columns Q r) ⌝ }
+{
+    let n = q.count;
+    let mut table = [0; 64];
+    let mut p = 0;
+    while p < n * 8 {
+        let a = q.lines[p / 8];
+        let b = q.lines[p % 8];
+        if p % 8 < n {
+            table[p] = same_columns(a, b);
+        }
+        p += 1;
+    }
+    table
+}
+
+// Whether one map can send the lines of pairs p and b to their targets: columns of the lines that have the same term stand
+// over columns of the targets that have the same term.
+fn join(columns: &[u64; 64], p: usize, b: usize) -> bool
+    requires { ⌜ (p < 64) × (b < 64) × (length (now columns) ≡ 64) ⌝ }
+    ensures { λ r. ⌜ r ≡ joins (now (columns .entry)) p b ⌝ }
+{
+    let lines = columns[p / 8 * 8 + b / 8];
+    let targets = columns[p % 8 * 8 + b % 8];
+    words::includes(targets, lines)
+}
+
+// The pairs of a line with a line that it can go to by itself.
+pub fn candidates(columns: &[u64; 64], goings: u64) -> u64
+    requires { ⌜ length (now columns) ≡ 64 ⌝ }
+    ensures { λ r. ⌜ Candidates (now (columns .entry)) goings r ⌝ }
+{
+    let mut m = 0;
+    let mut rest = goings;
+    while rest != 0 {
+        let p = words::least(rest);
+        let on = join(columns, p as usize, p as usize);
+        m = words::set_bit_if(m, p, on);
+        rest = words::drop_least(rest);
+    }
+    m
+}
+
+// The candidates that are compatible with pair p.
+fn pair_word(columns: &[u64; 64], candidates: u64, p: usize) -> u64
+    requires { ⌜ (p < 64) × (length (now columns) ≡ 64) ⌝ }
+    ensures { λ r. ⌜ PairWord (now (columns .entry)) candidates p r ⌝ }
+{
+    let mut w = 0;
+    let mut rest = candidates;
+    while rest != 0 {
+        let b = words::least(rest);
+        let on = join(columns, p, b as usize);
+        w = words::set_bit_if(w, b, on);
+        rest = words::drop_least(rest);
+    }
+    w
+}
+
+// For each candidate the candidates that are compatible with it.
+pub fn pair_words(columns: &[u64; 64], candidates: u64) -> [u64; 64]
+    requires { ⌜ length (now columns) ≡ 64 ⌝ }
+    ensures { λ r. ⌜ PairWords (now (columns .entry)) candidates r ⌝ }
+{
+    let mut table = [0; 64];
+    let mut rest = candidates;
+    while rest != 0 {
+        let p = words::least(rest) as usize;
+        let w = pair_word(columns, candidates, p);
+        table[p] = w;
+        rest = words::drop_least(rest);
+    }
+    table
+}
