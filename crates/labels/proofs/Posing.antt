@@ -1,13 +1,20 @@
 -- What a loaded policy and a query text that reading accepts under its tables give to label.
 use mathlib.Core.Path.{_≡_, ap}
-use mathlib.Core.List.{List}
+use mathlib.Core.List.{List, map}
 use Prim.Native.Nat.{ℕ, _≤_, _<_}
 use native.Mathlib.Omega.{arith}
 use lib.Dec.{T, leb→le}
-use lib.ListN.{length}
-use Rattle.theory.specs.Query.{Query, hidden, _∈_}
+use lib.ListN.{length, length-map}
+use native.Mathlib.Nat.{le-refl}
+use Rattle.theory.specs.Query.{Query, hidden, over, _∈_}
 use Rattle.theory.specs.Query.{Line as TheLine}
+use Rattle.theory.specs.Reduce.{ReducesTo, done, take-out}
 use Rattle.theory.specs.Executable.Test.{all}
+use Rattle.theory.specs.Executable.Reduce.{reduce}
+use Rattle.theory.specs.Executable.Show.{showTerm, show}
+use Rattle.theory.specs.Executable.Label.{label, labels}
+use Rattle.theory.proofs.Lists.{length-without}
+use Rattle.theory.proofs.Executable.Reduce.{reduce-reduces}
 use Rattle.theory.proofs.Executable.Test.{and-iff, all-iff}
 use Rattle.model.specs.Limits.{mostTables, mostColumns, lastVariable, upTo, termWithin, lineWithin}
 use Rattle.model.specs.Value.{queryValue, tablesValue}
@@ -48,3 +55,17 @@ posed d text Q good e is holds =
       small = small-read w;
       fits = w .fits;
     }
+
+-- ---- there are no more labels than lines
+
+reduced-length : {Q R : Query} → ReducesTo Q R → length R ≤ length Q
+reduced-length (done {Q = P} r) = le-refl (length P)
+reduced-length (take-out {Q = P} i g r) = omega (arith, reduced-length r, length-without i P (g .0))
+
+pub few-labels : (views : List TheLine) (widths text : List ℕ) (Q : Query) → read widths text ≡ accepted Q → length (labels views Q) ≤ 8
+unfolding labels show
+few-labels views widths text Q e =
+    let w = accepted-well-read widths text Q e .0 in
+    let R = reduce Q in
+    let a = length-map (map (over (showTerm R)) R) (label views) in
+    omega (arith, w .few, reduced-length (reduce-reduces Q), a, length-map R (over (showTerm R)))

@@ -9,3 +9,5 @@ pub mod PartitionFaults
 pub mod Blocks
 pub mod Walk
 pub mod Start
+-- What a text that is accepted loads to.
+pub mod Accepted

@@ -1,0 +1,24 @@
+-- What a policy value holds that some text loads to.
+use mathlib.Core.Path.{_≡_, ap, _∙_}
+use Prim.Native.Nat.{_≤_}
+use native.Mathlib.Omega.{arith}
+use lib.ListN.{length}
+use Rattle.model.specs.Limits.{mostPartitions}
+use Rattle.model.specs.declared.Policy.{Policy}
+use Rattle.policy.specs.Text.{Declared}
+use Rattle.policy.specs.Policy.{policyValue}
+use Rattle.policy.proofs.Loaded.{loaded-well-formed}
+use Rattle.validity.specs.Loadable.{Loadable}
+use Rattle.labels.specs.Text.{LoadedTo}
+
+pub loaded-to : {p : Policy} (l : Loadable p) → LoadedTo p (l .declared)
+loaded-to l = record { policy = l .value; good = loaded-well-formed (l .text) (l .declared) (l .loads) }
+
+module _ {p : Policy} {d : Declared} (l : LoadedTo p d) where
+  pub partition-count : p .«partition_count» ≡ length (d .partitions)
+  unfolding policyValue
+  partition-count = ap (λ (x : Policy). x .«partition_count») (l .policy)
+
+  pub few-partitions : p .«partition_count» ≤ 32
+  unfolding mostPartitions
+  few-partitions = omega (arith, partition-count, l .good .partitions .few)

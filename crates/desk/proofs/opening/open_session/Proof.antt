@@ -1,0 +1,38 @@
+use mathlib.Core.Path.{refl, ap, _∙_}
+use mathlib.Core.Bool.{true}
+use borrow.Author.Needs.{needs}
+use native.Mathlib.Omega.{arith}
+use Prim.Native.Nat.{ℕ, _-_, _^_}
+use Rattle.words.proofs.Answers.{passes, fails}
+use Rattle.model.specs.declared.Outcome.the-variants.{Accepted}
+use Rattle.desk.specs.declared.opening.Opening.{Opening}
+use Rattle.desk.specs.Session.{allOpen}
+use Rattle.desk.proofs.Loaded.{loaded-to, partition-count, few-partitions}
+use Rattle.desk.proofs.opening.open_session.Statement.{statement}
+use Rattle.desk.proofs.opening.open_session.Tie as tie
+
+valid-requires : tie.Need-valid-requires
+valid-requires c κs = search needs
+
+returns : tie.Need-returns
+returns c = record {
+  turned = λ n. refl;
+  opened = λ l. absurd (fails (c .before .valid .ensures) (c .if1 .taken) l);
+}
+
+low-bits-requires : tie.Need-low-bits-requires
+low-bits-requires c κs = omega (arith, few-partitions (loaded-to (passes (c .before .valid .ensures) (c .if1 .left))))
+
+returns-2 : tie.Need-returns-2
+unfolding allOpen
+returns-2 c =
+    let valid = passes (c .before .before .valid .ensures) (c .before .if1 .left) in
+    record {
+      turned = λ n. absurd (n valid);
+      opened = λ l.
+          ap (λ (m : ℕ). record { outcome = Accepted; session = record { mask = m } })
+          (c .low-bits .ensures ∙ ap (λ (n : ℕ). 2 ^ n - 1) (partition-count (loaded-to l)));
+    }
+
+pub open-session-spec : {M : Type 1} → statement M
+open-session-spec = tie.close (tie.spec valid-requires returns low-bits-requires returns-2)

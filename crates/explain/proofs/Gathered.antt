@@ -1,0 +1,109 @@
+-- The words of an explanation, gathered from the last label to the first.
+use mathlib.Core.Path.{_≡_, sym, ap, _∙_}
+use mathlib.Core.Bool.{Bool, true, false, cond, not, _&&_}
+use mathlib.Core.List.{List, [], _∷_, map}
+use Prim.Native.Nat.{ℕ, _+_, _-_, _/_, _^_, _≤_, _<_}
+use native.Mathlib.Omega.{arith}
+use lib.Bits.{bitAnd}
+use lib.Dec.{eqb}
+use lib.ListN.{length, getD, drop, drop-of-length-le}
+use Rattle.theory.specs.Executable.Test.{any}
+use Rattle.words.specs.Bits.{meet}
+use Rattle.labels.specs.Posed.{labelsValue}
+use Rattle.labels.specs.Settled.{holdsOne}
+use Rattle.labels.specs.declared.Labels.{Labels}
+use Rattle.explain.specs.Explanation.{viewsOf, keep, insert, ascending, distinct, exceeds, least, lacking}
+use Rattle.explain.proofs.Distinct.{distinct-more}
+use Rattle.explain.proofs.Lacking.{passes, keep-lacking}
+use Rattle.explain.proofs.Search.{from-place}
+use Rattle.explain.proofs.Value.{labels-count, label-is}
+
+module _ (granted : ℕ) (ws : List ℕ) where
+  -- of the labels from place i on, the granted views
+  unfoldable pub grantedFrom : ℕ → List ℕ
+  unfolding ascending viewsOf
+  grantedFrom i = ascending (map (λ w. bitAnd (viewsOf w) granted) (drop i ws))
+
+  -- a word strictly includes no views of a label that holds no granted view
+  abbrev pub isLeast : ℕ → Bool
+  isLeast v = not (any (exceeds v) (lacking granted ws))
+
+  -- of the labels from place i on, the least views of those that hold no granted view
+  abbrev pub leastFrom : ℕ → List ℕ
+  leastFrom i = keep isLeast (lacking granted (drop i ws))
+
+  unfoldable pub lackingFrom : ℕ → List ℕ
+  unfolding ascending distinct
+  lackingFrom i = ascending (distinct (leastFrom i))
+
+  -- from the first label on
+  pub granted-all : (i : ℕ) → i ≤ 0 → grantedFrom i ≡ ascending (map (λ w. bitAnd (viewsOf w) granted) ws)
+  unfolding grantedFrom
+  granted-all i h = let first : i ≡ 0 = omega arith in ap grantedFrom first
+
+  pub lacking-all : (i : ℕ) → i ≤ 0 → lackingFrom i ≡ ascending (distinct (least (lacking granted ws)))
+  unfolding lackingFrom least
+  lacking-all i h = let first : i ≡ 0 = omega arith in ap lackingFrom first
+
+-- a label before the labels from place i on
+before-place : (ws : List ℕ) (i : ℕ) → 0 < i → i ≤ length ws → drop (i - 1) ws ≡ getD ws (i - 1) 0 ∷ drop i ws
+before-place ws i some h =
+    let back : i - 1 + 1 ≡ i = omega arith in
+    from-place ws (i - 1) 0 (omega arith) ∙ ap (λ (k : ℕ). getD ws (i - 1) 0 ∷ drop k ws) back
+
+module _ (granted : ℕ) (l : Labels) (ws : List ℕ) (e : l ≡ labelsValue ws) where
+  -- ---- past the last label
+
+  none-left : drop (l .count) ws ≡ []
+  none-left = drop-of-length-le ws {i = l .count} (omega (arith, labels-count l ws e))
+
+  pub granted-none : grantedFrom granted ws (l .count) ≡ []
+  unfolding grantedFrom
+  granted-none = ap (λ (t : List ℕ). ascending (map (λ w. bitAnd (viewsOf w) granted) t)) none-left
+
+  pub lacking-none : lackingFrom granted ws (l .count) ≡ []
+  unfolding lackingFrom lacking
+  lacking-none = ap (λ (t : List ℕ). ascending (distinct (keep (isLeast granted ws) (lacking granted t)))) none-left
+
+  -- ---- a label
+
+  pub label-passes : (f : ℕ → Bool) (i views : ℕ) → views ≡ getD (l .words) i 0 / 2 ^ 32
+      → passes granted f (getD ws i 0) ≡ (not (meet 64 views granted) && f views)
+  unfolding holdsOne viewsOf
+  label-passes f i views v =
+      sym (ap (λ (x : ℕ). not (meet 64 x granted) && f x) (v ∙ ap (λ (w : ℕ). w / 2 ^ 32) (label-is l ws e i)))
+
+  module _ (i views : ℕ) (some : 0 < i) (h : i ≤ l .count) (v : views ≡ getD (l .words) (i - 1) 0 / 2 ^ 32) where
+    views-are : viewsOf (getD ws (i - 1) 0) ≡ views
+    unfolding viewsOf
+    views-are = sym (v ∙ ap (λ (w : ℕ). w / 2 ^ 32) (label-is l ws e (i - 1)))
+
+    one-more : drop (i - 1) ws ≡ getD ws (i - 1) 0 ∷ drop i ws
+    one-more = before-place ws i some (omega (arith, labels-count l ws e))
+
+    pub granted-more : grantedFrom granted ws (i - 1) ≡ insert (bitAnd views granted) (grantedFrom granted ws i)
+    unfolding grantedFrom
+    granted-more =
+        ap (λ (t : List ℕ). ascending (map (λ w. bitAnd (viewsOf w) granted) t)) one-more
+        ∙ ap (λ (x : ℕ). insert (bitAnd x granted) (grantedFrom granted ws i)) views-are
+
+    next : leastFrom granted ws (i - 1)
+        ≡ cond (not (meet 64 views granted) && isLeast granted ws views) (views ∷ leastFrom granted ws i) (leastFrom granted ws i)
+    next =
+        let f = isLeast granted ws in
+        let rest = leastFrom granted ws i in
+        ap (λ (t : List ℕ). keep f (lacking granted t)) one-more
+        ∙ keep-lacking granted f (getD ws (i - 1) 0) (drop i ws)
+        ∙ ap (λ (b : Bool). cond b (viewsOf (getD ws (i - 1) 0) ∷ rest) rest) (label-passes f (i - 1) views v)
+        ∙ ap (λ (x : ℕ). cond (not (meet 64 views granted) && f views) (x ∷ rest) rest) views-are
+
+    pub lacking-told : (not (meet 64 views granted) && isLeast granted ws views) ≡ true →
+        let r = lackingFrom granted ws i in
+        lackingFrom granted ws (i - 1) ≡ cond (any (eqb views) r) r (insert views r)
+    unfolding lackingFrom
+    lacking-told t = ap (λ (x : List ℕ). ascending (distinct x)) (rw t at next) ∙ distinct-more views (leastFrom granted ws i)
+
+    pub lacking-untold : (not (meet 64 views granted) && isLeast granted ws views) ≡ false
+        → lackingFrom granted ws (i - 1) ≡ lackingFrom granted ws i
+    unfolding lackingFrom
+    lacking-untold t = ap (λ (x : List ℕ). ascending (distinct x)) (rw t at next)

@@ -1,0 +1,70 @@
+-- `explain::granted_words`: the words are those of the labels from `i` on.
+use mathlib.Core.Path.{_≡_, sym, ap, _∙_}
+use mathlib.Core.List.{List}
+use Prim.Native.Nat.{ℕ, _+_, _≤_}
+use native.Mathlib.Omega.{arith}
+use borrow.Author.Needs.{needs}
+use Rattle.labels.specs.Posed.{labelsValue}
+use Rattle.explain.specs.Value.{wordsValue}
+use Rattle.explain.proofs.Gathered.{grantedFrom, granted-all, granted-none, granted-more}
+use Rattle.explain.proofs.granted_words.Statement.{statement}
+use Rattle.explain.proofs.granted_words.Tie as tie
+
+abbrev Inv-loop : tie.InvT-loop
+Inv-loop granted l r₀ i₀ r i = (r .count + i ≤ l .count) × ((ws : List ℕ) → l ≡ labelsValue ws → r ≡ wordsValue (grantedFrom granted ws i))
+
+abbrev μ-loop : tie.MeasureT-loop
+μ-loop granted l r₀ i₀ r i = i
+
+loop-holds : tie.Need-loop-holds Inv-loop μ-loop
+unfolding wordsValue
+loop-holds c = (search needs, λ ws e. ap wordsValue (sym (granted-none _ _ ws e)))
+
+sub-i : tie.Need-sub-i Inv-loop μ-loop
+sub-i c = omega (arith, c .loop-test .taken)
+
+mul-high-half : tie.Need-mul-high-half Inv-loop μ-loop
+mul-high-half c = omega (arith, c .loop-test .taken, c .before .loop .inv .0, c .before .before .pre)
+
+element-copy-out-high-half : tie.Need-element-copy-out-high-half Inv-loop μ-loop
+element-copy-out-high-half c = omega (arith, c .loop-test .taken, c .before .loop .inv .0, c .before .before .pre)
+
+high-half-requires : tie.Need-high-half-requires Inv-loop μ-loop
+high-half-requires c κs = search needs
+
+insert-word-requires : tie.Need-insert-word-requires Inv-loop μ-loop
+insert-word-requires c κs =
+    let at = c .before .before in
+    omega (arith, at .loop-test .taken, at .before .loop .inv .0, at .before .before .pre)
+
+loop-less : tie.Need-loop-less Inv-loop μ-loop
+loop-less c = omega (arith, c .before .before .before .loop-test .taken)
+
+loop-again : tie.Need-loop-again Inv-loop μ-loop
+loop-again c =
+    let at = c .before .before .before in
+    let loop = at .before .loop in (
+      omega (arith, at .loop-test .taken, loop .inv .0, c .insert-word .ensures .0),
+      λ ws e.
+          rw (granted-more _ _ ws e (loop .i) _ (at .loop-test .taken) (omega (arith, loop .inv .0)) (c .before .high-half .ensures))
+          (c .insert-word .ensures .1 _ (loop .inv .1 ws e)),
+    )
+
+returns : tie.Need-returns Inv-loop μ-loop
+returns c = λ ws e. c .before .loop .inv .1 ws e ∙ ap wordsValue (granted-all _ ws (c .before .loop .i) (c .loop-test .left))
+
+pub granted-words-spec : {M : Type 1} → statement M
+granted-words-spec =
+    tie.close
+    (tie.spec
+    Inv-loop
+    μ-loop
+    loop-holds
+    sub-i
+    mul-high-half
+    element-copy-out-high-half
+    high-half-requires
+    insert-word-requires
+    loop-less
+    loop-again
+    returns)
