@@ -1,14 +1,13 @@
 -- Demand 3: a list of calls on a fresh session under a loaded policy.
 use mathlib.Core.Path.{_≡_, refl, sym, ap, subst, _∙_}
 use mathlib.Core.List.{List, [], _∷_, _++_, append-assoc, append-nil, head-eq-of-cons-eq, tail-eq-of-cons-eq, nil≢cons, List·Memᴰ·not-nil}
-use Prim.Native.Nat.{ℕ, _-_, _^_, _≤_, _<_}
+use Prim.Native.Nat.{ℕ, _-_}
 use native.Mathlib.Omega.{arith}
 use lib.ListN.{length}
-use lib.Pow.{pow-mono, pow-pos}
+use lib.Pow.{pow-mono}
 use Rattle.words.proofs.ClearBits.{low-bits-set, low-bits-below}
 use Rattle.model.specs.Limits.{mostPartitions}
 use Rattle.model.specs.declared.Policy.{Policy}
-use Rattle.model.specs.declared.Outcome.{Outcome}
 use Rattle.model.specs.declared.Outcome.the-variants.{Accepted, Refused}
 use Rattle.policy.specs.Text.{Declared, refused, accepted, load}
 use Rattle.policy.specs.Text.{Loading as TheLoading}

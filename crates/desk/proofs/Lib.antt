@@ -1,6 +1,6 @@
 -- What a loaded policy holds.
 pub mod Loaded
--- One call.
+-- One deciding call.
 pub mod Masks
 pub mod Settled
 pub mod Decides
@@ -8,3 +8,12 @@ pub mod Steps
 -- Lists of calls.
 pub mod Demand
 pub mod Unique
+-- A text asked, and words written to a lent buffer.
+pub mod Asked
+pub mod Copied
+-- Labels.
+pub mod Listed
+pub mod Rewriting
+-- Explanations.
+pub mod Narrow
+pub mod Explained

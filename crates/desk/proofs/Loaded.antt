@@ -1,12 +1,14 @@
 -- What a policy value holds that some text loads to.
 use mathlib.Core.Path.{_≡_, ap, _∙_}
-use Prim.Native.Nat.{_≤_}
+use mathlib.Core.List.{[], map}
+use Prim.Native.Nat.{ℕ, _≤_}
 use native.Mathlib.Omega.{arith}
-use lib.ListN.{length}
+use lib.ListN.{length, getD, List·getD-map}
 use Rattle.model.specs.Limits.{mostPartitions}
 use Rattle.model.specs.declared.Policy.{Policy}
+use Rattle.model.proofs.Pad.{pad-get}
 use Rattle.policy.specs.Text.{Declared}
-use Rattle.policy.specs.Policy.{policyValue}
+use Rattle.policy.specs.Policy.{viewsAfter, policyValue}
 use Rattle.policy.proofs.Loaded.{loaded-well-formed}
 use Rattle.validity.specs.Loadable.{Loadable}
 use Rattle.labels.specs.Text.{LoadedTo}
@@ -22,3 +24,11 @@ module _ {p : Policy} {d : Declared} (l : LoadedTo p d) where
   pub few-partitions : p .«partition_count» ≤ 32
   unfolding mostPartitions
   few-partitions = omega (arith, partition-count, l .good .partitions .few)
+
+  -- the word of a partition
+  pub partition-word : (i : ℕ) → getD (p .partitions) i 0 ≡ viewsAfter 0 (getD (d .partitions) i [])
+  unfolding policyValue viewsAfter
+  partition-word i =
+      ap (λ (x : Policy). getD (x .partitions) i 0) (l .policy)
+      ∙ pad-get 32 0 (map (viewsAfter 0) (d .partitions)) i
+      ∙ List·getD-map (viewsAfter 0) (d .partitions) i []

@@ -2,7 +2,7 @@
 use mathlib.Core.Path.{_≡_, sym, ap, subst, _∙_}
 use mathlib.Core.Logic.{_↔_}
 use mathlib.Core.Bool.{Bool, cond, _&&_}
-use mathlib.Core.List.{List, [], map}
+use mathlib.Core.List.{List, []}
 use Prim.Native.Nat.{ℕ, zero, suc, _+_, _^_, _<_}
 use native.Mathlib.Nat.{pow-suc, lt-of-lt-of-le}
 use native.Mathlib.Omega.{arith}
@@ -13,21 +13,19 @@ use mir.Facts.{eqb-yes, yes-eqb}
 use Rattle.theory.specs.Query.{Query}
 use Rattle.theory.specs.Archive.{AllFit}
 use Rattle.theory.specs.Executable.Label.{labels, settles}
-use Rattle.theory.proofs.Tuples.{getD-map, getD-mem}
+use Rattle.theory.proofs.Tuples.{getD-mem}
 use Rattle.theory.proofs.Executable.Test.{and-iff}
-use Rattle.words.specs.Bits.{bit, isSet, setBit}
+use Rattle.words.specs.Bits.{isSet, setBit}
 use Rattle.words.proofs.Marks.{Upto, upto-more}
-use Rattle.model.specs.Value.{pad}
 use Rattle.model.specs.declared.Policy.{Policy}
-use Rattle.model.proofs.Pad.{pad-get}
 use Rattle.policy.specs.Text.{Declared}
-use Rattle.policy.specs.Policy.{viewsAfter, policyValue}
 use Rattle.label.proofs.Words.{same-bits}
 use Rattle.labels.specs.Settled.{settled, granted}
 use Rattle.labels.specs.Text.{LoadedTo}
 use Rattle.labels.proofs.Partitions.{settled-settles}
 use Rattle.desk.specs.Session.{passing, stillOpen}
 use Rattle.desk.specs.Settling.{Settles, Settling}
+use Rattle.desk.proofs.Loaded.{partition-word}
 use Rattle.desk.proofs.Masks.{passing-iff}
 
 -- one bit more, by a test
@@ -49,14 +47,6 @@ below-power zero = omega arith
 below-power (suc n) = omega (arith, below-power n, pow-suc 2 n)
 
 module _ {p : Policy} {d : Declared} (l : LoadedTo p d) (Q : Query) (fits : AllFit (d .widths) Q) where
-  -- the word of a partition
-  partition-word : (i : ℕ) → i < length (d .partitions) → getD (p .partitions) i 0 ≡ viewsAfter 0 (getD (d .partitions) i [])
-  unfolding policyValue pad
-  partition-word i h =
-      ap (λ (x : Policy). getD (x .partitions) i 0) (l .policy)
-      ∙ pad-get 32 0 (map (viewsAfter 0) (d .partitions)) i
-      ∙ getD-map (viewsAfter 0) (d .partitions) i [] 0 h
-
   -- the code's word is the definition's
   pub settling-open : (n mask left : ℕ) → n ≡ length (d .partitions) → Settling (p .partitions) n mask (labels (d .views) Q) left
       → left ≡ stillOpen d Q mask
@@ -71,7 +61,7 @@ module _ {p : Policy} {d : Declared} (l : LoadedTo p d) (Q : Query) (fits : AllF
       let k = passing-iff f (d .partitions) mask i in
       let vs = getD (d .partitions) i [] in
       let same : (b : i < length (d .partitions)) → settled (getD (p .partitions) i 0) (labels (d .views) Q) ≡ f vs =
-      λ b. ap (λ (x : ℕ). settled x (labels (d .views) Q)) (partition-word i b)
+      λ b. ap (λ (x : ℕ). settled x (labels (d .views) Q)) (partition-word l i)
       ∙ settled-settles d (l .good) vs (l .good .partitions .each vs (getD-mem (d .partitions) i [] b)) Q fits in (
         λ h. let r = s i .0 h in
             let b : i < length (d .partitions) = rw e at (r .there) in k .1 (b, subst T (same b) (r .settles), r .open-before),

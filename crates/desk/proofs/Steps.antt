@@ -1,17 +1,15 @@
 -- One deciding call: what it says, and which partitions it leaves open.
 use mathlib.Core.Path.{_≡_, refl, sym, ap, subst, _∙_}
 use mathlib.Core.Logic.{_↔_, ⊎-elim}
-use mathlib.Core.Bool.{Bool, true, false, cond, _||_}
+use mathlib.Core.Bool.{false}
 use mathlib.Core.List.{List, [], _∷_, _++_, List·Memᴰ·head, List·Memᴰ·append-cases, List·Memᴰ·eq-of-singleton, Memᴰ·append-left, Memᴰ·append-right}
-use Prim.Native.Nat.{ℕ, _^_, _≤_, _<_}
+use Prim.Native.Nat.{ℕ, _^_, _<_}
 use native.Mathlib.Decide.{ℕ-discrete}
 use native.Mathlib.Omega.{arith}
 use borrow.Author.Tests.{eq-eqb, ne-eqb, lt-leb}
 use lib.Count.{trailingZeros}
-use lib.Dec.{T, eqb, leb}
 use lib.ListN.{length, getD}
-use Rattle.theory.specs.Query.{Query, _∈_, NoClash}
-use Rattle.theory.specs.Archive.{AllFit}
+use Rattle.theory.specs.Query.{Query}
 use Rattle.theory.specs.Executable.Label.{settles}
 use Rattle.theory.proofs.Determine.{settles-iff-determines}
 use Rattle.words.specs.Bits.{bit}

@@ -1,5 +1,4 @@
 -- Document 01, "If the answer is an enum, a definition provides this paper's number and values for each of its cases."
-use mathlib.Core.Path.{_≡_}
 use Prim.Native.Nat.{ℕ}
 use Rattle.desk.specs.declared.deciding.Reply.{Reply}
 use Rattle.desk.specs.declared.deciding.Reply.the-variants.{Yes, No, Refused}

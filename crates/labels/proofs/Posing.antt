@@ -1,9 +1,9 @@
 -- What a loaded policy and a query text that reading accepts under its tables give to label.
 use mathlib.Core.Path.{_≡_, ap}
 use mathlib.Core.List.{List, map}
-use Prim.Native.Nat.{ℕ, _≤_, _<_}
+use Prim.Native.Nat.{ℕ, _≤_}
 use native.Mathlib.Omega.{arith}
-use lib.Dec.{T, leb→le}
+use lib.Dec.{leb→le}
 use lib.ListN.{length, length-map}
 use native.Mathlib.Nat.{le-refl}
 use Rattle.theory.specs.Query.{Query, hidden, over, _∈_}

@@ -1,13 +1,12 @@
 -- An assignment among the candidates is a map that sends the lines at the bits of one word to those at the bits of another.
 use mathlib.Core.Path.{_≡_, subst}
-use mathlib.Core.Logic.{_↔_}
 use mathlib.Core.List.{List}
 use Prim.Native.Nat.{ℕ, _+_, _*_, _/_, _%_, _^_, _<_}
 use native.Mathlib.Decide.{ℕ-discrete, decLt}
 use native.Mathlib.Omega.{arith}
 use lib.Dec.{T}
 use lib.ListN.{length}
-use Rattle.theory.specs.Query.{Term, Line, Query}
+use Rattle.theory.specs.Query.{Term, Query}
 use Rattle.theory.specs.Reduce.{Sends}
 use Rattle.words.specs.Bits.{bit}
 use Rattle.reduce.specs.Agree.{agree, lineAt}

@@ -1,34 +1,28 @@
 -- Taking out the lines that may go, one after the other, the last first.
-use mathlib.Core.Path.{_≡_, refl, sym, ap, subst, _∙_}
-use mathlib.Core.Logic.{_↔_, _≢_}
-use mathlib.Core.Bool.{Bool, true, false, cond, _||_}
-use mathlib.Core.List.{List, [], List·Memᴰ·not-nil}
-use Prim.Native.Nat.{ℕ, zero, suc, _+_, _*_, _-_, _/_, _%_, _^_, _≤_, _<_}
-use native.Mathlib.Nat.{le-refl, le-step, lt-of-lt-of-le, lt-of-le-of-lt}
+use mathlib.Core.Path.{_≡_, refl, _∙_}
+use mathlib.Core.Logic.{_↔_}
+use mathlib.Core.Bool.{Bool, true, false, cond}
+use mathlib.Core.List.{List}
+use Prim.Native.Nat.{ℕ, suc, _-_, _^_, _≤_, _<_}
+use native.Mathlib.Nat.{lt-of-lt-of-le, lt-of-le-of-lt}
 use native.Mathlib.Decide.{decLt}
 use native.Mathlib.Omega.{arith}
-use lib.Dec.{T, eqb}
+use lib.Dec.{T}
 use lib.ListN.{length}
 use lib.Pow.{pow-mono}
-use mir.Facts.{eqb-yes}
-use Rattle.theory.specs.Query.{Term, hidden, Line, Query, over, _∈_}
+use Rattle.theory.specs.Query.{Term, hidden, Query}
 use Rattle.theory.specs.Reduce.{image, without, Sends}
-use Rattle.theory.specs.Executable.Test.{allBelow}
 use Rattle.theory.specs.Executable.Reduce.{mayGo, reduceBelow, reduce}
 use Rattle.theory.proofs.Reduce.{sends-self, sends-twice}
-use Rattle.theory.proofs.Executable.Test.{or-iff, allBelow-iff, same-test}
-use Rattle.theory.proofs.Executable.Reduce.{sendable-iff}
-use Rattle.words.specs.Bits.{bit, isSet, clearBit, meet}
+use Rattle.theory.proofs.Executable.Test.{same-test}
+use Rattle.words.specs.Bits.{bit, clearBit}
 use Rattle.words.proofs.Bits.{bit-beyond}
-use Rattle.words.proofs.ClearBits.{clear-bit-iff, clear-bit-le, clear-bit-other, low-bits-set, low-bits-below}
-use Rattle.words.proofs.Tests.{meet-iff}
-use Rattle.reduce.specs.Agree.{lineAt}
+use Rattle.words.proofs.ClearBits.{clear-bit-le, clear-bit-other, low-bits-set, low-bits-below}
 use Rattle.reduce.specs.Extends.{Extends}
 use Rattle.reduce.specs.Left.{linesAt, Folds}
-use Rattle.reduce.specs.Pairs.{Goings, Tabled}
-use Rattle.reduce.proofs.Agree.{goes-iff}
-use Rattle.reduce.proofs.Assign.{goes-image, may-go-sends}
-use Rattle.reduce.proofs.Left.{in-lines, lines-in, lines-subset, lines-without, lines-all}
+use Rattle.reduce.specs.Pairs.{Tabled}
+use Rattle.reduce.proofs.Assign.{may-go-sends}
+use Rattle.reduce.proofs.Left.{lines-subset, lines-without, lines-all}
 use Rattle.reduce.proofs.Maps.{extends-sends, sends-extends}
 use Rattle.reduce.proofs.Rows.{extends-more}
 

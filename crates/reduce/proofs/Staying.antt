@@ -1,8 +1,7 @@
 -- Where no line could go to another, no line may go.
-use mathlib.Core.Path.{_≡_, refl, sym, ap, subst, _∙_}
+use mathlib.Core.Path.{_≡_, refl, sym, ap, _∙_}
 use mathlib.Core.Logic.{_≢_, ⊎-elim}
-use mathlib.Core.Bool.{Bool, true, false, cond, _||_, false≢true}
-use mathlib.Core.List.{[]}
+use mathlib.Core.Bool.{false, _||_, false≢true}
 use Prim.Native.Nat.{ℕ, zero, suc, _+_, _*_, _-_, _/_, _%_, _^_, _<_}
 use native.Mathlib.Nat.{le-refl, le-step}
 use native.Mathlib.Omega.{arith}
@@ -14,7 +13,6 @@ use Rattle.theory.specs.Reduce.{image, without}
 use Rattle.theory.specs.Executable.Test.{allBelow}
 use Rattle.theory.specs.Executable.Reduce.{mayGo, reduceBelow, reduce}
 use Rattle.theory.proofs.Executable.Test.{or-iff, allBelow-iff, same-test}
-use Rattle.theory.proofs.Executable.Reduce.{sendable-iff}
 use Rattle.words.specs.Bits.{bit, isSet, clearBit, meet}
 use Rattle.words.proofs.ClearBits.{clear-bit-iff, low-bits-set}
 use Rattle.words.proofs.Tests.{meet-iff}

@@ -1,7 +1,7 @@
 -- Lines and targets as bits: line i with target j is bit i * 8 + j of a word.
 use mathlib.Core.Path.{_≡_}
 use mathlib.Core.List.{List}
-use Prim.Native.Nat.{ℕ, _+_, _*_, _^_, _<_}
+use Prim.Native.Nat.{ℕ, _+_, _*_, _<_}
 use lib.ListN.{getD}
 use Rattle.words.specs.Bits.{bit}
 

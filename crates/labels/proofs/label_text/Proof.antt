@@ -1,7 +1,6 @@
-use mathlib.Core.Path.{refl, ap, ap₂, sym, _∙_}
+use mathlib.Core.Path.{ap, ap₂, sym, _∙_}
 use borrow.Author.Needs.{needs}
 use Rattle.query.specs.Text.{read}
-use Rattle.labels.specs.declared.Asked.{Asked}
 use Rattle.labels.specs.Text.{askedValue}
 use Rattle.labels.proofs.Posing.{tables-of, posed}
 use Rattle.labels.proofs.Readings.{read-accepted, read-refused}

@@ -1,11 +1,9 @@
 use mathlib.Core.Path.{refl, ap, _∙_}
-use mathlib.Core.Bool.{true}
 use borrow.Author.Needs.{needs}
 use native.Mathlib.Omega.{arith}
 use Prim.Native.Nat.{ℕ, _-_, _^_}
 use Rattle.words.proofs.Answers.{passes, fails}
 use Rattle.model.specs.declared.Outcome.the-variants.{Accepted}
-use Rattle.desk.specs.declared.opening.Opening.{Opening}
 use Rattle.desk.specs.Session.{allOpen}
 use Rattle.desk.proofs.Loaded.{loaded-to, partition-count, few-partitions}
 use Rattle.desk.proofs.opening.open_session.Statement.{statement}

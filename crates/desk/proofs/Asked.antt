@@ -1,0 +1,77 @@
+-- What a query text gives under a loadable policy, by the tag of its outcome.
+use mathlib.Core.Path.{_≡_, ap, subst}
+use mathlib.Core.List.{List, Memᴰ·of-map}
+use Prim.Native.Nat.{ℕ, _/_, _^_, _≤_, _<_}
+use native.Mathlib.Nat.{lt-of-lt-of-le}
+use native.Mathlib.Omega.{arith}
+use lib.Pow.{pow-mono}
+use Rattle.theory.specs.Query.{Query, _∈_}
+use Rattle.theory.specs.Archive.{AllFit}
+use Rattle.theory.specs.Executable.Label.{viewBits, label, labels}
+use Rattle.theory.specs.Executable.Reduce.{reduce}
+use Rattle.theory.specs.Executable.Show.{show}
+use Rattle.theory.proofs.Executable.Label.{viewBits-below}
+use Rattle.words.proofs.Parts.{high-part}
+use Rattle.model.specs.Limits.{mostTables, mostViews}
+use Rattle.model.specs.declared.Outcome.the-variants.{Refused}
+use Rattle.model.specs.declared.Policy.{Policy}
+use Rattle.query.specs.Text.{refused, accepted, read}
+use Rattle.query.proofs.Accepted.{accepted-well-read}
+use Rattle.policy.specs.Text.{Declared}
+use Rattle.policy.specs.Value.{WellFormed}
+use Rattle.validity.specs.Loadable.{Loadable}
+use Rattle.labels.specs.Posed.{labelsValue}
+use Rattle.labels.specs.Text.{LoadedTo, askedValue}
+use Rattle.labels.specs.declared.Asked.{Asked}
+use Rattle.labels.specs.declared.Labels.{Labels}
+use Rattle.labels.proofs.Lines.{shown-fits}
+use Rattle.labels.proofs.Posing.{few-labels}
+use Rattle.labels.proofs.Readings.{Tag, asked-accepted, asked-refused}
+use Rattle.desk.proofs.Loaded.{loaded-to}
+use Rattle.desk.specs.Held.{Held}
+
+-- ---- how many labels there are, and how large
+
+pub labels-held : {l : Labels} {ws : List ℕ} → Held l ws → l .count ≤ 8
+unfolding labelsValue
+labels-held h = omega (arith, ap (λ (x : Labels). x .count) (h .is), h .few)
+
+-- the views of a label, of which a policy has at most 32
+labels-narrow : (d : Declared) → WellFormed d → (Q : Query) → AllFit (d .widths) Q → (w : ℕ) → w ∈ labels (d .views) Q → w / 2 ^ 32 < 2 ^ 32
+unfolding labels label mostTables mostViews
+labels-narrow d good Q fits w m =
+    let (A, a, e) = Memᴰ·of-map (label (d .views)) (show (reduce Q)) m in
+    let f = shown-fits (d .widths) Q fits A a in
+    let small : A .table < 2 ^ 32 = omega (arith, f .last, good .tables .few) in
+    subst (λ (x : ℕ). x / 2 ^ 32 < 2 ^ 32) e
+    (rw (high-part 32 (viewBits (d .views) A) small) (lt-of-lt-of-le (viewBits-below (d .views) A) (pow-mono (good .views .few))))
+
+-- ---- how the text ended
+
+-- the text is a query, and these are its labels
+pub record Labelled (d : Declared) (text : List ℕ) (v : Asked) : Type 0 where
+  pub query : Query
+  pub reads : read (d .widths) text ≡ accepted query
+  pub held : Held (v .labels) (labels (d .views) query)
+
+-- what labelling the text gives for each loading of the policy
+module _ {p : Policy} (text : List ℕ) (v : Asked)
+    (asked : (d : Declared) → LoadedTo p d → v ≡ askedValue (d .views) (read (d .widths) text)) (l : Loadable p) where
+  pub text-accepted : Tag 0 (v .outcome) → Labelled (l .declared) text v
+  text-accepted h =
+      let d = l .declared in
+      let (Q, r, w) = asked-accepted (d .views) (read (d .widths) text) v (asked d (loaded-to l)) h in
+      let q = accepted-well-read (d .widths) text Q r .0 in
+      record {
+        query = Q;
+        reads = r;
+        held =
+            record {
+              is = w;
+              few = few-labels (d .views) (d .widths) text Q r;
+              narrow = labels-narrow d (loaded-to l .good) Q (q .fits);
+            };
+      }
+
+  pub text-turned : {n k : ℕ} → v .outcome ≡ Refused n k → read (l .declared .widths) text ≡ refused n k
+  text-turned {n} {k} = asked-refused (l .declared .views) (read (l .declared .widths) text) v n k (asked (l .declared) (loaded-to l))

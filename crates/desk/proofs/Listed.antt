@@ -1,0 +1,70 @@
+-- The reply of a listing and the buffer after it, case by case.
+use mathlib.Core.Path.{_≡_, refl, ap, _∙_}
+use mathlib.Core.Bool.{true}
+use mathlib.Core.List.{List, _++_}
+use Prim.Native.Nat.{ℕ, _≤_, _<_}
+use native.Mathlib.Omega.{arith}
+use borrow.Author.Tests.{lt-ltb, le-ltb}
+use lib.ListN.{length, take, drop}
+use Rattle.theory.specs.Executable.Label.{labels}
+use Rattle.model.specs.declared.Policy.{Policy}
+use Rattle.model.proofs.Pad.{pad-take}
+use Rattle.query.specs.Text.{refused, read}
+use Rattle.validity.specs.Loadable.{Loadable}
+use Rattle.labels.specs.Posed.{labelsValue}
+use Rattle.labels.specs.declared.Asked.{Asked}
+use Rattle.labels.specs.declared.Labels.{Labels}
+use Rattle.desk.specs.Listing.{told, notListed, given, listed, listReading, Lists, LabelsGiven}
+use Rattle.desk.specs.declared.listing.Listing.{Listing}
+use Rattle.desk.specs.declared.listing.Listing.the-variants.{Given, Refused}
+use Rattle.desk.proofs.Asked.{Labelled}
+use Rattle.desk.proofs.Copied.{Copied}
+
+not-lists : (before : List ℕ) (n k : ℕ) → Lists (Refused n k) before (notListed before n k)
+unfolding told notListed
+not-lists before n k = record { reply = refl; buffer = refl }
+
+-- ---- the labels and the buffer
+
+module _ (l : Labels) (ws : List ℕ) (e : l ≡ labelsValue ws) where
+  count-is : l .count ≡ length ws
+  unfolding labelsValue
+  count-is = ap (λ (x : Labels). x .count) e
+
+  words-are : take (l .count) (l .words) ≡ ws
+  unfolding labelsValue
+  words-are = ap (λ (x : Labels). take (x .count) (x .words)) e ∙ pad-take 8 0 ws
+
+  pub lists-short : {before : List ℕ} → length before < l .count → Lists (Refused 10 0) before (listed before ws)
+  unfolding listed
+  lists-short {before} h = rw (lt-ltb (length before) (length ws) (omega (arith, count-is))) (not-lists before 10 0)
+
+  pub lists-given : (before : List ℕ) {after : List ℕ} → l .count ≤ length before → after ≡ Copied (l .words) (l .count) before
+      → Lists (Given (l .count)) after (listed before ws)
+  unfolding told listed given
+  lists-given before h c =
+      rw (le-ltb (length before) (length ws) (omega (arith, count-is)))
+      (record {
+        reply = λ i. record { given = true; count = count-is i; number = 0; line = 0 };
+        buffer = c ∙ ap (λ (v : List ℕ). v ++ drop (l .count) before) words-are ∙ ap (λ (k : ℕ). ws ++ drop k before) count-is;
+      })
+
+-- ---- the policy value and the text
+
+module _ {p : Policy} {text before : List ℕ} where
+  pub unlisted : (Loadable p → ⊥) → LabelsGiven p text before (Refused 8 0) before
+  unlisted n = record { unloaded = λ m. not-lists before 8 0; loaded = λ l. absurd (n l) }
+
+  pub text-refused : {n k : ℕ} → Loadable p → ((l : Loadable p) → read (l .declared .widths) text ≡ refused n k)
+      → LabelsGiven p text before (Refused n k) before
+  unfolding listReading
+  text-refused {n} {k} is h = record { unloaded = λ m. absurd (m is); loaded = λ l. rw (h l) (not-lists before n k) }
+
+  pub text-listed : {r : Listing} {after : List ℕ} (v : Asked) → Loadable p → ((l : Loadable p) → Labelled (l .declared) text v)
+      → ((ws : List ℕ) → v .labels ≡ labelsValue ws → Lists r after (listed before ws)) → LabelsGiven p text before r after
+  unfolding listReading
+  text-listed v is h lists =
+      record {
+        unloaded = λ m. absurd (m is);
+        loaded = λ l. rw (h l .reads) (lists (labels (l .declared .views) (h l .query)) (h l .held .is));
+      }

@@ -1,0 +1,65 @@
+-- `desk::listing::labels`: 8, what the text is turned back for, or what `give_labels` does with its labels.
+use borrow.Author.Needs.{needs}
+use Rattle.words.proofs.Answers.{passes, fails}
+use Rattle.desk.proofs.Loaded.{loaded-to}
+use Rattle.desk.proofs.Asked.{text-accepted, text-turned, labels-held}
+use Rattle.desk.proofs.Listed.{unlisted, text-refused, text-listed}
+use Rattle.desk.proofs.listing.labels.Statement.{statement}
+use Rattle.desk.proofs.listing.labels.Tie as tie
+
+valid-requires : tie.Need-valid-requires
+valid-requires c κs = search needs
+
+returns : tie.Need-returns
+returns c = unlisted (fails (c .before .valid .ensures) (c .if1 .taken))
+
+table-views-requires : tie.Need-table-views-requires
+table-views-requires c κs = search needs
+
+label-text-requires : tie.Need-label-text-requires
+label-text-requires c κs =
+    let l = passes (c .before .before .before .valid .ensures) (c .before .before .if1 .left) in
+    ((l .declared, loaded-to l), c .before .table-views .ensures)
+
+enum-told : tie.Need-enum-told
+enum-told c = search needs
+
+give-labels-requires : tie.Need-give-labels-requires
+give-labels-requires c κs =
+    let a = c .before .before .before .before in
+    let l = passes (a .before .before .before .before .valid .ensures) (a .before .before .before .if1 .left) in
+    labels-held (text-accepted _ _ (a .label-text .ensures) l (c .before .before .before .match .keys1) .held)
+
+enum-known-outcome : tie.Need-enum-known-outcome
+enum-known-outcome c = search needs
+
+same-length : tie.Need-same-length
+same-length c = search needs
+
+returns-2 : tie.Need-returns-2
+returns-2 c =
+    let a = c .before .before .before .before .before .before .before in
+    text-listed (a .label-text .result) (passes (a .before .before .before .before .valid .ensures) (a .before .before .before .if1 .left))
+    (λ l. text-accepted _ _ (a .label-text .ensures) l (c .before .before .before .before .before .before .match .keys1))
+    (c .before .before .give-labels .ensures)
+
+returns-3 : tie.Need-returns-3
+returns-3 c =
+    let a = c .before .before .before in
+    text-refused (passes (a .before .before .before .before .valid .ensures) (a .before .before .before .if1 .left))
+    (λ l. text-turned _ _ (a .label-text .ensures) l (c .before .outcome .given .1))
+
+pub labels-spec : {M : Type 1} → statement M
+labels-spec =
+    tie.close
+    (tie.spec
+    valid-requires
+    returns
+    table-views-requires
+    label-text-requires
+    enum-told
+    give-labels-requires
+    enum-known-outcome
+    same-length
+    returns-2
+    returns-3)

@@ -1,0 +1,67 @@
+// The labels of a query, written to a lent buffer.
+
+ghost use mathlib.Core.Path.{_≡_};
+ghost use mathlib.Core.List.{List, _++_};
+ghost use Prim.Native.Nat.{ℕ, _≤_};
+ghost use lib.ListN.{length, take, drop};
+ghost use Rattle.labels.specs.Posed.{labelsValue};
+ghost use Rattle.desk.specs.Listing.{LabelsGiven, Lists, listed};
+use labels::Labels;
+use model::Outcome;
+use model::Policy;
+
+// How many labels there are, or what turns the call back.
+pub enum Listing {
+    Given { count: u64 },
+    Refused { number: u64, line: u64 },
+}
+
+// The labels of a query text; numbers past them stay.
+pub fn labels(p: Policy, text: &[u8], out: &mut [u64]) -> Listing
+    ensures { λ r. ⌜ LabelsGiven p (now (text .entry)) (now (out .entry)) r (now (out .exit)) ⌝ }
+{
+    if !validity::valid(p) {
+        return Listing::Refused { number: 8, line: 0 };
+    }
+    let masks = label::table_views(p);
+    let a = labels::label_text(p, &masks, text);
+    let outcome = a.outcome;
+    match outcome {
+        Outcome::Accepted => {
+            let l = a.labels;
+            give_labels(l, out)
+        }
+        Outcome::Refused { number, line } => Listing::Refused { number, line },
+    }
+}
+
+// The labels at the head of the buffer, or 10.
+fn give_labels(l: Labels, out: &mut [u64]) -> Listing
+    requires { ⌜ l .count ≤ 8 ⌝ }
+    ensures { λ r. ⌜ ((ws : List ℕ) → l ≡ labelsValue ws → Lists r (now (out .exit)) (listed (now (out .entry)) ws)) ⌝ }
+{
+    let count = l.count;
+    if out.len() < count {
+        return Listing::Refused {
+            number: 10,
+            line: 0,
+        };
+    }
+    let words = l.words;
+    copy_words(words, count, out);
+    Listing::Given {
+        count: count as u64,
+    }
+}
+
+// The first words at the head of the buffer; numbers past them stay.
+fn copy_words(words: [u64; 8], count: usize, out: &mut [u64])
+    requires { ⌜ (count ≤ 8) × (count ≤ length (now out)) ⌝ }
+    ensures { λ _. ⌜ now (out .exit) ≡ take count words ++ drop count (now (out .entry)) ⌝ }
+{
+    let mut i = 0;
+    while i < count {
+        out[i] = words[i];
+        i += 1;
+    }
+}
