@@ -128,7 +128,10 @@ module _ (d : Declared) where
         yes-count = λ y. absurd (no-yes w y);
         no-count = λ n. count ∙ ap openCount (sym stays);
         no-exactly = (λ n. (Q, asks, none-answers e), λ r. w);
-        yes-there = λ P a r. absurd (none-answers e (subst (Answerable d before) (only P a) r));
+        yes-exactly = (
+          λ y. absurd (no-yes w y),
+          λ r. absurd (none-answers e (subst (Answerable d before) (only (r .0) (r .1)) (r .2))),
+        );
       };
     }
 
@@ -151,7 +154,7 @@ module _ (d : Declared) where
         yes-count = λ y. count ∙ ap openCount (sym leaves);
         no-count = λ n. absurd (no-yes n w);
         no-exactly = (λ n. absurd (no-yes n w), λ r. absurd (r .2 (subst (Answerable d before) (sym (only (r .0) (r .1))) (some-answers l))));
-        yes-there = λ P a r. w;
+        yes-exactly = (λ y. (Q, asks, some-answers l), λ r. w);
       };
     }
 
@@ -167,7 +170,7 @@ module _ (d : Declared) where
           yes-count = λ y. absurd (turned-yes w y);
           no-count = λ n. absurd (turned-no w n);
           no-exactly = (λ n. absurd (turned-no w n), λ r. absurd (none (r .0) (r .1)));
-          yes-there = λ Q a r. absurd (none Q a);
+          yes-exactly = (λ y. absurd (turned-yes w y), λ r. absurd (none (r .0) (r .1)));
         };
       }
 

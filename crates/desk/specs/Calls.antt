@@ -59,8 +59,8 @@ module _ (d : Declared) where
     -- "A call gets a no exactly when its query is well formed and no partition determines both it and every query answered
     -- yes before it"
     pub no-exactly : Says c no ↔ ((Q : Query) × Asks c Q × (Answerable before Q → ⊥))
-    -- "where one does, a well-formed query gets a yes"
-    pub yes-there : (Q : Query) → Asks c Q → Answerable before Q → Says c yes
+    -- "where one does, a well-formed query gets a yes", and nothing else does
+    pub yes-exactly : Says c yes ↔ ((Q : Query) × Asks c Q × Answerable before Q)
 
   -- Demand 3, of a whole list of calls and the session after it.
   pub record Demand (cs : List Call) (s : Session) : Type 0 where
