@@ -1,0 +1,39 @@
+// The input of a run, cut into query texts.
+
+ghost use mathlib.Core.Path.{_≡_};
+ghost use mathlib.Core.Bool.{_&&_};
+ghost use Prim.Native.Nat.{_<_};
+ghost use lib.Dec.{ltb};
+ghost use lib.ListN.{length};
+ghost use Rattle.text.specs.Names.{tableTerms, sameBytes};
+ghost use Rattle.cutting.specs.NextCut.{NextCut};
+
+// Whether a query starts at this line: the first line is part of the first query, whatever it says.
+fn is_cut(at: usize, line: &[u8]) -> bool
+    ensures { λ r. ⌜ r ≡ (ltb 0 at && sameBytes (now (line .entry)) tableTerms) ⌝ }
+{
+    if at == 0 {
+        return false;
+    }
+    text::same(line, &text::TABLE_TERMS)
+}
+
+// The place where the second query text starts, or the length of the input where there is one only.
+pub fn next_cut(input: &[u8]) -> usize
+    requires { ⌜ 0 < length (now input) ⌝ }
+    ensures { λ r. ⌜ NextCut (now (input .entry)) r ⌝ }
+{
+    let mut at = 0;
+    while at < input.len() {
+        let rest = &input[at..];
+        let n = text::first(rest, b'\n');
+        if n == rest.len() {
+            return input.len();
+        }
+        if is_cut(at, &rest[..n]) {
+            return at;
+        }
+        at = at + n + 1;
+    }
+    at
+}

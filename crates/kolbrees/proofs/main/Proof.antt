@@ -1,0 +1,78 @@
+use mathlib.Core.Path.{sym}
+use lib.Seq.{length-take-le}
+use borrow.Author.Needs.{needs}
+use Rattle.kolbrees.proofs.main.Statement.{statement}
+use Rattle.kolbrees.proofs.main.Tie as tie
+
+policy-buffer-requires : tie.Need-policy-buffer-requires
+policy-buffer-requires c κs = search needs
+
+slice-aggregate-read-policy : tie.Need-slice-aggregate-read-policy
+slice-aggregate-read-policy c = search needs
+
+read-policy-requires : tie.Need-read-policy-requires
+read-policy-requires c κs = search needs
+
+large-buffer-requires : tie.Need-large-buffer-requires
+large-buffer-requires c κs = search needs
+
+slice-aggregate-read-full : tie.Need-slice-aggregate-read-full
+slice-aggregate-read-full c = search needs
+
+read-full-requires : tie.Need-read-full-requires
+read-full-requires c κs = search needs
+
+output-buffer-requires : tie.Need-output-buffer-requires
+output-buffer-requires c κs = search needs
+
+array-share-prefix-policy : tie.Need-array-share-prefix-policy
+array-share-prefix-policy c = search needs
+
+slice-aggregate-run : tie.Need-slice-aggregate-run
+slice-aggregate-run c = search needs
+
+array-share-prefix-queries : tie.Need-array-share-prefix-queries
+array-share-prefix-queries c = search needs
+
+slice-aggregate-run-2 : tie.Need-slice-aggregate-run-2
+slice-aggregate-run-2 c = search needs
+
+slice-aggregate-run-3 : tie.Need-slice-aggregate-run-3
+slice-aggregate-run-3 c = search needs
+
+run-requires : tie.Need-run-requires
+run-requires c κs = search needs
+
+array-share-prefix-out : tie.Need-array-share-prefix-out
+array-share-prefix-out c = search needs
+
+slice-aggregate-write-all : tie.Need-slice-aggregate-write-all
+slice-aggregate-write-all c = sym (length-take-le _ _ (c .before .before .run .ensures .1))
+
+write-all-requires : tie.Need-write-all-requires
+write-all-requires c κs = search needs
+
+returns : tie.Need-returns
+returns c = search needs
+
+pub main-spec : {M : Type 1} → statement M
+main-spec =
+    tie.close
+    (tie.spec
+    policy-buffer-requires
+    slice-aggregate-read-policy
+    read-policy-requires
+    large-buffer-requires
+    slice-aggregate-read-full
+    read-full-requires
+    output-buffer-requires
+    array-share-prefix-policy
+    slice-aggregate-run
+    array-share-prefix-queries
+    slice-aggregate-run-2
+    slice-aggregate-run-3
+    run-requires
+    array-share-prefix-out
+    slice-aggregate-write-all
+    write-all-requires
+    returns)

@@ -1,0 +1,100 @@
+-- The loop over the query texts: what is written so far, and the lines still to come.
+use mathlib.Core.Path.{_≡_, refl, sym, ap, ap₂, _∙_}
+use mathlib.Core.Logic.{by-cases}
+use mathlib.Core.List.{List, _∷_, _++_, append-assoc, append-nil}
+use Prim.Native.Nat.{ℕ, _+_, _*_, _≤_, _<_, zero-le}
+use native.Mathlib.Decide.{decLt}
+use native.Mathlib.Numerals.{add-one}
+use native.Mathlib.Omega.{arith}
+use lib.ListN.{length, take, drop, length-drop, drop-of-length-le}
+use lib.Seq.{drop-drop}
+use Rattle.words.specs.Bits.{onesBelow}
+use Rattle.model.specs.declared.Policy.{Policy}
+use Rattle.policy.specs.Text.{Declared}
+use Rattle.labels.specs.Text.{LoadedTo}
+use Rattle.desk.specs.declared.deciding.Decision.{Decision}
+use Rattle.desk.specs.Deciding.{Outcome, decideUnder, Gives}
+use Rattle.writing.specs.Wrote.{Wrote}
+use Rattle.cutting.specs.Cut.{cut}
+use Rattle.cutting.specs.NextCut.{Starts, NextCut}
+use Rattle.cutting.proofs.Walk.{cut-none}
+use Rattle.run.specs.Run.{lineOf, linesFrom}
+use Rattle.run.proofs.Line.{replyLine}
+
+-- the query of this number starts at the place `at`, its line goes to the place `to`, and the session's partitions are those
+-- of `mask`; a query but the first has 12 bytes at least, a line 92 at most
+pub record Told (p : Policy) (queries was : List ℕ) (start opened : ℕ) (is : List ℕ) (mask query at to : ℕ) : Type 0 where
+  pub within : at ≤ length queries
+  pub some : 1 ≤ query
+  pub few : query * 12 ≤ at + 23
+  pub room : to + 92 ≤ start + query * 92
+  pub size : length is ≡ length was
+  pub starts : 1 < query → at < length queries → Starts (drop at queries)
+  pub tells : (d : Declared) → LoadedTo p d
+      → take to is ++ linesFrom d mask query (cut (drop at queries)) ≡ take start was ++ linesFrom d opened 1 (cut queries)
+
+pub told-none : (p : Policy) (queries was : List ℕ) (start opened : ℕ) → Told p queries was start opened was opened 1 0 start
+told-none p queries was start opened =
+    record {
+      within = zero-le;
+      some = omega arith;
+      few = omega arith;
+      room = omega arith;
+      size = refl;
+      starts = λ h. absurd (omega arith);
+      tells = λ d l. refl;
+    }
+
+-- the line for a query, from the decision on it
+line-of : (query left : ℕ) (r : Decision) (o : Outcome) → Gives r o → left ≡ onesBelow 64 (r .session .mask)
+    → replyLine query (r .reply) left ≡ lineOf query o
+unfolding lineOf
+line-of query left r o g e = rw (e, g .reply, g .session)
+
+lines-more : (d : Declared) (mask query : ℕ) (text : List ℕ) (texts : List (List ℕ)) (r : Decision) (left : ℕ)
+    → Gives r (decideUnder d mask text) → left ≡ onesBelow 64 (r .session .mask)
+    → linesFrom d mask query (text ∷ texts) ≡ replyLine query (r .reply) left ++ linesFrom d (r .session .mask) (query + 1) texts
+unfolding linesFrom
+lines-more d mask query text texts r left g e =
+    rw (line-of query left r (decideUnder d mask text) g e, g .session, add-one query)
+
+module _ {p : Policy} {queries was : List ℕ} {start opened : ℕ} {is : List ℕ} {mask query at to : ℕ}
+    (w : Told p queries was start opened is mask query at to) where
+  -- every query has its line
+  pub told-all : length queries ≤ at → (d : Declared) → LoadedTo p d → take to is ≡ take start was ++ linesFrom d opened 1 (cut queries)
+  unfolding linesFrom
+  told-all h d l =
+      sym (append-nil (take to is))
+      ∙ ap (λ (ts : List (List ℕ)). take to is ++ linesFrom d mask query ts) (sym (ap cut (drop-of-length-le queries h) ∙ cut-none))
+      ∙ w .tells d l
+
+  module _ (n : ℕ) (c : NextCut (drop at queries) n) (more : at < length queries) where
+    -- a query more, with at least 12 bytes where it is not the first
+    few-more : (query + 1) * 12 ≤ at + n + 23
+    few-more =
+        by-cases (decLt 1 query) (λ h. let s = w .starts h more in omega (arith, w .few, c .line (omega (arith, s .line, s .ended)), s .line))
+        (λ h. omega (arith, w .few, c .some))
+
+    starts-more : at + n < length queries → Starts (drop (at + n) queries)
+    starts-more h = rw drop-drop at (c .starts (omega (arith, length-drop at queries)))
+
+    pub told-more : (r : Decision) (left to' : ℕ) (is' : List ℕ)
+        → ((d : Declared) → LoadedTo p d → Gives r (decideUnder d mask (take n (drop at queries))))
+        → left ≡ onesBelow 64 (r .session .mask)
+        → Wrote is to (replyLine query (r .reply) left) is' to' → to' ≤ to + 92
+        → Told p queries was start opened is' (r .session .mask) (query + 1) (at + n) to'
+    told-more r left to' is' g e v b =
+        record {
+          within = omega (arith, c .within, length-drop at queries);
+          some = omega arith;
+          few = few-more;
+          room = omega (arith, w .room);
+          size = v .size ∙ w .size;
+          starts = λ h. starts-more;
+          tells = λ d l.
+              ap₂ {C = List ℕ} (λ x y. x ++ y) (v .front) (ap (λ (t : List ℕ). linesFrom d (r .session .mask) (query + 1) (cut t)) (sym (drop-drop n at queries)))
+              ∙ append-assoc (take to is) (replyLine query (r .reply) left) (linesFrom d (r .session .mask) (query + 1) (cut (drop n (drop at queries))))
+              ∙ ap (λ (x : List ℕ). take to is ++ x) (sym (lines-more d mask query (take n (drop at queries)) (cut (drop n (drop at queries))) r left (g d l) e))
+              ∙ ap (λ (ts : List (List ℕ)). take to is ++ linesFrom d mask query ts) (sym (c .pieces))
+              ∙ w .tells d l;
+        }

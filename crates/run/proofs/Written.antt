@@ -1,0 +1,62 @@
+-- What is written for a policy text that loads, and for one that does not.
+use mathlib.Core.Path.{_≡_, refl, sym, ap, subst, _∙_}
+use mathlib.Core.List.{List, [], _∷_, _++_}
+use Prim.Native.Nat.{ℕ}
+use native.Mathlib.Omega.{arith}
+use lib.ListN.{take}
+use Rattle.model.specs.declared.Outcome.the-variants.{Accepted, Refused}
+use Rattle.policy.specs.Text.{Declared, load}
+use Rattle.policy.specs.Text.{Loading as TheLoading, refused as refusedPolicy, accepted as acceptedPolicy}
+use Rattle.policy.specs.Policy.{policyValue}
+use Rattle.policy.proofs.Loaded.{loaded-well-formed}
+use Rattle.load.specs.Value.{loadingValue}
+use Rattle.load.specs.declared.Loading.{Loading}
+use Rattle.labels.specs.Text.{LoadedTo}
+use Rattle.labels.proofs.Readings.{Tag}
+use Rattle.desk.specs.Reply.{refused}
+use Rattle.desk.specs.Session.{allOpen}
+use Rattle.writing.specs.Wrote.{Wrote}
+use Rattle.cutting.specs.Cut.{cut}
+use Rattle.run.specs.Output.{outputNames, outputLine}
+use Rattle.run.specs.Run.{linesFrom, under, written}
+
+-- ---- how loading ended, by the tag of its outcome
+
+loads : (l : TheLoading) (v : Loading) → v ≡ loadingValue l → Tag 0 (v .outcome) → (d : Declared) × (l ≡ acceptedPolicy d) × (v .policy ≡ policyValue d)
+unfolding loadingValue
+loads (refusedPolicy n k) v e h = let t : Tag 0 (Refused n k) = subst (λ (w : Loading). Tag 0 (w .outcome)) e h in absurd (omega arith)
+loads (acceptedPolicy d) v e h = (d, refl, ap (λ (w : Loading). w .policy) e)
+
+pub loads-to : (text : List ℕ) (v : Loading) → v ≡ loadingValue (load text) → Tag 0 (v .outcome)
+    → (d : Declared) × (load text ≡ acceptedPolicy d) × LoadedTo (v .policy) d
+loads-to text v e h =
+    let (d, a, p) = loads (load text) v e h in
+    (d, a, record { policy = p; good = loaded-well-formed text d a })
+
+pub loads-not : (l : TheLoading) (v : Loading) (n k : ℕ) → v ≡ loadingValue l → v .outcome ≡ Refused n k → l ≡ refusedPolicy n k
+unfolding loadingValue
+loads-not (refusedPolicy m j) v n k e o = let same : Refused m j ≡ Refused n k = sym (ap (λ (w : Loading). w .outcome) e) ∙ o in cc
+loads-not (acceptedPolicy d) v n k e o =
+    let same : Accepted ≡ Refused n k = sym (ap (λ (w : Loading). w .outcome) e) ∙ o in
+    let z : _≡_ {A = ℕ} 0 1 = cc in
+    absurd (omega arith)
+
+-- ---- the bytes under the names
+
+abbrev pub namesLine : List ℕ
+namesLine = outputNames ++ 10 ∷ []
+
+pub written-refused : (policy queries : List ℕ) (n k : ℕ) → load policy ≡ refusedPolicy n k
+    → written policy queries ≡ namesLine ++ outputLine 0 refused 0 n k
+unfolding written outputNames under
+written-refused policy queries n k e = rw e
+
+pub written-accepted : (policy queries : List ℕ) (d : Declared) → load policy ≡ acceptedPolicy d
+    → written policy queries ≡ namesLine ++ linesFrom d (allOpen d) 1 (cut queries)
+unfolding written outputNames under
+written-accepted policy queries d e = rw e
+
+-- what stands behind the names line once that is written to the front of a buffer
+pub behind-names : {was mid out written : List ℕ} {at : ℕ} (rest : List ℕ) → Wrote was 0 namesLine mid at → out ≡ take at mid ++ rest
+    → written ≡ namesLine ++ rest → out ≡ written
+behind-names rest w e f = e ∙ ap (λ (l : List ℕ). l ++ rest) (w .front) ∙ sym f

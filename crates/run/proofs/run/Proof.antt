@@ -1,0 +1,125 @@
+-- The names line; then the refusal of the policy, or the lines of the queries.
+use mathlib.Core.Path.{_≡_, refl, ap, _∙_}
+use Prim.Native.Nat.{ℕ, _+_, _-_, _^_, _≤_}
+use native.Mathlib.Omega.{arith}
+use lib.ListN.{length}
+use Rattle.policy.specs.Text.{Declared, load, accepted}
+use Rattle.labels.specs.Text.{LoadedTo}
+use Rattle.desk.specs.Reply.{refused}
+use Rattle.desk.specs.Session.{allOpen}
+use Rattle.desk.proofs.Loaded.{partition-count, few-partitions}
+use Rattle.run.specs.Output.{outputNames, wordBytes, outputLine}
+use Rattle.run.proofs.Written.{loads-to, loads-not, behind-names, written-refused, written-accepted}
+use borrow.Author.Needs.{needs}
+use Rattle.run.proofs.run.Statement.{statement}
+use Rattle.run.proofs.run.Tie as tie
+
+-- ---- the names, and the policy that is loaded
+
+abbrev named : tie.At-match-keys2 → tie.After-put-bytes
+named c = c .before .before .before .before
+
+abbrev start : tie.At-match-keys2 → tie.Start
+start c = named c .before .before .before .before .before .before
+
+loaded : (c : tie.At-match-keys2) → (d : Declared) × (load (start c .args .policy .now) ≡ accepted d) × LoadedTo (c .before .load .result .policy) d
+loaded c = loads-to (start c .args .policy .now) (c .before .load .result) (c .before .load .ensures) (c .match .keys2)
+
+-- ---- the needs
+
+slice-aggregate-put-bytes : tie.Need-slice-aggregate-put-bytes
+slice-aggregate-put-bytes c = search needs
+
+put-bytes-requires : tie.Need-put-bytes-requires
+put-bytes-requires c κs = search needs
+
+load-requires : tie.Need-load-requires
+load-requires c κs = search needs
+
+enum-known-outcome : tie.Need-enum-known-outcome
+enum-known-outcome c = search needs
+
+slice-aggregate-put-line : tie.Need-slice-aggregate-put-line
+slice-aggregate-put-line c = search needs
+
+put-line-requires : tie.Need-put-line-requires
+put-line-requires c κs = search needs
+
+enum-told : tie.Need-enum-told
+enum-told c = search needs
+
+table-views-requires : tie.Need-table-views-requires
+table-views-requires c κs = search needs
+
+low-bits-requires : tie.Need-low-bits-requires
+low-bits-requires c κs = omega (arith, few-partitions (loaded (c .before .before .before) .2))
+
+decide-all-requires : tie.Need-decide-all-requires
+decide-all-requires c κs =
+    let v = c .before .before .before in
+    let m = v .before .before .before in
+    let s = start m in
+    let (d, e, l) = loaded m in
+    let b = named m in
+    let n : b .put-bytes .result ≡ 31 = b .put-bytes .ensures .next in
+    let z : length (b .put-bytes .last .0) ≡ length (s .args .out .now) = b .put-bytes .ensures .size in
+    let h : 524288 ≤ length (s .args .out .now) = s .pre .1 in
+    let room : b .put-bytes .result + 502596 ≤ length (b .put-bytes .last .0) = omega arith in
+    ((d, l), v .table-views .ensures, s .pre .0, room)
+
+same-length : tie.Need-same-length
+same-length c = search needs
+
+returns : tie.Need-returns
+unfolding wordBytes outputNames
+returns c =
+    let r = c .before .before in
+    let o = r .before .before .before .before in
+    let a = o .before .before in
+    let b = a .before .before .before in
+    let e = loads-not (load _) (a .load .result) _ _ (a .load .ensures) (o .outcome .given .1) in
+    let n : b .put-bytes .result ≡ 31 = b .put-bytes .ensures .next in
+    let s = b .before .before .before .before .before .before in
+    let z : length (b .put-bytes .last .0) ≡ length (s .args .out .now) = b .put-bytes .ensures .size in
+    let h : 524288 ≤ length (s .args .out .now) = s .pre .1 in (
+      behind-names (outputLine 0 refused 0 (o .outcome .given .0 .0) (o .outcome .given .0 .1 .0)) (b .put-bytes .ensures)
+          (r .put-line .ensures .0 refused refl .front) (written-refused _ _ _ _ e),
+      omega (arith, r .put-line .ensures .1 .0, r .put-line .ensures .1 .1, z, h),
+    )
+
+same-length-2 : tie.Need-same-length-2
+same-length-2 c = search needs
+
+returns-2 : tie.Need-returns-2
+unfolding outputNames allOpen
+returns-2 c =
+    let r = c .before .before in
+    let b = r .before .before .before in
+    let m = b .before .before .before .before in
+    let (d, e, l) = loaded m in
+    let all : b .low-bits .result ≡ allOpen d = b .low-bits .ensures ∙ ap (λ (n : ℕ). 2 ^ n - 1) (partition-count l) in
+    let n : named m .put-bytes .result ≡ 31 = named m .put-bytes .ensures .next in
+    let z : length (named m .put-bytes .last .0) ≡ length (start m .args .out .now) = named m .put-bytes .ensures .size in
+    let h : 524288 ≤ length (start m .args .out .now) = start m .pre .1 in (
+      behind-names _ (named m .put-bytes .ensures) (rw all at (r .decide-all .ensures .0 d l)) (written-accepted _ _ d e),
+      omega (arith, r .decide-all .ensures .1 .0, r .decide-all .ensures .1 .1, z, h),
+    )
+
+pub run-spec : {M : Type 1} → statement M
+run-spec =
+    tie.close
+    (tie.spec
+    slice-aggregate-put-bytes
+    put-bytes-requires
+    load-requires
+    enum-known-outcome
+    slice-aggregate-put-line
+    put-line-requires
+    enum-told
+    table-views-requires
+    low-bits-requires
+    decide-all-requires
+    same-length
+    returns
+    same-length-2
+    returns-2)

@@ -1,0 +1,32 @@
+-- Document 01, "The program and its first file": the bytes written for a policy text and the bytes of standard input.
+use mathlib.Core.List.{List, [], _∷_, _++_}
+use Prim.Native.Nat.{ℕ, suc}
+use Rattle.policy.specs.Text.{Declared, Loading, load}
+use Rattle.policy.specs.Text.{refused as refusedPolicy, accepted as acceptedPolicy}
+use Rattle.desk.specs.Reply.{refused}
+use Rattle.desk.specs.Session.{allOpen, openCount}
+use Rattle.desk.specs.Deciding.{Outcome, decideUnder}
+use Rattle.cutting.specs.Cut.{cut}
+use Rattle.run.specs.Output.{outputNames, outputLine}
+
+-- one query, and the others in the session that it leaves
+unfoldable pub lineOf : ℕ → Outcome → List ℕ
+unfolding outputLine
+lineOf k o = outputLine k (o .says .word) (openCount (o .leaves)) (o .says .number) (o .says .line)
+
+-- "decided in one session": the queries from number k on
+unfoldable pub linesFrom : Declared → ℕ → ℕ → List (List ℕ) → List ℕ
+unfolding decideUnder lineOf
+linesFrom d mask k [] = []
+linesFrom d mask k (t ∷ ts) = let o = decideUnder d mask t in lineOf k o ++ linesFrom d (o .leaves) (suc k) ts
+
+-- "A refused policy gives `0 refused 0` with number and line, alone under the names. No input under an accepted policy gives
+-- the names only."
+unfoldable pub under : Loading → List ℕ → List ℕ
+unfolding outputLine linesFrom allOpen cut
+under (refusedPolicy n k) queries = outputLine 0 refused 0 n k
+under (acceptedPolicy d) queries = linesFrom d (allOpen d) 1 (cut queries)
+
+unfoldable pub written : List ℕ → List ℕ → List ℕ
+unfolding outputNames under load
+written policy queries = outputNames ++ 10 ∷ under (load policy) queries

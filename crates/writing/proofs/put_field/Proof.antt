@@ -1,0 +1,40 @@
+-- The digits, of which a word has 20 at most, and the byte behind them.
+use mathlib.Core.Path.{_≡_}
+use Prim.Native.Nat.{_+_, _≤_}
+use native.Mathlib.Omega.{arith}
+use borrow.Author.Needs.{needs}
+use lib.ListN.{length}
+use Rattle.policy.specs.Print.{decimal}
+use Rattle.writing.proofs.Wrote.{wrote-more}
+use Rattle.writing.proofs.Decimal.{length-word}
+use Rattle.writing.proofs.put_field.Statement.{statement}
+use Rattle.writing.proofs.put_field.Tie as tie
+
+room : (c : tie.Start) → c .args .at + length (decimal (c .args .n)) ≤ length (c .args .out .now)
+room c = let p : c .args .at + 21 ≤ length (c .args .out .now) = c .pre in omega (arith, length-word (c .args .n) (c .fits .n .fits))
+
+put-decimal-requires : tie.Need-put-decimal-requires
+put-decimal-requires c κs = room (c .before .before)
+
+put-byte-requires : tie.Need-put-byte-requires
+put-byte-requires c κs =
+    let d = c .before .before .before in
+    let s = d .before .before .before in
+    let p : s .args .at + 21 ≤ length (s .args .out .now) = s .pre in
+    let e : d .put-decimal .result ≡ s .args .at + length (decimal (s .args .n)) = d .put-decimal .ensures .next in
+    let z = d .put-decimal .ensures .size in
+    omega (arith, length-word (s .args .n) (s .fits .n .fits))
+
+same-length : tie.Need-same-length
+same-length c = search needs
+
+returns : tie.Need-returns
+returns c =
+    let d = c .before .before .before .before .before .before in
+    let s = d .before .before .before in
+    let e : d .put-decimal .result ≡ s .args .at + length (decimal (s .args .n)) = d .put-decimal .ensures .next in
+    let r = c .before .before .put-byte .ensures .next in
+    (wrote-more (d .put-decimal .ensures) (c .before .before .put-byte .ensures), omega (arith, length-word (s .args .n) (s .fits .n .fits)))
+
+pub put-field-spec : {M : Type 1} → statement M
+put-field-spec = tie.close (tie.spec put-decimal-requires put-byte-requires same-length returns)

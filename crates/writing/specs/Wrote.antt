@@ -1,0 +1,11 @@
+-- What writing to a buffer leaves in it.
+use mathlib.Core.Path.{_≡_}
+use mathlib.Core.List.{List, _++_}
+use Prim.Native.Nat.{ℕ, _+_}
+use lib.ListN.{length, take}
+
+-- The bytes `bs` stand behind the `at` bytes in front, which are as they were; the next place is r.
+pub record Wrote (was : List ℕ) (at : ℕ) (bs : List ℕ) (is : List ℕ) (r : ℕ) : Type 0 where
+  pub front : take r is ≡ take at was ++ bs
+  pub next : r ≡ at + length bs
+  pub size : length is ≡ length was
