@@ -1,33 +1,13 @@
 -- The three rules, on the values of terms.
 use mathlib.Core.Path.{_≡_, refl, sym, ap, ap₂, _∙_}
 use mathlib.Core.Bool.{Bool, true, false, not, _&&_, _||_}
-use Prim.Native.Nat.{suc}
-use native.Mathlib.Nat.{suc-inj}
 use native.Mathlib.Omega.{arith}
-use borrow.Author.Tests.{eq-eqb, ne-eqb}
-use lib.Dec.{eqb}
 use Rattle.theory.specs.Query.{constant, shown, hidden}
 use Rattle.theory.specs.Query.{Term as TheTerm}
 use Rattle.theory.specs.Executable.Test.{same, kind}
 use Rattle.theory.specs.Executable.Cover.{isHidden, obeys}
 use Rattle.model.specs.Value.{termValue}
 use Rattle.model.specs.declared.Term.{Term}
-
--- ---- equal terms
-
-module _ {t u : Term} (x y : TheTerm) (et : t ≡ termValue x) (eu : u ≡ termValue y) where
-  pub same-mark : t .mark ≡ u .mark → eqb (t .number) (u .number) ≡ same x y
-  unfolding termValue same
-  same-mark m =
-      let e : kind x ≡ kind y = suc-inj (sym (ap (λ (w : Term). w .mark) et) ∙ m ∙ ap (λ (w : Term). w .mark) eu) in
-      ap₂ eqb (ap (λ (w : Term). w .number) et) (ap (λ (w : Term). w .number) eu) ∙ simp (eq-eqb (kind x) (kind y) e)
-
-  pub other-mark : (t .mark ≡ u .mark → ⊥) → false ≡ same x y
-  unfolding termValue same
-  other-mark f =
-      let g : kind x ≡ kind y → ⊥ = λ e.
-      f (ap (λ (w : Term). w .mark) et ∙ ap suc e ∙ sym (ap (λ (w : Term). w .mark) eu)) in
-      simp (ne-eqb (kind x) (kind y) g)
 
 -- ---- the rules by the mark of the view's term
 

@@ -6,7 +6,6 @@ ghost use mathlib.Core.List.{List};
 ghost use Prim.Native.Nat.{_^_, _≤_, _<_};
 ghost use lib.ListN.{length};
 ghost use Rattle.theory.specs.Query.{Term as TheTerm, Line as TheLine};
-ghost use Rattle.theory.specs.Executable.Test.{same as sameTerm};
 ghost use Rattle.theory.specs.Executable.Cover.{obeys as obeysRules, covers as coversLine};
 ghost use Rattle.theory.specs.Executable.Label.{label};
 ghost use Rattle.model.specs.Value.{termValue, lineValue};
@@ -19,14 +18,9 @@ use model::MOST_TABLES;
 use model::Policy;
 use model::SHOWN;
 use model::Term;
+use model::same_term;
 
 // ---- covering
-
-fn same(t: Term, u: Term) -> bool
-    ensures { λ r. ⌜ ((x y : TheTerm) → t ≡ termValue x → u ≡ termValue y → r ≡ sameTerm x y) ⌝ }
-{
-    t.mark == u.mark && t.number == u.number
-}
 
 fn implies(x: bool, y: bool) -> bool
     ensures { λ r. ⌜ r ≡ (not x || y) ⌝ }
@@ -39,16 +33,16 @@ fn obeys(v: Term, w: Term, a: Term, b: Term) -> bool
     ensures { λ r. ⌜ ((t u x y : TheTerm) → v ≡ termValue t → w ≡ termValue u → a ≡ termValue x → b ≡ termValue y → r ≡ obeysRules t u x y) ⌝ }
 {
     if v.mark == CONSTANT {
-        return same(a, v);
+        return same_term(a, v);
     }
-    let equals = implies(same(v, w), same(a, b));
+    let equals = implies(same_term(v, w), same_term(a, b));
     if v.mark == SHOWN {
         return equals;
     }
     if a.mark != HIDDEN {
         return false;
     }
-    equals && implies(same(a, b), same(v, w))
+    equals && implies(same_term(a, b), same_term(v, w))
 }
 
 // Whether a view covers a line of its table, which has `width` columns. The first broken rule ends the comparison.

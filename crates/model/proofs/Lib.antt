@@ -11,3 +11,4 @@ pub mod UpTo
 pub mod Values
 pub mod Variables
 pub mod Misfit
+pub mod Same

@@ -1,9 +1,9 @@
 -- The values of the code: what the structs hold for terms, lines and queries of the theory, unused entries behind them.
-use mathlib.Core.Bool.{Bool, true, false, cond}
+use mathlib.Core.Bool.{Bool, true, false, cond, _&&_}
 use mathlib.Core.List.{List, [], _∷_, _++_, map}
 use mathlib.Core.Option.{Option, none, some}
 use Prim.Native.Nat.{ℕ, suc, _-_}
-use lib.Dec.{leb}
+use lib.Dec.{eqb, leb}
 use lib.ListN.{length, take, replicate}
 use Rattle.theory.specs.Query.{constant, shown, hidden, Query}
 use Rattle.theory.specs.Query.{Term as TheTerm, Line as TheLine}
@@ -34,6 +34,10 @@ unusedTerm = record { mark = 0; number = 0 }
 unfoldable pub termValue : TheTerm → Term
 unfolding kind number
 termValue t = record { mark = suc (kind t); number = number t }
+
+-- the same mark and the same number
+unfoldable pub sameTerm : Term → Term → Bool
+sameTerm t u = eqb (t .mark) (u .mark) && eqb (t .number) (u .number)
 
 -- "The terms of a view are kept as rows of eight terms"
 unfoldable pub termsValue : List TheTerm → List Term

@@ -1,9 +1,11 @@
 // The values that hold what the texts say, and the reading of a line of terms.
 
 mod check;
+mod compare;
 mod read;
 
 pub use check::check_line;
+pub use compare::same_term;
 pub use read::blank;
 pub use read::read_line;
 pub use read::read_term;

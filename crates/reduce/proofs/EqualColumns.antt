@@ -13,10 +13,11 @@ use Rattle.theory.specs.Executable.Test.{same}
 use Rattle.theory.proofs.Executable.Test.{same-iff}
 use Rattle.words.specs.Bits.{bit, setBit}
 use Rattle.words.proofs.Marks.{Upto, upto-more, upto-all, by-test}
-use Rattle.model.specs.Value.{unusedTerm, termValue, lineValue}
+use Rattle.model.specs.Value.{sameTerm, unusedTerm, termValue, lineValue}
+use Rattle.model.proofs.Same.{same-value}
 use Rattle.model.specs.declared.Term.{Term}
-use Rattle.reduce.specs.Columns.{sameTerm, termAt, SameColumn, SameColumns}
-use Rattle.reduce.proofs.LineValues.{same-value, same-unused, used, unused}
+use Rattle.reduce.specs.Columns.{termAt, SameColumn, SameColumns}
+use Rattle.reduce.proofs.LineValues.{same-unused, used, unused}
 
 -- places at which the test does not hold
 upto-skip : {P : ℕ → Type 0} {p m : ℕ} (q : ℕ) → p ≤ q → Upto P p m → ((b : ℕ) → p ≤ b → b < q → P b → ⊥) → Upto P q m

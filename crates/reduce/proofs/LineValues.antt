@@ -11,29 +11,18 @@ use mir.Facts.{eqb-yes, yes-eqb}
 use Rattle.theory.specs.Query.{constant, shown, hidden, _∈_}
 use Rattle.theory.specs.Query.{Term as TheTerm, Line as TheLine}
 use Rattle.theory.specs.Cover.{at}
-use Rattle.theory.specs.Executable.Test.{all, allBelow, kind, number, same}
+use Rattle.theory.specs.Executable.Test.{all, allBelow, kind, number}
 use Rattle.theory.specs.Executable.Reduce.{keeps}
 use Rattle.theory.proofs.Tuples.{getD-map, zip-place, place-zip}
 use Rattle.theory.proofs.Executable.Test.{and-iff, all-iff, allBelow-iff, same-test}
-use Rattle.model.specs.Value.{unusedTerm, termValue, lineValue}
+use Rattle.model.specs.Value.{sameTerm, unusedTerm, termValue, lineValue}
 use Rattle.model.proofs.Pad.{pad-get}
 use Rattle.model.proofs.Terms.{terms-few}
+use Rattle.model.proofs.Same.{same-value}
 use Rattle.reduce.specs.Agree.{goes}
-use Rattle.reduce.specs.Columns.{sameTerm, keepsTerm, termAt, goesLine}
+use Rattle.reduce.specs.Columns.{keepsTerm, termAt, goesLine}
 
 -- ---- terms and their values
-
-pub same-value : (t u : TheTerm) → sameTerm (termValue t) (termValue u) ≡ same t u
-unfolding sameTerm termValue same kind number
-same-value (constant c) (constant d) = refl
-same-value (constant c) (shown n) = refl
-same-value (constant c) (hidden n) = refl
-same-value (shown n) (constant d) = refl
-same-value (shown n) (shown k) = refl
-same-value (shown n) (hidden k) = refl
-same-value (hidden n) (constant d) = refl
-same-value (hidden n) (shown k) = refl
-same-value (hidden n) (hidden k) = refl
 
 keeps-value : (t u : TheTerm) → keepsTerm (termValue t) (termValue u) ≡ keeps (t, u)
 unfolding keepsTerm keeps termValue kind number

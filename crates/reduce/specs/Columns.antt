@@ -9,12 +9,9 @@ use Rattle.theory.specs.Query.{Line as TheLine}
 use Rattle.theory.specs.Cover.{at}
 use Rattle.theory.specs.Executable.Test.{allBelow}
 use Rattle.words.specs.Bits.{bit}
-use Rattle.model.specs.Value.{unusedTerm}
+use Rattle.model.specs.Value.{unusedTerm, sameTerm}
 use Rattle.model.specs.declared.Term.{Term}
 use Rattle.model.specs.declared.Line.{Line}
-
-unfoldable pub sameTerm : Term → Term → Bool
-sameTerm t u = eqb (t .mark) (u .mark) && eqb (t .number) (u .number)
 
 unfoldable pub keepsTerm : Term → Term → Bool
 unfolding sameTerm

@@ -6,20 +6,11 @@ ghost use lib.ListN.{length};
 ghost use Rattle.theory.specs.Query.{Line as TheLine};
 ghost use Rattle.words.proofs.Marks.{Upto};
 ghost use Rattle.model.specs.Value.{lineValue};
-ghost use Rattle.reduce.specs.Columns.{sameTerm, keepsTerm, termAt, goesLine, SameColumn, SameColumns};
+ghost use Rattle.reduce.specs.Columns.{keepsTerm, termAt, goesLine, SameColumn, SameColumns};
 use model::HIDDEN;
 use model::Line;
 use model::Term;
 use model::UNUSED;
-
-fn same_term(t: Term, u: Term) -> bool
-    ensures { λ r. ⌜ r ≡ sameTerm t u ⌝ }
-{
-    if t.mark != u.mark {
-        return false;
-    }
-    t.number == u.number
-}
 
 // Constants and shown variables stand over themselves, and a hidden variable over a term.
 fn keeps_term(t: Term, u: Term) -> bool
@@ -28,7 +19,7 @@ fn keeps_term(t: Term, u: Term) -> bool
     if t.mark == HIDDEN {
         return u.mark != UNUSED;
     }
-    same_term(t, u)
+    model::same_term(t, u)
 }
 
 // Line a could go to line s, were there no hidden variable in two columns.
@@ -62,7 +53,7 @@ fn with_column(m: u64, p: usize, t: Term, b: Line) -> u64
     let mut q = 0;
     while q < 8 {
         let u = b.terms[q];
-        let same = same_term(t, u);
+        let same = model::same_term(t, u);
         r = words::set_bit_if(r, (p * 8 + q) as u64, same);
         q += 1;
     }

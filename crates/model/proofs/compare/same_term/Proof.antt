@@ -1,7 +1,7 @@
 use borrow.Author.Tests.{eq-eqb, ne-eqb}
-use Rattle.reduce.specs.Columns.{sameTerm}
-use Rattle.reduce.proofs.columns.same_term.Statement.{statement}
-use Rattle.reduce.proofs.columns.same_term.Tie as tie
+use Rattle.model.specs.Value.{sameTerm}
+use Rattle.model.proofs.compare.same_term.Statement.{statement}
+use Rattle.model.proofs.compare.same_term.Tie as tie
 
 returns : tie.Need-returns
 unfolding sameTerm
