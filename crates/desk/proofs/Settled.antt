@@ -19,7 +19,7 @@ use Rattle.words.specs.Bits.{isSet, setBit}
 use Rattle.words.proofs.Marks.{Upto, upto-more}
 use Rattle.model.specs.declared.Policy.{Policy}
 use Rattle.policy.specs.Text.{Declared}
-use Rattle.label.proofs.Words.{same-bits}
+use Rattle.words.proofs.Bits.{same-bits}
 use Rattle.labels.specs.Settled.{settled, granted}
 use Rattle.labels.specs.Text.{LoadedTo}
 use Rattle.labels.proofs.Partitions.{settled-settles}

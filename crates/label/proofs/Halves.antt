@@ -8,7 +8,7 @@ use Rattle.words.specs.Bits.{include}
 use Rattle.words.proofs.Tests.{include-iff}
 use Rattle.label.specs.Order.{atOrBelow}
 use Rattle.words.proofs.Answers.{same-answer}
-use Rattle.label.proofs.Words.{bit-within}
+use Rattle.words.proofs.Bits.{bit-within}
 
 -- to include a word of w bits, only the bits below w matter
 include-narrow : (w v a b : ℕ) → w ≤ v → b < 2 ^ w → include v a b ≡ include w a b

@@ -23,7 +23,7 @@ use Rattle.model.specs.declared.Policy.{Policy}
 use Rattle.label.specs.Labelled.{Holds, OfTable, Labelled}
 use Rattle.words.proofs.Answers.{true-holds, holds-true}
 use Rattle.words.proofs.Marks.{Upto, upto-set, Picked, picked-all}
-use Rattle.label.proofs.Words.{same-bits}
+use Rattle.words.proofs.Bits.{same-bits}
 
 -- what the code reads behind the views' end
 abbrev pub noLine : Line

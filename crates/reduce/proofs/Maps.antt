@@ -9,6 +9,7 @@ use lib.ListN.{length}
 use Rattle.theory.specs.Query.{Term, Query}
 use Rattle.theory.specs.Reduce.{Sends}
 use Rattle.words.specs.Bits.{bit}
+use Rattle.words.proofs.Bits.{bit-within}
 use Rattle.reduce.specs.Agree.{agree, lineAt}
 use Rattle.reduce.specs.Extends.{Extends}
 use Rattle.reduce.specs.Left.{linesAt}
@@ -16,7 +17,6 @@ use Rattle.reduce.specs.Pairs.{Candidate, Tabled}
 use Rattle.reduce.proofs.Agree.{agree-swap}
 use Rattle.reduce.proofs.Assign.{Assigned, assigned-iff}
 use Rattle.reduce.proofs.Left.{in-lines, lines-in}
-use Rattle.reduce.proofs.Rows.{bit-small}
 
 line-of : (i j : ℕ) → j < 8 → (i * 8 + j) / 8 ≡ i
 line-of i j h = omega arith
@@ -31,7 +31,7 @@ module _ {Q : Query} {c : ℕ} {words : List ℕ} (tabled : Tabled Q c words) (r
 
   module _ (x : Extends rows targets c words) (few : targets < 2 ^ 8) where
     small : (i : ℕ) → bit rows i ≡ 1 → x .target i < 8
-    small i h = bit-small few (x .allowed i h)
+    small i h = bit-within 8 (x .target i) few (x .allowed i h)
 
     chosen : (i : ℕ) → bit rows i ≡ 1 → Candidate Q (i * 8 + x .target i)
     chosen i h = tabled .candidates (i * 8 + x .target i) .0 (x .candidate i h)

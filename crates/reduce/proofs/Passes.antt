@@ -5,7 +5,6 @@ use mathlib.Core.Bool.{Bool, true, false, cond}
 use mathlib.Core.List.{List}
 use Prim.Native.Nat.{ℕ, suc, _-_, _^_, _≤_, _<_}
 use native.Mathlib.Nat.{lt-of-lt-of-le, lt-of-le-of-lt}
-use native.Mathlib.Decide.{decLt}
 use native.Mathlib.Omega.{arith}
 use lib.Dec.{T}
 use lib.ListN.{length}
@@ -16,7 +15,6 @@ use Rattle.theory.specs.Executable.Reduce.{mayGo, reduceBelow, reduce}
 use Rattle.theory.proofs.Reduce.{sends-self, sends-twice}
 use Rattle.theory.proofs.Executable.Test.{same-test}
 use Rattle.words.specs.Bits.{bit, clearBit}
-use Rattle.words.proofs.Bits.{bit-beyond}
 use Rattle.words.proofs.ClearBits.{clear-bit-le, clear-bit-other, low-bits-set, low-bits-below}
 use Rattle.reduce.specs.Extends.{Extends}
 use Rattle.reduce.specs.Left.{linesAt, Folds}
@@ -39,14 +37,6 @@ in-eight {n = n} small few = lt-of-lt-of-le small (pow-mono {i = n} few)
 -- what is left once a bit is cleared
 pub cleared : {r : ℕ} (n w k : ℕ) → r ≡ clearBit w k → w < 2 ^ n → r < 2 ^ n
 cleared n w k e small = rw e (lt-of-le-of-lt (clear-bit-le w k) small)
-
--- the lines at the bits of a word below 2 ^ n are among the first n
-pub below-there : {w n i : ℕ} → w < 2 ^ n → bit w i ≡ 1 → i < n
-below-there {w} {n} {i} small h = go (decLt i n)
-  where
-    go : Dec (i < n) → i < n
-    go (yes l) = l
-    go (no f) = absurd (omega (arith, bit-beyond {n = w} i (lt-of-lt-of-le small (pow-mono {i = n} (omega arith)))))
 
 module _ {Q : Query} {c : ℕ} {words : List ℕ} (tabled : Tabled Q c words) where
   -- lines that go alone are left out

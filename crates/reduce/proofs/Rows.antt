@@ -3,28 +3,19 @@ use mathlib.Core.Path.{_≡_, refl, sym, subst, _∙_}
 use mathlib.Core.Bool.{cond}
 use mathlib.Core.List.{List}
 use Prim.Native.Nat.{ℕ, _+_, _*_, _/_, _^_, _<_}
-use native.Mathlib.Nat.{lt-of-lt-of-le}
 use native.Mathlib.Decide.{ℕ-discrete, decLt}
 use native.Mathlib.Omega.{arith}
 use borrow.Author.Tests.{eq-eqb, ne-eqb}
 use lib.Bits.{bitAnd}
 use lib.Dec.{eqb}
 use lib.ListN.{getD}
-use lib.Pow.{pow-mono, shr-shr}
+use lib.Pow.{shr-shr}
 use Rattle.words.specs.Bits.{bit, Least, LeastDropped}
-use Rattle.words.proofs.Bits.{bit-zero, bit-beyond}
+use Rattle.words.proofs.Bits.{bit-zero}
 use Rattle.words.proofs.Masks.{bit-and-iff}
 use Rattle.words.proofs.Lowest.{dropped-same, dropped-other}
 use Rattle.words.proofs.Marks.{left-before}
 use Rattle.reduce.specs.Extends.{Row, EmptyRow, Extends}
-
--- a bit of a word of eight
-pub bit-small : {w j : ℕ} → w < 2 ^ 8 → bit w j ≡ 1 → j < 8
-bit-small {w} {j} small e = go (decLt j 8)
-  where
-    go : Dec (j < 8) → j < 8
-    go (yes h) = h
-    go (no h) = absurd (omega (arith, bit-beyond {n = w} j (lt-of-lt-of-le small (pow-mono {i = 8} (omega arith)))))
 
 pub row-is : (c targets k : ℕ) → Row c targets k (bitAnd (c / 2 ^ (k * 8)) targets)
 row-is c targets k =

@@ -1,13 +1,14 @@
 -- The bits of a number, and that they are all there is to it.
 use mathlib.Core.Path.{_≡_, sym, ap, _∙_}
-use mathlib.Core.Logic.{_⊎_, inl, inr, ⊎-elim}
+use mathlib.Core.Logic.{_↔_, _⊎_, inl, inr, ⊎-elim}
 use mathlib.Core.Bool.{true, false}
 use Prim.Native.Nat.{ℕ, zero, suc, _+_, _-_, _/_, _%_, _^_, _≤_, _<_, suc-le-suc}
-use native.Mathlib.Nat.{zero-div, div-one, div-eq-of-lt, eq-zero-or-pos, pow-suc}
+use native.Mathlib.Nat.{zero-div, div-one, div-eq-of-lt, eq-zero-or-pos, pow-suc, lt-of-lt-of-le}
+use native.Mathlib.Decide.{decLt}
 use native.Mathlib.Numerals.{one-add}
 use native.Mathlib.Omega.{arith}
 use borrow.Author.Tests.{eq-eqb, ne-eqb}
-use lib.Pow.{shr-shr, field, mod-mod-pow}
+use lib.Pow.{shr-shr, field, mod-mod-pow, pow-mono}
 use Rattle.words.specs.Bits.{bit, isSet}
 
 pub bit-le-one : (n k : ℕ) → bit n k ≤ 1
@@ -56,3 +57,19 @@ bit-mod n m k h =
     let d = m - suc k in
     let width : m ≡ d + 1 + k = omega arith in
     ap (λ (x : ℕ). bit (n % 2 ^ x) k) width ∙ ap (λ (x : ℕ). x % 2) (field n (d + 1) k) ∙ mod-mod-pow (n / 2 ^ k) d 1
+
+-- a word of w bits has no bit behind them
+pub bit-within : {n : ℕ} (w k : ℕ) → n < 2 ^ w → bit n k ≡ 1 → k < w
+bit-within {n} w k small e = go (decLt k w)
+  where
+    go : Dec (k < w) → k < w
+    go (yes h) = h
+    go (no h) = absurd (omega (arith, bit-beyond {n = n} k (lt-of-lt-of-le small (pow-mono (omega arith)))))
+
+-- words whose bits are set together are equal
+pub same-bits : (w a b : ℕ) → a < 2 ^ w → b < 2 ^ w → ((k : ℕ) → (bit a k ≡ 1) ↔ (bit b k ≡ 1)) → a ≡ b
+same-bits w a b ha hb h =
+    bits-ext w a b ha hb (λ k l.
+    ⊎-elim
+    (λ e. ⊎-elim (λ f. e ∙ sym f) (λ f. absurd (omega (arith, h k .1 f))) (bit-cases b k))
+    (λ e. e ∙ sym (h k .0 e)) (bit-cases a k))

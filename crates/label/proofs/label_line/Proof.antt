@@ -6,7 +6,8 @@ use Rattle.theory.specs.Query.{Line as TheLine}
 use Rattle.label.specs.Labelled.{Labelled}
 use Rattle.words.proofs.Answers.{true-iff}
 use Rattle.words.proofs.Marks.{Picked, picked-none, picked-more}
-use Rattle.label.proofs.Words.{bit-within, set-where-below}
+use Rattle.words.proofs.Bits.{bit-within}
+use Rattle.label.proofs.Words.{set-where-below}
 use Rattle.label.proofs.Views.{Covering, answered, labelled}
 use Rattle.label.proofs.label_line.Statement.{statement}
 use Rattle.label.proofs.label_line.Tie as tie

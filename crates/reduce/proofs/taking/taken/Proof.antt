@@ -5,10 +5,11 @@ use native.Mathlib.Omega.{arith}
 use lib.ListN.{length}
 use Rattle.theory.specs.Query.{Query}
 use Rattle.words.specs.Bits.{bit}
+use Rattle.words.proofs.Bits.{bit-within}
 use Rattle.words.proofs.ClearBits.{low-bits-below}
 use Rattle.reduce.specs.Left.{Folds}
 use Rattle.reduce.specs.Pairs.{Tabled}
-use Rattle.reduce.proofs.Passes.{in-eight, cleared, below-there, Taking, taking-none, taking-out, taking-kept, taking-all}
+use Rattle.reduce.proofs.Passes.{in-eight, cleared, Taking, taking-none, taking-out, taking-kept, taking-all}
 use Rattle.reduce.proofs.taking.taken.Statement.{statement}
 use Rattle.reduce.proofs.taking.taken.Tie as tie
 
@@ -78,7 +79,7 @@ returns : tie.Need-returns Inv-loop μ-loop
 returns c =
     λ Q e t f.
     let there : (j : ℕ) → bit (c .before .before .before .args .rows) j ≡ 1 → j < length Q =
-    λ j h. rw e (below-there (c .before .before .before .pre .1) h) in
+    λ j h. rw e (bit-within (c .before .before .before .args .n) j (c .before .before .before .pre .1) h) in
     let none : c .before .loop .i ≡ 0 = omega arith in
     taking-all t _ there f _ (rw none at (c .before .loop .inv .2 Q e t there f))
 
