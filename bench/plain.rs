@@ -312,7 +312,7 @@ pub fn label_of(p: &Policy, masks: &[u64; 17], a: &Line) -> u64 {
 
 // labels::label_query
 #[inline(never)]
-pub fn label_query(p: &Policy, masks: &[u64; 17], q: &Query) -> [u64; 8] {
+pub fn label_query(p: &Policy, masks: &[u64; 17], q: &Query) -> ([u64; 8], usize) {
     let left = lines_left(q, &mut ());
     let shared = shared(q, left);
     let mut words = [0; 8];
@@ -323,5 +323,5 @@ pub fn label_query(p: &Policy, masks: &[u64; 17], q: &Query) -> [u64; 8] {
             count += 1;
         }
     }
-    words
+    (words, count)
 }

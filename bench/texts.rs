@@ -40,8 +40,8 @@ view table terms
 31 3 !1 !2 !3 !4 !5 !6 ?7 !8
 32 3 !1 !2 !3 !4 !5 !6 !7 ?8
 partition views
-1 2 3
-2 1 4
+1 1 2 13 14
+2 3 4 15 16
 ";
 
 // The first four are what a desk is asked; the others make the search for targets long.

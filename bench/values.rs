@@ -1,13 +1,14 @@
-// The values of crate model, and their texts read simply: the texts are good ones, and nothing is turned back.
+// The values of crate model, and their texts read simply where no time is taken: the texts are good ones, and nothing is turned
+// back.
 
-pub const UNUSED: u8 = 0;
-pub const CONSTANT: u8 = 1;
-pub const SHOWN: u8 = 2;
-pub const HIDDEN: u8 = 3;
+pub const UNUSED: u64 = 0;
+pub const CONSTANT: u64 = 1;
+pub const SHOWN: u64 = 2;
+pub const HIDDEN: u64 = 3;
 
 #[derive(Clone, Copy, Default, PartialEq)]
 pub struct Term {
-    pub mark: u8,
+    pub mark: u64,
     pub number: u64,
 }
 
@@ -19,9 +20,12 @@ pub struct Line {
 
 #[derive(Default)]
 pub struct Policy {
+    pub table_count: usize,
     pub columns: [u64; 16],
     pub view_count: usize,
     pub views: [Line; 32],
+    pub partition_count: usize,
+    pub partitions: [u64; 32],
 }
 
 #[derive(Default)]
@@ -57,7 +61,7 @@ pub fn parse_line(fields: &[&str]) -> Line {
     line
 }
 
-// load::load, without the partitions, which no label depends on
+// load::load
 pub fn parse_policy(text: &str) -> Policy {
     let mut p = Policy::default();
     let mut block = "";
@@ -66,10 +70,15 @@ pub fn parse_policy(text: &str) -> Policy {
         if line.starts_with(|c: char| c.is_ascii_lowercase()) {
             block = fields[0];
         } else if block == "table" {
-            p.columns[number(fields[0]) as usize - 1] = number(fields[1]);
+            p.columns[p.table_count] = number(fields[1]);
+            p.table_count += 1;
         } else if block == "view" {
             p.views[p.view_count] = parse_line(&fields[1..]);
             p.view_count += 1;
+        } else {
+            p.partitions[p.partition_count] =
+                fields[1..].iter().map(|v| 1 << (number(v) - 1)).sum();
+            p.partition_count += 1;
         }
     }
     p

@@ -1,5 +1,7 @@
 // A decision compared with the reply and the session that document 01 lays down.
 
+ghost use Rattle.desk.specs.Deciding.{Decided};
+use desk::Decision;
 use desk::Reply;
 use desk::Session;
 use model::Policy;
@@ -80,10 +82,22 @@ fn print(s: Said, mask: u64) {
     io::write_all(1, b"\n");
 }
 
+// The reply, and the session that the call leaves. It is lent in this one place, so that no case needs a proof by hand.
+fn call(p: Policy, s: Session, text: &[u8]) -> Decision
+    ensures { λ r. ⌜ Decided p s (now (text .entry)) r ⌝ }
+{
+    let mut lent = s;
+    let reply = desk::decide(p, &mut lent, text);
+    Decision {
+        reply,
+        session: lent,
+    }
+}
+
 // The number of cases, one more; in a session with these partitions open the text is decided so, and these are left open.
 pub fn case(n: u64, p: Policy, mask: u64, text: &[u8], expected: Said, left: u64) -> u64 {
     let s = Session { mask };
-    let d = desk::decide(p, s, text);
+    let d = call(p, s, text);
     let reply = d.reply;
     let got = told(reply);
     let after = d.session;

@@ -5,6 +5,8 @@ pub mod Masks
 pub mod Settled
 pub mod Decides
 pub mod Steps
+-- A session lent to a call.
+pub mod MachineValues
 -- Lists of calls.
 pub mod Demand
 pub mod Unique

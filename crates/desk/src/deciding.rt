@@ -5,7 +5,7 @@ ghost use mathlib.Core.Bool.{_&&_, _||_};
 ghost use mathlib.Core.List.{List};
 ghost use Prim.Native.Nat.{ℕ, _^_, _≤_};
 ghost use lib.Dec.{eqb, leb};
-ghost use Rattle.label.specs.Labelled.{TableMasks};
+ghost use Rattle.label.specs.Labelled.{TableMasks, ViewsLaid};
 ghost use Rattle.policy.specs.Text.{Declared};
 ghost use Rattle.labels.specs.Posed.{labelsValue};
 ghost use Rattle.labels.specs.Settled.{settled};
@@ -92,16 +92,25 @@ fn answer(s: Session, left: u64) -> Decision
     Decision { reply, session }
 }
 
-// Deciding under a policy that is known to be loaded; `masks` has the views of each table.
-pub fn decide_loaded(p: Policy, masks: &[u64; 17], s: Session, text: &[u8]) -> Decision
-    requires { ⌜ SomePolicy p × TableMasks p (now masks) ⌝ }
+// Deciding under a policy that is known to be loaded: `masks` has the views of each table, the other lists the terms of the
+// views.
+pub fn decide_loaded<'a>(
+    p: Policy,
+    masks: &[u64; 17],
+    marks: &'a [u64; 256],
+    numbers: &'a [u64; 256],
+    s: Session,
+    text: &[u8],
+) -> Decision
+    requires { ⌜ SomePolicy p × TableMasks p (now masks) × ViewsLaid p (now marks) (now numbers) ⌝ }
     ensures { λ r. ⌜ ((d : Declared) → LoadedTo p d → Gives r (decideUnder d (s .mask) (now (text .entry)))) ⌝ }
 {
     let n = p.partition_count;
     if unfit(s.mask, n) {
         return refused(s, 9, 0);
     }
-    let a = labels::label_text(p, masks, text);
+    let tables = p.tables;
+    let a = labels::label_text(tables, masks, marks, numbers, text);
     let outcome = a.outcome;
     match outcome {
         Outcome::Refused { number, line } => refused(s, number, line),
@@ -114,13 +123,23 @@ pub fn decide_loaded(p: Policy, masks: &[u64; 17], s: Session, text: &[u8]) -> D
     }
 }
 
-// Deciding a query text: yes, no or a refusal, and the session as it is left.
-pub fn decide(p: Policy, s: Session, text: &[u8]) -> Decision
+// Deciding under any policy value, which is checked first: the reply, and the session as the call leaves it.
+pub fn decide_checked(p: Policy, s: Session, text: &[u8]) -> Decision
     ensures { λ r. ⌜ Decided p s (now (text .entry)) r ⌝ }
 {
     if !validity::valid(p) {
         return refused(s, 8, 0);
     }
     let masks = label::table_views(p);
-    decide_loaded(p, &masks, s, text)
+    let rows = label::view_rows(p);
+    decide_loaded(p, &masks, &rows.marks, &rows.numbers, s, text)
+}
+
+// Deciding a query text in a session, which is lent and altered by a yes alone: yes, no or a refusal.
+pub fn decide(p: Policy, s: &mut Session, text: &[u8]) -> Reply
+    ensures { λ r. ⌜ Decided p (now (s .entry)) (now (text .entry)) (record { reply = r; session = now (s .exit) }) ⌝ }
+{
+    let d = decide_checked(p, *s, text);
+    *s = d.session;
+    d.reply
 }

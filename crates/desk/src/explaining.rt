@@ -31,8 +31,7 @@ pub fn explain(p: Policy, n: u64, text: &[u8], out: &mut [u32]) -> Explaining
         return Explaining::Refused { number: 4, line: 0 };
     }
     let granted = p.partitions[n as usize - 1];
-    let masks = label::table_views(p);
-    let a = labels::label_text(p, &masks, text);
+    let a = labels::ask(p, text);
     let outcome = a.outcome;
     match outcome {
         Outcome::Accepted => {

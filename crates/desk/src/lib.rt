@@ -10,6 +10,7 @@ pub use comparing::compare_labels;
 pub use deciding::Decision;
 pub use deciding::Reply;
 pub use deciding::decide;
+pub use deciding::decide_checked;
 pub use deciding::decide_loaded;
 pub use explaining::Explaining;
 pub use explaining::explain;

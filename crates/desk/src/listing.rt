@@ -23,8 +23,7 @@ pub fn labels(p: Policy, text: &[u8], out: &mut [u64]) -> Listing
     if !validity::valid(p) {
         return Listing::Refused { number: 8, line: 0 };
     }
-    let masks = label::table_views(p);
-    let a = labels::label_text(p, &masks, text);
+    let a = labels::ask(p, text);
     let outcome = a.outcome;
     match outcome {
         Outcome::Accepted => {

@@ -1,8 +1,8 @@
 -- The columns of a view and a line, looked at pair by pair.
 use mathlib.Core.Path.{_≡_, sym, ap, _∙_, subst}
 use mathlib.Core.Bool.{Bool, true, false}
-use mathlib.Core.List.{map}
-use Prim.Native.Nat.{ℕ, _+_, _≤_, _<_}
+use mathlib.Core.List.{List, map}
+use Prim.Native.Nat.{ℕ, _+_, _*_, _≤_, _<_}
 use native.Mathlib.Omega.{arith}
 use borrow.Author.Count.{below-none, below-more}
 use borrow.Author.Tests.{eq-eqb}
@@ -16,54 +16,54 @@ use Rattle.theory.specs.Executable.Cover.{obeys, covers}
 use Rattle.theory.proofs.Executable.Test.{allBelow-iff}
 use Rattle.theory.proofs.Tuples.{getD-map}
 use Rattle.model.specs.Value.{unusedTerm, termValue, lineValue}
-use Rattle.model.specs.declared.Line.{Line}
+use Rattle.model.specs.Rows.{Row, termAt, laidTerm}
 use Rattle.model.proofs.Pad.{pad-get}
 use Rattle.model.proofs.Terms.{terms-few}
 use Rattle.words.proofs.Answers.{true-holds, holds-true, fails-false}
 
--- a value holds a line of n columns
-pub record Wide (n : ℕ) (v : Line) (view : TheLine) : Type 0 where
-  pub is : v ≡ lineValue view
+-- row k holds a line of n columns
+pub record Wide (n : ℕ) (marks numbers : List ℕ) (k : ℕ) (view : TheLine) : Type 0 where
+  pub is : Row marks numbers k (lineValue view)
   pub width : length (view .columns) ≡ n
 
-pub wide : {n : ℕ} {v : Line} {view : TheLine} → v ≡ lineValue view → length (view .columns) ≡ n → Wide n v view
-wide e w = record { is = e; width = w }
+module _ {n : ℕ} {marks numbers : List ℕ} {k : ℕ} {view : TheLine} where
+  pub wide : Row marks numbers k (lineValue view) → length (view .columns) ≡ n → Wide n marks numbers k view
+  wide e w = record { is = e; width = w }
 
-pub column : {width : ℕ} {v : Line} {view : TheLine} → width ≤ 8 → Wide width v view → (p : ℕ) → p < width
-    → getD (v .terms) p unusedTerm ≡ termValue (at view p)
-unfolding lineValue
-column {width} {v} {view} few w p h =
-    let columns = view .columns in
-    ap (λ (x : Line). getD (x .terms) p unusedTerm) (w .is)
-    ∙ ap (λ l. getD l p unusedTerm) (terms-few columns (omega (arith, w .width)))
-    ∙ pad-get 8 unusedTerm (map termValue columns) p
-    ∙ getD-map termValue columns p (constant 0) unusedTerm (omega (arith, w .width))
+  pub column : n ≤ 8 → Wide n marks numbers k view → (p : ℕ) → p < n → laidTerm marks numbers (k * 8 + p) ≡ termValue (at view p)
+  unfolding termAt lineValue
+  column few w p h =
+      let columns = view .columns in
+      w .is p (omega arith)
+      ∙ ap (λ l. getD l p unusedTerm) (terms-few columns (omega (arith, w .width)))
+      ∙ pad-get 8 unusedTerm (map termValue columns) p
+      ∙ getD-map termValue columns p (constant 0) unusedTerm (omega (arith, w .width))
 
 abbrev pub rule : TheLine → TheLine → ℕ → ℕ → Bool
 rule view line p q = obeys (at view p) (at view q) (at line p) (at line q)
 
--- the rules hold at columns p and q of whatever lines the values hold
-abbrev pub Obeyed : ℕ → Line → Line → ℕ → ℕ → Type 0
-Obeyed width v a p q =
-    (view line : TheLine) → Wide width v view → Wide width a line → rule view line p q ≡ true
+-- the rules hold at columns p and q of whatever lines are the view and the line
+abbrev pub Obeyed : (TheLine → Type 0) → (TheLine → Type 0) → ℕ → ℕ → Type 0
+Obeyed IsView IsLine p q = (view line : TheLine) → IsView view → IsLine line → rule view line p q ≡ true
 
 -- the rules hold at columns before p with every column, and at p with the columns before q
-pub record Passed (width : ℕ) (v a : Line) (p q : ℕ) : Type 0 where
-  pub rows : (i : ℕ) → i < p → (j : ℕ) → j < width → Obeyed width v a i j
-  pub row : (j : ℕ) → j < q → Obeyed width v a p j
+pub record Passed (width : ℕ) (IsView IsLine : TheLine → Type 0) (p q : ℕ) : Type 0 where
+  pub rows : (i : ℕ) → i < p → (j : ℕ) → j < width → Obeyed IsView IsLine i j
+  pub row : (j : ℕ) → j < q → Obeyed IsView IsLine p j
 
-module _ {width : ℕ} {v a : Line} where
-  pub passed-none : Passed width v a 0 0
+module _ {width : ℕ} {IsView IsLine : TheLine → Type 0} where
+  pub passed-none : Passed width IsView IsLine 0 0
   passed-none = record { rows = below-none _; row = below-none _ }
 
-  pub passed-one : {p q : ℕ} → Passed width v a p q → Obeyed width v a p q → Passed width v a p (q + 1)
+  pub passed-one : {p q : ℕ} → Passed width IsView IsLine p q → Obeyed IsView IsLine p q → Passed width IsView IsLine p (q + 1)
   passed-one {p} {q} r o = record { rows = r .rows; row = below-more _ q (r .row) o }
 
-  pub passed-row : {p q : ℕ} → Passed width v a p q → width ≤ q → Passed width v a (p + 1) 0
+  pub passed-row : {p q : ℕ} → Passed width IsView IsLine p q → width ≤ q → Passed width IsView IsLine (p + 1) 0
   passed-row {p} {q} r h =
       record { rows = below-more _ p (r .rows) (λ j l. r .row j (omega arith)); row = below-none _ }
 
-module _ {width : ℕ} {v a : Line} (view line : TheLine) (sv : Wide width v view) (sa : Wide width a line) where
+module _ {width : ℕ} {viewMarks viewNumbers : List ℕ} {v : ℕ} {marks numbers : List ℕ} {a : ℕ} (view line : TheLine)
+    (sv : Wide width viewMarks viewNumbers v view) (sa : Wide width marks numbers a line) where
   rows : Bool
   rows = allBelow width (λ p. allBelow width (rule view line p))
 
@@ -73,7 +73,8 @@ module _ {width : ℕ} {v a : Line} (view line : TheLine) (sv : Wide width v vie
       let wide : length (view .columns) ≡ length (line .columns) = sv .width ∙ sym (sa .width) in
       rw (eq-eqb (view .table) (line .table) t, eq-eqb (length (view .columns)) (length (line .columns)) wide, sv .width)
 
-  pub passed-done : {p q : ℕ} → Passed width v a p q → width ≤ p → view .table ≡ line .table → true ≡ covers view line
+  pub passed-done : {p q : ℕ} → Passed width (Wide width viewMarks viewNumbers v) (Wide width marks numbers a) p q → width ≤ p
+      → view .table ≡ line .table → true ≡ covers view line
   unfolding rows
   passed-done r h t =
       holds-true rows

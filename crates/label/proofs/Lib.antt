@@ -6,5 +6,6 @@ pub mod Columns
 -- Labels.
 pub mod Views
 pub mod Masks
+pub mod Laid
 -- The order of labels.
 pub mod Halves

@@ -18,6 +18,7 @@ use Rattle.theory.proofs.Lists.{none≢some, at-place, place-below}
 use Rattle.theory.proofs.Executable.Cover.{covers-iff}
 use Rattle.theory.proofs.Executable.Label.{viewBits-bit, viewBits-below}
 use Rattle.model.specs.Value.{pad, unusedLine, lineValue}
+use Rattle.model.specs.Rows.{Row}
 use Rattle.model.specs.declared.Line.{Line}
 use Rattle.model.specs.declared.Policy.{Policy}
 use Rattle.label.specs.Labelled.{Holds, OfTable, Labelled}
@@ -75,17 +76,18 @@ module _ {p : Policy} {views : List TheLine} (h : Holds p views) where
 abbrev pub Covering : List TheLine → TheLine → ℕ → Type 0
 Covering views A k = (v : TheLine) × (getElem? views k ≡ some v) × Covers v A
 
-module _ {p : Policy} {mask width : ℕ} {a : Line} {views : List TheLine} {A : TheLine} (l : Labelled p mask width a views A) where
+module _ {viewMarks viewNumbers : List ℕ} {mask width table : ℕ} {marks numbers : List ℕ} {a : ℕ} {views : List TheLine} {A : TheLine}
+    (l : Labelled viewMarks viewNumbers mask width table marks numbers a views A) where
   -- what the test of covering says at a place of the mask
   pub answered : (k : ℕ) (b : Bool) → bit mask k ≡ 1
-      → ((view line : TheLine) → getD (p .views) k noLine ≡ lineValue view → a ≡ lineValue line → view .table ≡ line .table
-      → length (view .columns) ≡ width → length (line .columns) ≡ width → b ≡ covers view line)
+      → ((view line : TheLine) → Row viewMarks viewNumbers k (lineValue view) → Row marks numbers a (lineValue line)
+      → view .table ≡ line .table → length (view .columns) ≡ width → length (line .columns) ≡ width → b ≡ covers view line)
       → (b ≡ true) ↔ Covering views A k
   answered k b e test =
       let r = l .bits k .0 e in
       let v = r .0 in
       let same : b ≡ covers v A =
-      test v A (view-value (l .held) k v (r .1)) (l .line) (r .2) (l .viewWidths v (at-place views k (r .1)) (r .2)) (l .lineWidth)
+      test v A (l .laid .row k v (r .1)) (l .line) (r .2) (l .viewWidths v (at-place views k (r .1)) (r .2)) (l .lineWidth)
       in (
         λ t. (v, r .1, covers-iff v A .0 (true-holds (sym same ∙ t))),
         λ s.
@@ -102,12 +104,11 @@ module _ {p : Policy} {mask width : ℕ} {a : Line} {views : List TheLine} {A : 
       let covered : (k : ℕ) → (bit word k ≡ 1) ↔ Covering views A k =
       λ k. (λ e. seen k .0 e .1, λ r. seen k .1 (l .bits k .1 (r .0, r .1, r .2 .table), r)) in
       same-bits 32 word (viewBits views A) small
-      (lt-of-lt-of-le (viewBits-below views A) (pow-mono (l .held .few)))
+      (lt-of-lt-of-le (viewBits-below views A) (pow-mono (l .few)))
       (λ k.
       let v = viewBits-bit views A k in (λ e. v .1 (covered k .0 e), λ e. covered k .1 (v .0 e)))
 
   pub labelled : (left word : ℕ) → left ≡ 0 → word < 2 ^ 32 → Picked (Covering views A) mask left word
-      → a .table + 2 ^ 32 * word ≡ label views A
-  unfolding label lineValue
-  labelled left word none small w =
-      ap₂ (λ t x. t + 2 ^ 32 * x) (ap (λ (x : Line). x .table) (l .line)) (views-word left word none small w)
+      → table + 2 ^ 32 * word ≡ label views A
+  unfolding label
+  labelled left word none small w = ap₂ (λ t x. t + 2 ^ 32 * x) (l .tableIs) (views-word left word none small w)

@@ -1,4 +1,5 @@
--- What a label is made from: the policy value that holds the views, and the views of a line's table as bits.
+-- What a label is made from: the policy value that holds the views, their terms as rows of numbers, and the views of a line's
+-- table as bits.
 use mathlib.Core.Path.{_≡_}
 use mathlib.Core.List.{List, map}
 use mathlib.Core.Logic.{_↔_}
@@ -9,7 +10,7 @@ use Rattle.theory.specs.Query.{_∈_}
 use Rattle.theory.specs.Query.{Line as TheLine}
 use Rattle.words.specs.Bits.{bit}
 use Rattle.model.specs.Value.{pad, unusedLine, lineValue}
-use Rattle.model.specs.declared.Line.{Line}
+use Rattle.model.specs.Rows.{Row}
 use Rattle.model.specs.declared.Policy.{Policy}
 
 -- the policy holds these views and no other
@@ -32,10 +33,24 @@ pub record TableMasks (p : Policy) (masks : List ℕ) : Type 0 where
   pub long : length masks ≡ 17
   pub mask : (table : ℕ) → table ≤ 16 → TableViews p table (getD masks table 0)
 
--- the value a holds the line, and the mask has the views of its table; these have as many columns as the line
-pub record Labelled (p : Policy) (mask width : ℕ) (a : Line) (views : List TheLine) (A : TheLine) : Type 0 where
-  pub held : Holds p views
-  pub line : a ≡ lineValue A
+-- the terms of each view, view n in row n - 1
+pub record LaidViews (marks numbers : List ℕ) (views : List TheLine) : Type 0 where
+  pub row : (k : ℕ) (v : TheLine) → getElem? views k ≡ some v → Row marks numbers k (lineValue v)
+
+-- the rows of a policy's views
+pub record ViewsLaid (p : Policy) (marks numbers : List ℕ) : Type 0 where
+  pub marksLong : length marks ≡ 256
+  pub numbersLong : length numbers ≡ 256
+  pub laid : (views : List TheLine) → Holds p views → LaidViews marks numbers views
+
+-- row a of the line's marks and numbers holds the line, whose table is this, and the mask has the views of its table; these have
+-- as many columns as the line
+pub record Labelled (marks numbers : List ℕ) (mask width table : ℕ) (lineMarks lineNumbers : List ℕ) (a : ℕ) (views : List TheLine)
+    (A : TheLine) : Type 0 where
+  pub few : length views ≤ 32
+  pub laid : LaidViews marks numbers views
+  pub line : Row lineMarks lineNumbers a (lineValue A)
+  pub tableIs : table ≡ A .table
   pub bits : OfTable views (A .table) mask
   pub lineWidth : length (A .columns) ≡ width
   pub viewWidths : (v : TheLine) → v ∈ views → v .table ≡ A .table → length (v .columns) ≡ width

@@ -3,17 +3,17 @@
 ghost use mathlib.Core.Path.{_≡_};
 ghost use mathlib.Core.Bool.{not, _||_};
 ghost use mathlib.Core.List.{List};
-ghost use Prim.Native.Nat.{_^_, _≤_, _<_};
+ghost use Prim.Native.Nat.{_+_, _*_, _^_, _≤_, _<_};
 ghost use lib.ListN.{length};
 ghost use Rattle.theory.specs.Query.{Term as TheTerm, Line as TheLine};
 ghost use Rattle.theory.specs.Executable.Cover.{obeys as obeysRules, covers as coversLine};
 ghost use Rattle.theory.specs.Executable.Label.{label};
 ghost use Rattle.model.specs.Value.{termValue, lineValue};
-ghost use Rattle.label.specs.Labelled.{TableMasks, Labelled};
+ghost use Rattle.model.specs.Rows.{Row};
+ghost use Rattle.label.specs.Labelled.{TableMasks, ViewsLaid, Labelled};
 ghost use Rattle.label.specs.Order.{atOrBelow};
 use model::CONSTANT;
 use model::HIDDEN;
-use model::Line;
 use model::MOST_TABLES;
 use model::Policy;
 use model::SHOWN;
@@ -45,20 +45,29 @@ fn obeys(v: Term, w: Term, a: Term, b: Term) -> bool
     equals && implies(same_term(a, b), same_term(v, w))
 }
 
-// Whether a view covers a line of its table, which has `width` columns. The first broken rule ends the comparison.
-pub fn covers(width: usize, v: Line, a: Line) -> bool
-    requires { ⌜ width ≤ 8 ⌝ }
-    ensures { λ r. ⌜ ((view line : TheLine) → v ≡ lineValue view → a ≡ lineValue line → view .table ≡ line .table → length (view .columns) ≡ width → length (line .columns) ≡ width → r ≡ coversLine view line) ⌝ }
+// Whether a view covers a line of its table, which has `width` columns: row `v` of one pair of lists, and row `a` of another.
+// The first broken rule ends the comparison.
+pub fn covers(
+    width: usize,
+    view_marks: &[u64],
+    view_numbers: &[u64],
+    v: usize,
+    marks: &[u64],
+    numbers: &[u64],
+    a: usize,
+) -> bool
+    requires { ⌜ (width ≤ 8) × (v * 8 + 8 ≤ length (now «view_marks»)) × (v * 8 + 8 ≤ length (now «view_numbers»)) × (a * 8 + 8 ≤ length (now marks)) × (a * 8 + 8 ≤ length (now numbers)) ⌝ }
+    ensures { λ r. ⌜ ((view line : TheLine) → Row (now («view_marks» .entry)) (now («view_numbers» .entry)) v (lineValue view) → Row (now (marks .entry)) (now (numbers .entry)) a (lineValue line) → view .table ≡ line .table → length (view .columns) ≡ width → length (line .columns) ≡ width → r ≡ coversLine view line) ⌝ }
 {
     let mut ok = true;
     let mut p = 0;
     'columns: while p < width {
-        let x = v.terms[p];
-        let y = a.terms[p];
+        let x = model::term_at(view_marks, view_numbers, v * 8 + p);
+        let y = model::term_at(marks, numbers, a * 8 + p);
         let mut q = 0;
         while q < width {
-            let xq = v.terms[q];
-            let yq = a.terms[q];
+            let xq = model::term_at(view_marks, view_numbers, v * 8 + q);
+            let yq = model::term_at(marks, numbers, a * 8 + q);
             if !obeys(x, xq, y, yq) {
                 ok = false;
                 break 'columns;
@@ -91,21 +100,59 @@ pub fn table_views(p: Policy) -> [u64; 17]
     masks
 }
 
-// The label of a line of `width` columns; `mask` has the views of its table.
-pub fn label_line(p: Policy, mask: u64, width: usize, a: Line) -> u64
-    requires { ⌜ (mask < 2 ^ 32) × (width ≤ 8) × (a .table < 2 ^ 32) ⌝ }
-    ensures { λ r. ⌜ ((views : List TheLine) (line : TheLine) → Labelled p mask width a views line → r ≡ label views line) ⌝ }
+// The terms of the views, view n in row n - 1.
+pub struct ViewRows {
+    pub marks: [u64; 256],
+    pub numbers: [u64; 256],
+}
+
+pub fn view_rows(p: Policy) -> ViewRows
+    ensures { λ r. ⌜ ViewsLaid p (r .marks) (r .numbers) ⌝ }
+{
+    let mut marks = [0; 256];
+    let mut numbers = [0; 256];
+    let mut k = 0;
+    while k < 256 {
+        let v = p.views[k / 8];
+        let t = v.terms[k % 8];
+        marks[k] = t.mark;
+        numbers[k] = t.number;
+        k += 1;
+    }
+    ViewRows { marks, numbers }
+}
+
+// The label of a line of a table with `width` columns, in row `a`; `mask` has the views of the table.
+pub fn label_line(
+    view_marks: &[u64; 256],
+    view_numbers: &[u64; 256],
+    mask: u64,
+    width: usize,
+    table: u64,
+    marks: &[u64; 64],
+    numbers: &[u64; 64],
+    a: usize,
+) -> u64
+    requires { ⌜ (length (now «view_marks») ≡ 256) × (length (now «view_numbers») ≡ 256) × (length (now marks) ≡ 64) × (length (now numbers) ≡ 64) × (mask < 2 ^ 32) × (width ≤ 8) × (table < 2 ^ 32) × (a < 8) ⌝ }
+    ensures { λ r. ⌜ ((views : List TheLine) (line : TheLine) → Labelled (now («view_marks» .entry)) (now («view_numbers» .entry)) mask width table (now (marks .entry)) (now (numbers .entry)) a views line → r ≡ label views line) ⌝ }
 {
     let mut word = 0;
     let mut left = mask;
     while left != 0 {
         let k = words::least(left);
-        let at = k as usize;
-        let v = p.views[at];
-        word = words::set_bit_if(word, k, covers(width, v, a));
+        let on = covers(
+            width,
+            view_marks,
+            view_numbers,
+            k as usize,
+            marks,
+            numbers,
+            a,
+        );
+        word = words::set_bit_if(word, k, on);
         left = words::drop_least(left);
     }
-    words::join(a.table, word)
+    words::join(table, word)
 }
 
 // ---- the order of labels

@@ -2,7 +2,7 @@
 use mathlib.Core.Path.{_≡_, refl, sym, ap, _∙_, subst}
 use mathlib.Core.Bool.{true, false}
 use mathlib.Core.List.{List, [], map, map-map, map-append, append-nil, Memᴰ·of-map}
-use Prim.Native.Nat.{ℕ, _+_, _-_, _≤_, _<_}
+use Prim.Native.Nat.{ℕ, _+_, _*_, _-_, _≤_, _<_}
 use native.Mathlib.Omega.{arith}
 use lib.Dec.{eqb→eq}
 use lib.ListN.{length, take, getD, set, length-map, length-append}
@@ -18,66 +18,58 @@ use Rattle.theory.proofs.Executable.Reduce.{reduce-reduces}
 use Rattle.theory.proofs.Tuples.{getD-mem, fits-over}
 use Rattle.words.specs.Bits.{isSet}
 use Rattle.model.specs.Limits.{mostColumns, mostTables, mostViews, wide}
-use Rattle.model.specs.Value.{pad, lineValue, tablesValue}
-use Rattle.model.specs.declared.Line.{Line as LineValue}
+use Rattle.model.specs.Rows.{Row}
+use Rattle.model.specs.Value.{pad, lineValue}
+use Rattle.model.specs.declared.Tables.{Tables}
 use Rattle.model.specs.declared.Query.{Query as QueryValue}
-use Rattle.model.specs.declared.Policy.{Policy}
 use Rattle.model.proofs.Pad.{pad-more}
 use Rattle.policy.specs.Text.{Declared}
-use Rattle.policy.specs.Policy.{policyValue}
 use Rattle.policy.proofs.Value.{up-to-iff}
-use Rattle.label.specs.Labelled.{Holds, TableViews, Labelled}
+use Rattle.label.specs.Labelled.{Labelled}
 use Rattle.reduce.specs.Agree.{lineAt}
 use Rattle.reduce.specs.Left.{pick, linesAt}
-use Rattle.reduce.specs.Showing.{SharedWord, showLine}
+use Rattle.reduce.specs.Laid.{Laid, LaidTables}
+use Rattle.reduce.specs.Showing.{SharedWord, showValue, showLine, ShownMarks}
 use Rattle.reduce.proofs.Left.{in-lines, lines-subset}
-use Rattle.reduce.proofs.Lines.{held-line, held-few, left-more}
+use Rattle.reduce.proofs.Lines.{laid-few, left-more}
 use Rattle.reduce.proofs.Shown.{shownBy, line-value, line-shown}
-use Rattle.labels.specs.Posed.{LineOf, Posed, labelsValue}
+use Rattle.reduce.proofs.ShownRows.{shown-term}
+use Rattle.labels.specs.Posed.{Ready, LineOf, Posed, Rows, labelsValue}
 use Rattle.labels.specs.declared.Labels.{Labels}
 
 -- ---- a line
 
-module _ {p : Policy} {a : LineValue} {d : Declared} {A : Line} (l : LineOf p a d A) where
-  table-is : a .table ≡ A .table
-  unfolding lineValue
-  table-is = ap (λ (x : LineValue). x .table) (l .line)
+module _ {d : Declared} {tables : Tables} {masks viewMarks viewNumbers : List ℕ} (ready : Ready d tables masks viewMarks viewNumbers)
+    {table : ℕ} {marks numbers : List ℕ} {i : ℕ} {A : Line} (l : LineOf d table marks numbers i A) where
+  pub first-table : 1 ≤ table
+  first-table = rw (l .tableIs) (l .fits .first)
 
-  pub first-table : 1 ≤ a .table
-  first-table = rw table-is (l .fits .first)
-
-  pub last-table : a .table ≤ 16
+  pub last-table : table ≤ 16
   unfolding mostTables
-  last-table = rw table-is (omega (arith, l .fits .last, l .good .tables .few))
+  last-table = rw (l .tableIs) (omega (arith, l .fits .last, ready .good .tables .few))
 
-  pub tables-are : p .tables ≡ tablesValue (d .widths)
-  unfolding policyValue
-  tables-are = ap (λ (x : Policy). x .tables) (l .policy)
+  width-is : getD (d .widths) (table - 1) 0 ≡ length (A .columns)
+  width-is = ap (λ (t : ℕ). getD (d .widths) (t - 1) 0) (l .tableIs) ∙ sym (l .fits .width)
 
-  width-is : getD (d .widths) (a .table - 1) 0 ≡ length (A .columns)
-  width-is = ap (λ (t : ℕ). getD (d .widths) (t - 1) 0) table-is ∙ sym (l .fits .width)
-
-  pub narrow : getD (d .widths) (a .table - 1) 0 ≤ 8
+  pub narrow : getD (d .widths) (table - 1) 0 ≤ 8
   unfolding mostColumns
   narrow =
-      let m = getD-mem (d .widths) (a .table - 1) 0 (omega (arith, first-table, table-is, l .fits .last)) in
-      up-to-iff 8 _ .0 (l .good .tables .each _ m) .1
+      let m = getD-mem (d .widths) (table - 1) 0 (omega (arith, first-table, l .tableIs, l .fits .last)) in
+      up-to-iff 8 _ .0 (ready .good .tables .each _ m) .1
 
-  holds : Holds p (d .views)
-  unfolding policyValue mostViews
-  holds = record { few = l .good .views .few; is = ap (λ (x : Policy). x .views) (l .policy) }
-
-  pub line-labelled : (mask width : ℕ) → TableViews p (a .table) mask → width ≡ getD (d .widths) (a .table - 1) 0
-      → Labelled p mask width a (d .views) A
-  unfolding wide
-  line-labelled mask width views w =
+  pub line-labelled : (width : ℕ) → width ≡ getD (d .widths) (table - 1) 0
+      → Labelled viewMarks viewNumbers (getD masks table 0) width table marks numbers i (d .views) A
+  unfolding wide mostViews
+  line-labelled width w =
       record {
-        held = holds;
+        few = ready .good .views .few;
+        laid = ready .laid;
         line = l .line;
-        bits = rw (sym table-is) (views .bits first-table (d .views) holds);
+        tableIs = l .tableIs;
+        bits = rw (sym (l .tableIs)) (ready .bits table first-table last-table);
         lineWidth = sym (w ∙ width-is);
         viewWidths = λ v m e.
-            eqb→eq _ _ (l .good .views .each v m .fitting) ∙ ap (λ (t : ℕ). getD (d .widths) (t - 1) 0) (e ∙ sym table-is) ∙ sym w;
+            eqb→eq _ _ (ready .good .views .each v m .fitting) ∙ ap (λ (t : ℕ). getD (d .widths) (t - 1) 0) (e ∙ sym (l .tableIs)) ∙ sym w;
       }
 
 -- ---- the lines of a query, shown
@@ -90,34 +82,47 @@ shown-fits widths Q f B m =
     let a = Memᴰ·of-map (over (showTerm R)) R m in
     subst (λ (C : Line). Fits widths C) (a .2) (fits-over (showTerm R) (a .0) (f (a .0) (reduced-subset (reduce-reduces Q) (a .0) (a .1))))
 
--- a holds the line at place i, shown by a word
-module _ {p : Policy} {q : QueryValue} {d : Declared} {Q : Query} (g : Posed p q d Q) (w i : ℕ) (h : i < length Q) (a none : LineValue)
-    (is : a ≡ showLine w (getD (q .lines) i none)) where
-  read : a ≡ showLine w (lineValue (lineAt Q i))
-  read = is ∙ ap (showLine w) (held-line (g .query) i none h)
-
-  line-of : (f : Term → Term) → a ≡ lineValue (over f (lineAt Q i)) → LineOf p a d (over f (lineAt Q i))
+-- the line in row i, shown by a word
+module _ {d : Declared} {Q : Query} {w : ℕ} {tables marks numbers : List ℕ} (r : Rows d Q w tables marks numbers) (i : ℕ) (h : i < length Q) where
+  line-of : (f : Term → Term) → showLine w (lineValue (lineAt Q i)) ≡ lineValue (over f (lineAt Q i))
+      → LineOf d (getD tables i 0) marks numbers i (over f (lineAt Q i))
   unfolding lineAt
   line-of f e = record {
-    policy = g .policy;
-    good = g .good;
-    line = e;
-    fits = fits-over f (lineAt Q i) (g .fits (lineAt Q i) (getD-mem Q i _ h));
+    line = subst (Row marks numbers i) e (r .row i h);
+    tableIs = r .laidTables i h;
+    fits = fits-over f (lineAt Q i) (r .fits (lineAt Q i) (getD-mem Q i _ h));
   }
 
+  few : length (lineAt Q i .columns) ≤ 8
+  unfolding lineAt
+  few = r .columns (lineAt Q i) (getD-mem Q i (record { table = 0; columns = [] }) h)
+
   -- whatever the word, it is a line of the tables
-  pub some-line : LineOf p a d (over (shownBy w) (lineAt Q i))
-  some-line = line-of (shownBy w) (read ∙ line-value w (lineAt Q i) (held-few (g .query) i h))
+  pub some-line : LineOf d (getD tables i 0) marks numbers i (over (shownBy w) (lineAt Q i))
+  some-line = line-of (shownBy w) (line-value w (lineAt Q i) few)
 
   -- with the word of the shared variables of the lines left, it is the line shown
   pub shown-line : (left : ℕ) → SharedWord (linesAt left Q) w → isSet left i ≡ true
-      → LineOf p a d (over (showTerm (linesAt left Q)) (lineAt Q i))
+      → LineOf d (getD tables i 0) marks numbers i (over (showTerm (linesAt left Q)) (lineAt Q i))
   shown-line left word e =
       let R = linesAt left Q in
       line-of (showTerm R)
-      (read
-      ∙ line-shown R w word (λ A m. g .query .columns A (lines-subset left Q m)) (λ n A m. g .small n A (lines-subset left Q m))
+      (line-shown R w word (λ A m. r .columns A (lines-subset left Q m)) (λ n A m. r .small n A (lines-subset left Q m))
       (lineAt Q i) (in-lines left Q i h (eqb-true _ _ e)))
+
+-- the rows of a query laid out and then shown
+pub rows-shown : {q : QueryValue} {d : Declared} {Q : Query} (n w : ℕ) {tables marks numbers : List ℕ} {marks′ : List ℕ} → length Q ≡ n
+    → Posed q d Q → LaidTables Q tables → Laid Q marks numbers → ShownMarks n marks numbers w marks′ → Rows d Q w tables marks′ numbers
+rows-shown {Q = Q} n w {marks = marks} {numbers} {marks′} e g t laid s = record {
+  lines = laid .lines;
+  columns = laid .columns;
+  small = g .small;
+  fits = g .fits;
+  laidTables = t;
+  row = λ i h p b.
+      s .term (i * 8 + p) (omega (arith, e)) ∙ ap (showValue w) (laid .row i h p b)
+      ∙ sym (shown-term w (lineAt Q i) (laid-few laid i h) p b);
+}
 
 -- ---- the words, one by one
 

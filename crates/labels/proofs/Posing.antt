@@ -16,7 +16,7 @@ use Rattle.theory.specs.Executable.Label.{label, labels}
 use Rattle.theory.proofs.Lists.{length-without}
 use Rattle.theory.proofs.Executable.Reduce.{reduce-reduces}
 use Rattle.theory.proofs.Executable.Test.{and-iff, all-iff}
-use Rattle.model.specs.Limits.{mostTables, mostColumns, lastVariable, upTo, termWithin, lineWithin}
+use Rattle.model.specs.Limits.{mostTables, mostColumns, mostViews, lastVariable, upTo, termWithin, lineWithin}
 use Rattle.model.specs.Value.{queryValue, tablesValue}
 use Rattle.model.specs.declared.Policy.{Policy}
 use Rattle.model.specs.declared.Query.{Query as QueryValue}
@@ -27,8 +27,9 @@ use Rattle.policy.specs.Text.{Declared}
 use Rattle.policy.specs.Value.{WellFormed}
 use Rattle.policy.specs.Policy.{policyValue}
 use Rattle.policy.proofs.Value.{up-to-iff}
+use Rattle.label.specs.Labelled.{Holds, TableMasks, ViewsLaid}
 use Rattle.reduce.specs.Showing.{Small}
-use Rattle.labels.specs.Posed.{Posed}
+use Rattle.labels.specs.Posed.{Ready, Posed}
 use Rattle.labels.specs.Text.{LoadedTo}
 
 -- "variables 0 to 63"
@@ -42,15 +43,33 @@ pub tables-of : {p : Policy} {d : Declared} → LoadedTo p d → p .tables ≡ t
 unfolding policyValue
 tables-of l = ap (λ (x : Policy). x .tables) (l .policy)
 
-pub posed : {p : Policy} {q : QueryValue} (d : Declared) (text : List ℕ) (Q : Query) → WellFormed d → read (d .widths) text ≡ accepted Q
-    → p ≡ policyValue d → q ≡ queryValue Q → Posed p q d Q
+holds : {p : Policy} {d : Declared} → LoadedTo p d → Holds p (d .views)
+unfolding policyValue mostViews
+holds l = record { few = l .good .views .few; is = ap (λ (x : Policy). x .views) (l .policy) }
+
+-- what is made of a loaded policy once
+pub ready : {p : Policy} {d : Declared} {masks marks numbers : List ℕ} → LoadedTo p d → TableMasks p masks → ViewsLaid p marks numbers
+    → Ready d (p .tables) masks marks numbers
+ready {d = d} l masks rows =
+    let held = holds l in
+    record {
+      good = l .good;
+      tablesAre = tables-of l;
+      masksLong = masks .long;
+      below = λ table h. masks .mask table h .below;
+      bits = λ table first h. masks .mask table h .bits first (d .views) held;
+      marksLong = rows .marksLong;
+      numbersLong = rows .numbersLong;
+      laid = rows .laid (d .views) held;
+    }
+
+pub posed : {q : QueryValue} (d : Declared) (text : List ℕ) (Q : Query) → WellFormed d → read (d .widths) text ≡ accepted Q
+    → q ≡ queryValue Q → Posed q d Q
 unfolding mostColumns
-posed d text Q good e is holds =
+posed d text Q good e holds =
     let w = accepted-well-read (d .widths) text Q e .0 in
     let narrow : (n : ℕ) → n ∈ d .widths → n ≤ 8 = λ n i. up-to-iff mostColumns n .0 (good .tables .each n i) .1 in
     record {
-      policy = is;
-      good = good;
       query = record { is = holds; lines = w .few; columns = λ A i. few-terms (d .widths) narrow A (w .fits A i) };
       small = small-read w;
       fits = w .fits;

@@ -1,42 +1,62 @@
 -- A query posed under a policy, as the code holds the two, and its labels.
 use mathlib.Core.Path.{_≡_}
 use mathlib.Core.List.{List}
-use Prim.Native.Nat.{ℕ}
-use lib.ListN.{length}
-use Rattle.theory.specs.Query.{Fits}
+use Prim.Native.Nat.{ℕ, _^_, _≤_, _<_}
+use lib.ListN.{length, getD}
+use Rattle.theory.specs.Query.{Fits, _∈_}
 use Rattle.theory.specs.Query.{Line as TheLine, Query as TheQuery}
 use Rattle.theory.specs.Archive.{AllFit}
-use Rattle.model.specs.Value.{pad, lineValue}
-use Rattle.model.specs.declared.Line.{Line}
+use Rattle.model.specs.Rows.{Row}
+use Rattle.model.specs.Value.{pad, lineValue, tablesValue}
 use Rattle.model.specs.declared.Query.{Query}
-use Rattle.model.specs.declared.Policy.{Policy}
+use Rattle.model.specs.declared.Tables.{Tables}
 use Rattle.policy.specs.Text.{Declared}
 use Rattle.policy.specs.Value.{WellFormed}
-use Rattle.policy.specs.Policy.{policyValue}
-use Rattle.reduce.specs.Pairs.{Held}
-use Rattle.reduce.specs.Showing.{Small}
+use Rattle.label.specs.Labelled.{OfTable, LaidViews}
+use Rattle.reduce.specs.Agree.{lineAt}
+use Rattle.reduce.specs.Laid.{Held, LaidTables}
+use Rattle.reduce.specs.Showing.{Small, showLine}
 use Rattle.labels.specs.declared.Labels.{Labels}
 
--- p holds what is declared, and a holds a line of its tables
-pub record LineOf (p : Policy) (a : Line) (d : Declared) (A : TheLine) : Type 0 where
-  pub policy : p ≡ policyValue d
+-- ---- what is made of a policy once: its tables' columns, the views of each table as bits, and the terms of the views as rows
+
+pub record Ready (d : Declared) (tables : Tables) (masks marks numbers : List ℕ) : Type 0 where
   pub good : WellFormed d
-  pub line : a ≡ lineValue A
+  pub tablesAre : tables ≡ tablesValue (d .widths)
+  pub masksLong : length masks ≡ 17
+  pub below : (table : ℕ) → table ≤ 16 → getD masks table 0 < 2 ^ 32
+  pub bits : (table : ℕ) → 1 ≤ table → table ≤ 16 → OfTable (d .views) table (getD masks table 0)
+  pub marksLong : length marks ≡ 256
+  pub numbersLong : length numbers ≡ 256
+  pub laid : LaidViews marks numbers (d .views)
+
+abbrev pub SomeReady : Tables → List ℕ → List ℕ → List ℕ → Type 0
+SomeReady tables masks marks numbers = (d : Declared) × Ready d tables masks marks numbers
+
+-- ---- a line, and a query
+
+-- row i has a line of this table, which is one of the policy's
+pub record LineOf (d : Declared) (table : ℕ) (marks numbers : List ℕ) (i : ℕ) (A : TheLine) : Type 0 where
+  pub line : Row marks numbers i (lineValue A)
+  pub tableIs : table ≡ A .table
   pub fits : Fits (d .widths) A
 
--- p holds what is declared, and q holds a query on its tables
-pub record Posed (p : Policy) (q : Query) (d : Declared) (Q : TheQuery) : Type 0 where
-  pub policy : p ≡ policyValue d
-  pub good : WellFormed d
+-- q holds a query on the policy's tables
+pub record Posed (q : Query) (d : Declared) (Q : TheQuery) : Type 0 where
   pub query : Held q Q
   pub small : Small Q
   pub fits : AllFit (d .widths) Q
 
-abbrev pub SomeLine : Policy → Line → Type 0
-SomeLine p a = (d : Declared) × (A : TheLine) × LineOf p a d A
+-- the rows of such a query, its variables of a word shown
+pub record Rows (d : Declared) (Q : TheQuery) (w : ℕ) (tables marks numbers : List ℕ) : Type 0 where
+  pub lines : length Q ≤ 8
+  pub columns : (A : TheLine) → A ∈ Q → length (A .columns) ≤ 8
+  pub small : Small Q
+  pub fits : AllFit (d .widths) Q
+  pub laidTables : LaidTables Q tables
+  pub row : (i : ℕ) → i < length Q → Row marks numbers i (showLine w (lineValue (lineAt Q i)))
 
-abbrev pub SomeQuery : Policy → Query → Type 0
-SomeQuery p q = (d : Declared) × (Q : TheQuery) × Posed p q d Q
+-- ---- the labels
 
 -- unused words are 0
 unfoldable pub labelsValue : List ℕ → Labels

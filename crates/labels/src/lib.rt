@@ -2,21 +2,19 @@
 
 ghost use mathlib.Core.Path.{_≡_};
 ghost use mathlib.Core.List.{List, [], map};
-ghost use Prim.Native.Nat.{ℕ, _-_, _≤_};
-ghost use lib.ListN.{getD};
+ghost use Prim.Native.Nat.{ℕ, _-_, _≤_, _<_};
+ghost use lib.ListN.{length, getD};
 ghost use Rattle.theory.specs.Query.{Line as TheLine, Query as TheQuery};
 ghost use Rattle.theory.specs.Executable.Label.{label, labels};
 ghost use Rattle.theory.specs.Executable.Show.{show};
 ghost use Rattle.model.specs.Value.{tablesValue};
 ghost use Rattle.query.specs.Text.{read};
 ghost use Rattle.policy.specs.Text.{Declared};
-ghost use Rattle.label.specs.Labelled.{TableMasks};
 ghost use Rattle.reduce.specs.Left.{linesAt};
 ghost use Rattle.reduce.specs.Showing.{SharedWord};
-ghost use Rattle.labels.specs.Posed.{LineOf, Posed, labelsValue, SomeLine, SomeQuery};
+ghost use Rattle.labels.specs.Posed.{Ready, SomeReady, LineOf, Posed, Rows, labelsValue};
 ghost use Rattle.labels.specs.Text.{LoadedTo, SomePolicy, askedValue};
 ghost use Rattle.labels.specs.Settled.{settled};
-use model::Line;
 use model::Outcome;
 use model::Policy;
 use model::Query;
@@ -42,31 +40,65 @@ fn width_of(tables: Tables, table: u64) -> usize
     tables.columns[table as usize - 1] as usize
 }
 
-// The label of a line; `masks` has the views of each table.
-fn label_of(p: Policy, masks: &[u64; 17], a: Line) -> u64
-    requires { ⌜ SomeLine p a × TableMasks p (now masks) ⌝ }
-    ensures { λ r. ⌜ ((d : Declared) (A : TheLine) → LineOf p a d A → r ≡ label (d .views) A) ⌝ }
+// The label of the line in row `i`, of a table of the policy; `masks` has the views of each table.
+fn label_of(
+    tables: Tables,
+    masks: &[u64; 17],
+    view_marks: &[u64; 256],
+    view_numbers: &[u64; 256],
+    table: u64,
+    marks: &[u64; 64],
+    numbers: &[u64; 64],
+    i: usize,
+) -> u64
+    requires { ⌜ ((d : Declared) × (A : TheLine) × Ready d tables (now masks) (now «view_marks») (now «view_numbers») × LineOf d table (now marks) (now numbers) i A) × (length (now marks) ≡ 64) × (length (now numbers) ≡ 64) × (i < 8) ⌝ }
+    ensures { λ r. ⌜ ((d : Declared) (A : TheLine) → Ready d tables (now (masks .entry)) (now («view_marks» .entry)) (now («view_numbers» .entry)) → LineOf d table (now (marks .entry)) (now (numbers .entry)) i A → r ≡ label (d .views) A) ⌝ }
 {
-    let tables = p.tables;
-    let width = width_of(tables, a.table);
-    let mask = masks[a.table as usize];
-    label::label_line(p, mask, width, a)
+    let width = width_of(tables, table);
+    let mask = masks[table as usize];
+    label::label_line(
+        view_marks,
+        view_numbers,
+        mask,
+        width,
+        table,
+        marks,
+        numbers,
+        i,
+    )
 }
 
-// The labels of the lines left, their shared variables shown.
-fn label_lines(p: Policy, masks: &[u64; 17], q: Query, left: u64, shared: u64) -> Labels
-    requires { ⌜ SomeQuery p q × TableMasks p (now masks) ⌝ }
-    ensures { λ r. ⌜ ((d : Declared) (Q : TheQuery) → Posed p q d Q → SharedWord (linesAt left Q) shared → r ≡ labelsValue (map (label (d .views)) (show (linesAt left Q)))) ⌝ }
+// The labels of the lines left of n lines, whose shared variables are shown.
+fn label_lines<'a>(
+    tables: Tables,
+    masks: &[u64; 17],
+    view_marks: &[u64; 256],
+    view_numbers: &[u64; 256],
+    n: usize,
+    line_tables: &'a [u64; 8],
+    marks: &[u64; 64],
+    numbers: &'a [u64; 64],
+    left: u64,
+) -> Labels
+    requires { ⌜ ((d : Declared) × (Q : TheQuery) × (w : ℕ) × Ready d tables (now masks) (now «view_marks») (now «view_numbers») × (length Q ≡ n) × Rows d Q w (now «line_tables») (now marks) (now numbers)) × (length (now «line_tables») ≡ 8) × (length (now marks) ≡ 64) × (length (now numbers) ≡ 64) ⌝ }
+    ensures { λ r. ⌜ ((d : Declared) (Q : TheQuery) (w : ℕ) → Ready d tables (now (masks .entry)) (now («view_marks» .entry)) (now («view_numbers» .entry)) → length Q ≡ n → Rows d Q w (now («line_tables» .entry)) (now (marks .entry)) (now (numbers .entry)) → SharedWord (linesAt left Q) w → r ≡ labelsValue (map (label (d .views)) (show (linesAt left Q)))) ⌝ }
 {
-    let n = q.count;
     let mut words = [0; 8];
     let mut count = 0;
     let mut i = 0;
     while i < n {
         if words::has_bit(left, i as u64) {
-            let l = q.lines[i];
-            let a = reduce::show_line(shared, l);
-            words[count] = label_of(p, masks, a);
+            let table = line_tables[i];
+            words[count] = label_of(
+                tables,
+                masks,
+                view_marks,
+                view_numbers,
+                table,
+                marks,
+                numbers,
+                i,
+            );
             count += 1;
         }
         i += 1;
@@ -74,14 +106,33 @@ fn label_lines(p: Policy, masks: &[u64; 17], q: Query, left: u64, shared: u64) -
     Labels { count, words }
 }
 
-// The labels of a query; `masks` has the views of each table.
-pub fn label_query(p: Policy, masks: &[u64; 17], q: Query) -> Labels
-    requires { ⌜ SomeQuery p q × TableMasks p (now masks) ⌝ }
-    ensures { λ r. ⌜ ((d : Declared) (Q : TheQuery) → Posed p q d Q → r ≡ labelsValue (labels (d .views) Q)) ⌝ }
+// The labels of a query.
+pub fn label_query<'a>(
+    tables: Tables,
+    masks: &[u64; 17],
+    view_marks: &'a [u64; 256],
+    view_numbers: &'a [u64; 256],
+    q: Query,
+) -> Labels
+    requires { ⌜ ((d : Declared) × (Q : TheQuery) × Ready d tables (now masks) (now «view_marks») (now «view_numbers») × Posed q d Q) ⌝ }
+    ensures { λ r. ⌜ ((d : Declared) (Q : TheQuery) → Ready d tables (now (masks .entry)) (now («view_marks» .entry)) (now («view_numbers» .entry)) → Posed q d Q → r ≡ labelsValue (labels (d .views) Q)) ⌝ }
 {
-    let left = reduce::lines_left(q);
-    let shared = reduce::shared(q, left);
-    label_lines(p, masks, q, left, shared)
+    let n = q.count;
+    let r = reduce::query_rows(q);
+    let left = reduce::lines_left(n, &r.tables, &r.marks, &r.numbers);
+    let shared = reduce::shared(n, &r.marks, &r.numbers, left);
+    let marks = reduce::show_marks(n, r.marks, &r.numbers, shared);
+    label_lines(
+        tables,
+        masks,
+        view_marks,
+        view_numbers,
+        n,
+        &r.tables,
+        &marks,
+        &r.numbers,
+        left,
+    )
 }
 
 fn no_labels() -> Labels
@@ -94,17 +145,22 @@ fn no_labels() -> Labels
 }
 
 // The labels of a query text, or what turns it back.
-pub fn label_text(p: Policy, masks: &[u64; 17], text: &[u8]) -> Asked
-    requires { ⌜ SomePolicy p × TableMasks p (now masks) ⌝ }
-    ensures { λ r. ⌜ ((d : Declared) → LoadedTo p d → r ≡ askedValue (d .views) (read (d .widths) (now (text .entry)))) ⌝ }
+pub fn label_text<'a>(
+    tables: Tables,
+    masks: &[u64; 17],
+    view_marks: &'a [u64; 256],
+    view_numbers: &'a [u64; 256],
+    text: &[u8],
+) -> Asked
+    requires { ⌜ SomeReady tables (now masks) (now «view_marks») (now «view_numbers») ⌝ }
+    ensures { λ r. ⌜ ((d : Declared) → Ready d tables (now (masks .entry)) (now («view_marks» .entry)) (now («view_numbers» .entry)) → r ≡ askedValue (d .views) (read (d .widths) (now (text .entry)))) ⌝ }
 {
-    let tables = p.tables;
     let r = query::read_query(tables, text);
     let outcome = r.outcome;
     match outcome {
         Outcome::Accepted => {
             let q = r.query;
-            let labels = label_query(p, masks, q);
+            let labels = label_query(tables, masks, view_marks, view_numbers, q);
             Asked { outcome, labels }
         }
         Outcome::Refused { .. } => {
@@ -112,6 +168,17 @@ pub fn label_text(p: Policy, masks: &[u64; 17], text: &[u8]) -> Asked
             Asked { outcome, labels }
         }
     }
+}
+
+// The same under a loaded policy, of which nothing is made yet.
+pub fn ask(p: Policy, text: &[u8]) -> Asked
+    requires { ⌜ SomePolicy p ⌝ }
+    ensures { λ r. ⌜ ((d : Declared) → LoadedTo p d → r ≡ askedValue (d .views) (read (d .widths) (now (text .entry)))) ⌝ }
+{
+    let masks = label::table_views(p);
+    let rows = label::view_rows(p);
+    let tables = p.tables;
+    label_text(tables, &masks, &rows.marks, &rows.numbers, text)
 }
 
 // Whether each label holds one of the views of a partition, view n at bit n - 1.

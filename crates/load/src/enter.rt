@@ -1,9 +1,8 @@
 // What a line of values declares, behind what is declared so far.
 
 ghost use mathlib.Core.Path.{_≡_};
-ghost use mathlib.Core.Bool.{false};
-ghost use mathlib.Core.List.{List, _∷_, [], _++_};
-ghost use mathlib.Core.Option.{Option, some};
+ghost use mathlib.Core.List.{List};
+ghost use mathlib.Core.Option.{Option};
 ghost use Prim.Native.Nat.{ℕ, _<_, _^_};
 ghost use lib.ListN.{length};
 ghost use Rattle.theory.specs.Query.{Line as TheLine};

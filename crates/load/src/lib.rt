@@ -4,8 +4,7 @@ mod enter;
 
 ghost use mathlib.Core.Path.{_≡_};
 ghost use mathlib.Core.Bool.{Bool, false, _&&_};
-ghost use mathlib.Core.List.{List};
-ghost use Prim.Native.Nat.{ℕ, _≤_, _<_, _^_};
+ghost use Prim.Native.Nat.{_≤_, _<_, _^_};
 ghost use lib.ListN.{length};
 ghost use Rattle.text.specs.Lines.{lines};
 ghost use Rattle.policy.specs.Text.{Declared, Block, tables as tableBlock, nothing, refused as refusedLoading, isNext, enter as enterBlock, loadFrom, load as loadText};

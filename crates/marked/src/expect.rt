@@ -1,4 +1,3 @@
-ghost use Rattle.label.specs.Labelled.{TableMasks};
 ghost use Rattle.labels.specs.Text.{SomePolicy};
 use labels::Labels;
 use model::Policy;
@@ -60,11 +59,11 @@ fn counted(n: u64) -> u64 {
 }
 
 // The row behind n rows: this query text has these labels. A text that is turned back has none, and so differs.
-pub fn row(p: Policy, masks: &[u64; 17], n: u64, text: &[u8], expected: Labels) -> u64
-    requires { ⌜ SomePolicy p × TableMasks p (now masks) ⌝ }
+pub fn row(p: Policy, n: u64, text: &[u8], expected: Labels) -> u64
+    requires { ⌜ SomePolicy p ⌝ }
 {
     let at = counted(n);
-    let asked = labels::label_text(p, masks, text);
+    let asked = labels::ask(p, text);
     let l = asked.labels;
     if !same(l, expected) {
         print_difference(at, l);

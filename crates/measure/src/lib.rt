@@ -1,65 +1,11 @@
-// For measuring alone, and no interface of the desk: a query labelled again and again under one loaded policy.
+// For measuring alone, and no interface of the desk: under one loaded policy a query is labelled, or decided from its text,
+// again and again, and the policy is checked again and again. Each result is a sum in which every answer has a part, so that
+// the compiler can leave none out; it is 0 where a text is turned back.
 
-ghost use Rattle.label.specs.Labelled.{TableMasks};
-ghost use Rattle.labels.specs.Posed.{SomeQuery};
-ghost use Rattle.labels.specs.Text.{SomePolicy};
-use labels::Labels;
-use model::Outcome;
-use model::Policy;
-use model::Query;
-use std::num::wrapping_add_u64;
+mod checking;
+mod deciding;
+mod labelling;
 
-fn sum_of(l: Labels) -> u64 {
-    let mut sum = 0;
-    let mut i = 0;
-    while i < 8 {
-        sum = wrapping_add_u64(sum, l.words[i]);
-        i += 1;
-    }
-    sum
-}
-
-// Every word of every labelling goes into the result, so that the compiler can leave none out.
-fn label_again(p: Policy, masks: &[u64; 17], q: Query, times: u64) -> u64
-    requires { ⌜ SomeQuery p q × TableMasks p (now masks) ⌝ }
-{
-    let mut sum = 0;
-    let mut i = 0;
-    while i < times {
-        let l = labels::label_query(p, masks, q);
-        sum = wrapping_add_u64(sum, sum_of(l));
-        i += 1;
-    }
-    sum
-}
-
-fn read_and_label(p: Policy, query: &[u8], times: u64) -> u64
-    requires { ⌜ SomePolicy p ⌝ }
-{
-    let masks = label::table_views(p);
-    let tables = p.tables;
-    let r = query::read_query(tables, query);
-    let outcome = r.outcome;
-    match outcome {
-        Outcome::Accepted => {
-            let q = r.query;
-            label_again(p, &masks, q, times)
-        }
-        Outcome::Refused { .. } => 0,
-    }
-}
-
-// The query of a text labelled so many times under the policy of a text: the sum of all the words modulo 2^64, or 0 where a
-// text is turned back. Policy and query are read once.
-#[no_mangle]
-pub extern "C" fn kolbrees_label(policy: &[u8], query: &[u8], times: u64) -> u64 {
-    let r = load::load(policy);
-    let outcome = r.outcome;
-    match outcome {
-        Outcome::Accepted => {
-            let p = r.policy;
-            read_and_label(p, query, times)
-        }
-        Outcome::Refused { .. } => 0,
-    }
-}
+pub use checking::kolbrees_check;
+pub use deciding::kolbrees_decide;
+pub use labelling::kolbrees_label;

@@ -12,3 +12,4 @@ pub mod Values
 pub mod Variables
 pub mod Misfit
 pub mod Same
+pub mod LaidTerms

@@ -5,3 +5,4 @@ pub mod Limits
 pub mod Marks
 pub mod Value
 pub mod Variables
+pub mod Rows

@@ -3,6 +3,7 @@
 mod check;
 mod compare;
 mod read;
+mod rows;
 
 pub use check::check_line;
 pub use compare::same_term;
@@ -11,15 +12,16 @@ pub use read::read_line;
 pub use read::read_term;
 pub use read::read_terms;
 pub use read::up_to;
+pub use rows::term_at;
 
 // The marks of a term.
-pub const UNUSED: u8 = 0;
+pub const UNUSED: u64 = 0;
 
-pub const CONSTANT: u8 = 1;
+pub const CONSTANT: u64 = 1;
 
-pub const SHOWN: u8 = 2;
+pub const SHOWN: u64 = 2;
 
-pub const HIDDEN: u8 = 3;
+pub const HIDDEN: u64 = 3;
 
 pub const MOST_TABLES: u64 = 16;
 
@@ -27,7 +29,7 @@ pub const LAST_VARIABLE: u64 = 63;
 
 // A mark and a number; an unused term is all 0.
 pub struct Term {
-    pub mark: u8,
+    pub mark: u64,
     pub number: u64,
 }
 

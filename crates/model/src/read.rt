@@ -15,7 +15,7 @@ use crate::SHOWN;
 use crate::Term;
 use text::Numeral;
 
-fn mark_of(b: u8) -> u8
+fn mark_of(b: u8) -> u64
     ensures { λ r. ⌜ r ≡ markOf b ⌝ }
 {
     if b == b'#' {
@@ -30,7 +30,7 @@ fn mark_of(b: u8) -> u8
     0
 }
 
-fn within(mark: u8, number: u64) -> bool
+fn within(mark: u64, number: u64) -> bool
     ensures { λ r. ⌜ r ≡ numberWithin mark number ⌝ }
 {
     if mark == CONSTANT {
@@ -78,7 +78,7 @@ pub fn blank(ok: bool, outside: bool) -> Parsed
 }
 
 // The word with the bit of the term's number set, where the term has the mark.
-fn with_mark(mark: u8, m: u64, t: Term) -> u64
+fn with_mark(mark: u64, m: u64, t: Term) -> u64
     requires { ⌜ (t .mark ≡ mark → t .number < 64) ⌝ }
     ensures { λ r. ⌜ r ≡ withMark mark m t ⌝ }
 {

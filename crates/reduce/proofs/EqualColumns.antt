@@ -16,7 +16,8 @@ use Rattle.words.proofs.Marks.{Upto, upto-more, upto-all, by-test}
 use Rattle.model.specs.Value.{sameTerm, unusedTerm, termValue, lineValue}
 use Rattle.model.proofs.Same.{same-value}
 use Rattle.model.specs.declared.Term.{Term}
-use Rattle.reduce.specs.Columns.{termAt, SameColumn, SameColumns}
+use Rattle.model.specs.Rows.{termAt}
+use Rattle.reduce.specs.Columns.{SameColumn, SameColumns}
 use Rattle.reduce.proofs.LineValues.{same-unused, used, unused}
 
 -- places at which the test does not hold

@@ -19,7 +19,7 @@ use Rattle.words.proofs.SetBits.{set-bit-same, set-bit-other}
 use Rattle.model.specs.Value.{unusedTerm, termValue, lineValue}
 use Rattle.model.specs.declared.Term.{Term}
 use Rattle.model.specs.declared.Line.{Line}
-use Rattle.reduce.specs.Columns.{termAt}
+use Rattle.model.specs.Rows.{termAt}
 use Rattle.reduce.specs.Showing.{hiddenTerm, withHidden, HiddenWord}
 use Rattle.reduce.proofs.LineValues.{used, unused}
 

@@ -6,6 +6,7 @@ pub mod EqualColumns
 -- The lines of a query, and those left.
 pub mod Left
 pub mod Lines
+pub mod LaidRows
 -- The pairs of a line and a target.
 pub mod LinePairs
 pub mod Tables
@@ -21,3 +22,4 @@ pub mod Hidden
 pub mod Seen
 pub mod Mapped
 pub mod Shown
+pub mod ShownRows

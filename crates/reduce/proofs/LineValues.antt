@@ -1,8 +1,8 @@
 -- Lines and the values that hold them: the same terms stand in the same columns, and the columns behind are unused.
-use mathlib.Core.Path.{_≡_, refl, sym, subst, _∙_}
+use mathlib.Core.Path.{_≡_, refl, sym, ap₂, subst, _∙_}
 use mathlib.Core.Bool.{Bool, _&&_}
-use mathlib.Core.List.{map, zip}
-use Prim.Native.Nat.{ℕ, _≤_, _<_}
+use mathlib.Core.List.{List, map, zip}
+use Prim.Native.Nat.{ℕ, _+_, _*_, _≤_, _<_}
 use native.Mathlib.Decide.{decLt}
 use native.Mathlib.Omega.{arith}
 use lib.Dec.{T, eqb}
@@ -20,7 +20,8 @@ use Rattle.model.proofs.Pad.{pad-get}
 use Rattle.model.proofs.Terms.{terms-few}
 use Rattle.model.proofs.Same.{same-value}
 use Rattle.reduce.specs.Agree.{goes}
-use Rattle.reduce.specs.Columns.{keepsTerm, termAt, goesLine}
+use Rattle.model.specs.Rows.{termAt, laidTerm, Row}
+use Rattle.reduce.specs.Columns.{keepsTerm, goesRow}
 
 -- ---- terms and their values
 
@@ -104,16 +105,21 @@ module _ (A S : TheLine) (few : length (A .columns) ≤ 8) (few′ : length (S .
       subst (λ (w : TheTerm × TheTerm). T (keeps w)) (λ i. (sym e i, sym f i))
       (rw (used A few p l, used S few′ p k, keeps-value (at A p) (at S p)) at (h p (omega arith)))
 
-  pub goes-value : goesLine (lineValue A) (lineValue S) ≡ goes A S
-  unfolding goesLine goes lineValue
-  goes-value =
+  -- by the rows that hold the two
+  pub goes-value : (tables marks numbers : List ℕ) (i j : ℕ) → getD tables i 0 ≡ A .table → getD tables j 0 ≡ S .table
+      → Row marks numbers i (lineValue A) → Row marks numbers j (lineValue S) → goesRow tables marks numbers i j ≡ goes A S
+  unfolding goesRow goes
+  goes-value tables marks numbers i j ti tj ri rj =
       let t = eqb (A .table) (S .table) in
       let w = eqb (length (A .columns)) (length (S .columns)) in
       let z = all keeps (zip (A .columns) (S .columns)) in
-      let f : ℕ → Bool = λ p. keepsTerm (termAt (lineValue A) p) (termAt (lineValue S) p) in
-      same-test (t && allBelow 8 f) (t && (w && z))
-      (λ h. let r = and-iff t (allBelow 8 f) .0 h in let b = allBelow-iff f 8 .0 (r .1) in
+      let f : ℕ → Bool = λ p. keepsTerm (laidTerm marks numbers (i * 8 + p)) (laidTerm marks numbers (j * 8 + p)) in
+      let row : (p : ℕ) → p < 8 → f p ≡ keepsTerm (termAt (lineValue A) p) (termAt (lineValue S) p) = λ p l. ap₂ keepsTerm (ri p l) (rj p l) in
+      rw (ti, tj)
+      (same-test (t && allBelow 8 f) (t && (w && z))
+      (λ h. let r = and-iff t (allBelow 8 f) .0 h in
+      let b : (p : ℕ) → p < 8 → Keeps p = λ p l. subst T (row p l) (allBelow-iff f 8 .0 (r .1) p l) in
       and-iff t (w && z) .1 (r .0, and-iff w z .1 (yes-eqb (same-width b), all-iff keeps (zip (A .columns) (S .columns)) .1 (columns-kept b))))
       (λ h. let r = and-iff t (w && z) .0 h in let s = and-iff w z .0 (r .1) in
       and-iff t (allBelow 8 f) .1
-      (r .0, allBelow-iff f 8 .1 (λ p l. kept-columns (eqb-yes (s .0)) (all-iff keeps (zip (A .columns) (S .columns)) .0 (s .1)) p)))
+      (r .0, allBelow-iff f 8 .1 (λ p l. subst T (sym (row p l)) (kept-columns (eqb-yes (s .0)) (all-iff keeps (zip (A .columns) (S .columns)) .0 (s .1)) p)))))

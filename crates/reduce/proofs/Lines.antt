@@ -1,7 +1,7 @@
 -- The lines of a query, by the value that holds it, and those that are left, one by one.
 use mathlib.Core.Path.{_≡_, ap, _∙_}
 use mathlib.Core.Bool.{cond}
-use mathlib.Core.List.{[], _∷_, _++_, map}
+use mathlib.Core.List.{List, [], _∷_, _++_, map}
 use Prim.Native.Nat.{ℕ, _+_, _-_, _≤_, _<_}
 use native.Mathlib.Numerals.{add-one}
 use lib.ListN.{length, getD, take, replicate, length-map, List·getD-append}
@@ -13,7 +13,7 @@ use Rattle.model.specs.declared.Query.{Query as QueryValue}
 use Rattle.words.specs.Bits.{isSet}
 use Rattle.reduce.specs.Agree.{lineAt}
 use Rattle.reduce.specs.Left.{pick}
-use Rattle.reduce.specs.Pairs.{Held}
+use Rattle.reduce.specs.Laid.{Held, Laid}
 use Rattle.reduce.proofs.Left.{pick-more}
 
 module _ {q : QueryValue} {Q : Query} (held : Held q Q) where
@@ -30,9 +30,11 @@ module _ {q : QueryValue} {Q : Query} (held : Held q Q) where
       ∙ List·getD-append l (replicate (8 - length l) unusedLine) d i (rw (length-map Q lineValue) h)
       ∙ getD-map lineValue Q i (record { table = 0; columns = [] }) d h
 
-  pub held-few : (i : ℕ) → i < length Q → length (lineAt Q i .columns) ≤ 8
-  unfolding lineAt
-  held-few i h = held .columns (lineAt Q i) (getD-mem Q i (record { table = 0; columns = [] }) h)
+-- a line has at most eight columns
+pub laid-few : {Q : Query} {marks numbers : List ℕ} → Laid Q marks numbers → (i : ℕ) → i < length Q
+    → length (lineAt Q i .columns) ≤ 8
+unfolding lineAt
+laid-few {Q} laid i h = laid .columns (lineAt Q i) (getD-mem Q i (record { table = 0; columns = [] }) h)
 
 -- one line more
 pub left-more : (w : ℕ) (Q : Query) (i : ℕ) → i < length Q

@@ -30,7 +30,7 @@ line-is w r l e f = λ i. record { table = e i; terms = f i }
 
 -- ---- no variable is shared
 
-none-shown : (t : Term) → showValue 0 t ≡ t
+pub none-shown : (t : Term) → showValue 0 t ≡ t
 unfolding showValue
 none-shown t = rw (is-clear 0 (t .number) (bit-zero (t .number)), and-false (hiddenTerm t))
 

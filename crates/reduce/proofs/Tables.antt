@@ -12,12 +12,12 @@ use Rattle.theory.proofs.Tuples.{zip-place, place-zip}
 use Rattle.words.specs.Bits.{bit, include}
 use Rattle.words.proofs.Answers.{true-iff}
 use Rattle.words.proofs.Tests.{include-iff}
-use Rattle.model.specs.declared.Query.{Query as QueryValue}
 use Rattle.reduce.specs.Agree.{lineAt}
 use Rattle.reduce.specs.Columns.{SameColumn, SameColumns}
-use Rattle.reduce.specs.Pairs.{Held, Going, Goings, Columns, joins, Candidates, PairWords, Joined, Candidate, Tabled}
+use Rattle.reduce.specs.Pairs.{Going, Goings, Columns, joins, Candidates, PairWords, Joined, Candidate, Tabled}
 use Rattle.reduce.proofs.Agree.{Goes, Joint, agrees-iff, goes-iff, agree-iff}
-use Rattle.reduce.proofs.Lines.{held-few}
+use Rattle.reduce.specs.Laid.{Laid}
+use Rattle.reduce.proofs.Lines.{laid-few}
 
 -- ---- four lines: A over S, and B over D
 
@@ -60,9 +60,9 @@ module _ (A S B D : Line) (few : length (A .columns) ≤ 8) (few′ : length (B 
 
 -- ---- two pairs
 
-joined-iff : {q : QueryValue} {Q : Query} → Held q Q → (columns : List ℕ) → Columns Q columns → (p b : ℕ) → Going Q p → Going Q b → T (joins columns p b) ↔ Joined Q p b
+joined-iff : {Q : Query} {marks numbers : List ℕ} → Laid Q marks numbers → (columns : List ℕ) → Columns Q columns → (p b : ℕ) → Going Q p → Going Q b → T (joins columns p b) ↔ Joined Q p b
 unfolding joins
-joined-iff {q} {Q} held columns right p b g h =
+joined-iff {Q} laid columns right p b g h =
     let A = lineAt Q (p / 8) in
     let S = lineAt Q (p % 8) in
     let B = lineAt Q (b / 8) in
@@ -71,7 +71,7 @@ joined-iff {q} {Q} held columns right p b g h =
     let y = goes-iff B D .0 (h .goes) in
     let k = agree-iff A S B D in
     let j =
-    include-joint A S B D (held-few held (p / 8) (g .line)) (held-few held (b / 8) (h .line)) x y (getD columns (p / 8 * 8 + b / 8) 0)
+    include-joint A S B D (laid-few laid (p / 8) (g .line)) (laid-few laid (b / 8) (h .line)) x y (getD columns (p / 8 * 8 + b / 8) 0)
     (getD columns (p % 8 * 8 + b % 8) 0) (right .same (p / 8) (b / 8) (g .line) (h .line)) (right .same (p % 8) (b % 8) (g .target) (h .target)) in
     (λ t. k .1 (x, y, j .0 t), λ a. j .1 (k .0 a .2))
 
@@ -81,13 +81,13 @@ candidate-going {Q} {p} c =
     let S = lineAt Q (p % 8) in
     record { line = c .line; target = c .target; goes = goes-iff A S .1 (agree-iff A S A S .0 (c .goes) .0) }
 
-pub tabled : {q : QueryValue} {Q : Query} → Held q Q → (g : ℕ) (columns : List ℕ) (m : ℕ) (words : List ℕ) → Goings Q g → Columns Q columns
+pub tabled : {Q : Query} {marks numbers : List ℕ} → Laid Q marks numbers → (g : ℕ) (columns : List ℕ) (m : ℕ) (words : List ℕ) → Goings Q g → Columns Q columns
     → Candidates columns g m → PairWords columns m words → Tabled Q m words
-tabled {q} {Q} held g columns m words goings right candidates pairs =
+tabled {Q} laid g columns m words goings right candidates pairs =
     let going : (p : ℕ) → bit m p ≡ 1 → Going Q p = λ p e. goings p .0 (candidates p .0 e .0) in
-    let joined : (p b : ℕ) → Going Q p → Going Q b → T (joins columns p b) ↔ Joined Q p b = joined-iff held columns right in
+    let joined : (p b : ℕ) → Going Q p → Going Q b → T (joins columns p b) ↔ Joined Q p b = joined-iff laid columns right in
     record {
-      few = held .lines;
+      few = laid .lines;
       long = pairs .long;
       candidates = λ p. (
         λ e. let h = going p e in

@@ -1,30 +1,29 @@
--- Terms and columns by the values of lines: eight terms each, unused ones behind.
+-- Terms and columns by the rows of lines: eight terms each, unused ones behind.
 use mathlib.Core.Path.{_≡_}
 use mathlib.Core.Logic.{_↔_}
 use mathlib.Core.Bool.{Bool, cond, not, _&&_}
-use Prim.Native.Nat.{ℕ, _/_, _%_, _<_}
+use mathlib.Core.List.{List}
+use Prim.Native.Nat.{ℕ, _+_, _*_, _/_, _%_, _<_}
 use lib.Dec.{eqb}
 use lib.ListN.{length, getD}
 use Rattle.theory.specs.Query.{Line as TheLine}
 use Rattle.theory.specs.Cover.{at}
 use Rattle.theory.specs.Executable.Test.{allBelow}
 use Rattle.words.specs.Bits.{bit}
-use Rattle.model.specs.Value.{unusedTerm, sameTerm}
+use Rattle.model.specs.Value.{sameTerm}
+use Rattle.model.specs.Rows.{laidTerm}
 use Rattle.model.specs.declared.Term.{Term}
-use Rattle.model.specs.declared.Line.{Line}
 
 unfoldable pub keepsTerm : Term → Term → Bool
 unfolding sameTerm
 keepsTerm t u = cond (eqb (t .mark) 3) (not (eqb (u .mark) 0)) (sameTerm t u)
 
--- the term in a column
-unfoldable pub termAt : Line → ℕ → Term
-unfolding unusedTerm
-termAt a p = getD (a .terms) p unusedTerm
-
-unfoldable pub goesLine : Line → Line → Bool
-unfolding keepsTerm termAt allBelow
-goesLine a s = eqb (a .table) (s .table) && allBelow 8 (λ p. keepsTerm (termAt a p) (termAt s p))
+-- the line in row a could go to the one in row s, were there no hidden variable in two columns
+unfoldable pub goesRow : List ℕ → List ℕ → List ℕ → ℕ → ℕ → Bool
+unfolding keepsTerm laidTerm allBelow
+goesRow tables marks numbers a s =
+    eqb (getD tables a 0) (getD tables s 0)
+    && allBelow 8 (λ p. keepsTerm (laidTerm marks numbers (a * 8 + p)) (laidTerm marks numbers (s * 8 + p)))
 
 -- column b / 8 of line A has the term of column b % 8 of line B
 pub record SameColumn (A B : TheLine) (b : ℕ) : Type 0 where

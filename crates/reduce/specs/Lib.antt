@@ -1,6 +1,7 @@
 pub mod Agree
 pub mod Columns
 pub mod Extends
+pub mod Laid
 pub mod Left
 pub mod Pairs
 pub mod Showing

@@ -6,18 +6,10 @@ use mathlib.Core.List.{List}
 use Prim.Native.Nat.{ℕ, _+_, _*_, _/_, _%_, _≤_, _<_}
 use lib.Dec.{T}
 use lib.ListN.{length, getD}
-use Rattle.theory.specs.Query.{Line, Query, _∈_}
+use Rattle.theory.specs.Query.{Query}
 use Rattle.words.specs.Bits.{bit, include}
-use Rattle.model.specs.Value.{queryValue}
-use Rattle.model.specs.declared.Query.{Query as QueryValue}
 use Rattle.reduce.specs.Agree.{goes, agree, lineAt}
 use Rattle.reduce.specs.Columns.{SameColumns}
-
--- q holds the query Q, which is within the limits of its shape
-pub record Held (q : QueryValue) (Q : Query) : Type 0 where
-  pub is : q ≡ queryValue Q
-  pub lines : length Q ≤ 8
-  pub columns : (A : Line) → A ∈ Q → length (A .columns) ≤ 8
 
 -- ---- what the code builds
 

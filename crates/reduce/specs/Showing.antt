@@ -2,16 +2,17 @@
 use mathlib.Core.Path.{_≡_}
 use mathlib.Core.Logic.{_↔_}
 use mathlib.Core.Bool.{Bool, cond, _&&_}
-use mathlib.Core.List.{map}
-use Prim.Native.Nat.{ℕ, _<_}
+use mathlib.Core.List.{List, map}
+use Prim.Native.Nat.{ℕ, _*_, _<_}
+use lib.ListN.{length}
 use lib.Dec.{T, eqb, leb}
 use Rattle.theory.specs.Query.{hidden, Query, _∈_}
 use Rattle.theory.specs.Query.{Line as TheLine}
 use Rattle.theory.specs.Executable.Show.{shared}
 use Rattle.words.specs.Bits.{bit, isSet, setBit}
+use Rattle.model.specs.Rows.{termAt, laidTerm}
 use Rattle.model.specs.declared.Term.{Term}
 use Rattle.model.specs.declared.Line.{Line}
-use Rattle.reduce.specs.Columns.{termAt}
 
 -- "variables 0 to 63": the hidden ones of the query
 abbrev pub Small : Query → Type 0
@@ -46,3 +47,8 @@ showValue w t = cond (hiddenTerm t && isSet w (t .number)) (record { mark = 2; n
 unfoldable pub showLine : ℕ → Line → Line
 unfolding showValue
 showLine w l = record { table = l .table; terms = map (showValue w) (l .terms) }
+
+-- showing alters the marks of the lines' shared variables alone
+pub record ShownMarks (n : ℕ) (marks numbers : List ℕ) (w : ℕ) (marks′ : List ℕ) : Type 0 where
+  pub long : length marks′ ≡ 64
+  pub term : (k : ℕ) → k < n * 8 → laidTerm marks′ numbers k ≡ showValue w (laidTerm marks numbers k)

@@ -5,10 +5,10 @@ ghost use Prim.Native.Nat.{_*_, _+_, _≤_, _<_};
 ghost use lib.ListN.{length};
 ghost use Rattle.theory.specs.Query.{Line as TheLine};
 ghost use Rattle.words.proofs.Marks.{Upto};
+ghost use Rattle.model.specs.Rows.{termAt, Row};
 ghost use Rattle.model.specs.Value.{lineValue};
-ghost use Rattle.reduce.specs.Columns.{keepsTerm, termAt, goesLine, SameColumn, SameColumns};
+ghost use Rattle.reduce.specs.Columns.{keepsTerm, goesRow, SameColumn, SameColumns};
 use model::HIDDEN;
-use model::Line;
 use model::Term;
 use model::UNUSED;
 
@@ -22,17 +22,18 @@ fn keeps_term(t: Term, u: Term) -> bool
     model::same_term(t, u)
 }
 
-// Line a could go to line s, were there no hidden variable in two columns.
-pub fn goes_line(a: Line, s: Line) -> bool
-    ensures { λ r. ⌜ r ≡ goesLine a s ⌝ }
+// The line in row a could go to the one in row s, were there no hidden variable in two columns.
+pub fn goes_line(tables: &[u64; 8], marks: &[u64], numbers: &[u64], a: usize, s: usize) -> bool
+    requires { ⌜ (length (now tables) ≡ 8) × (length (now marks) ≡ 64) × (length (now numbers) ≡ 64) × (a < 8) × (s < 8) ⌝ }
+    ensures { λ r. ⌜ r ≡ goesRow (now (tables .entry)) (now (marks .entry)) (now (numbers .entry)) a s ⌝ }
 {
-    if a.table != s.table {
+    if tables[a] != tables[s] {
         return false;
     }
     let mut p = 0;
     while p < 8 {
-        let t = a.terms[p];
-        let u = s.terms[p];
+        let t = model::term_at(marks, numbers, a * 8 + p);
+        let u = model::term_at(marks, numbers, s * 8 + p);
         if !keeps_term(t, u) {
             return false;
         }
@@ -41,10 +42,10 @@ pub fn goes_line(a: Line, s: Line) -> bool
     true
 }
 
-// The word with the columns of line b that have term t, which stands in column p of a line.
-fn with_column(m: u64, p: usize, t: Term, b: Line) -> u64
-    requires { ⌜ p < 8 ⌝ }
-    ensures { λ r. ⌜ ((A B : TheLine) → t ≡ termAt (lineValue A) p → b ≡ lineValue B → length (A .columns) ≤ 8 → length (B .columns) ≤ 8 → Upto (SameColumn A B) (p * 8) m → Upto (SameColumn A B) (p * 8 + 8) r) ⌝ }
+// The word with the columns of row b that have term t, which stands in column p of a line.
+fn with_column(m: u64, p: usize, t: Term, marks: &[u64], numbers: &[u64], b: usize) -> u64
+    requires { ⌜ (p < 8) × (length (now marks) ≡ 64) × (length (now numbers) ≡ 64) × (b < 8) ⌝ }
+    ensures { λ r. ⌜ ((A B : TheLine) → t ≡ termAt (lineValue A) p → Row (now (marks .entry)) (now (numbers .entry)) b (lineValue B) → length (A .columns) ≤ 8 → length (B .columns) ≤ 8 → Upto (SameColumn A B) (p * 8) m → Upto (SameColumn A B) (p * 8 + 8) r) ⌝ }
 {
     if t.mark == UNUSED {
         return m;
@@ -52,7 +53,7 @@ fn with_column(m: u64, p: usize, t: Term, b: Line) -> u64
     let mut r = m;
     let mut q = 0;
     while q < 8 {
-        let u = b.terms[q];
+        let u = model::term_at(marks, numbers, b * 8 + q);
         let same = model::same_term(t, u);
         r = words::set_bit_if(r, (p * 8 + q) as u64, same);
         q += 1;
@@ -60,15 +61,16 @@ fn with_column(m: u64, p: usize, t: Term, b: Line) -> u64
     r
 }
 
-// The columns p and q of lines a and b that have the same term, as bit p * 8 + q.
-pub fn same_columns(a: Line, b: Line) -> u64
-    ensures { λ r. ⌜ ((A B : TheLine) → a ≡ lineValue A → b ≡ lineValue B → length (A .columns) ≤ 8 → length (B .columns) ≤ 8 → SameColumns A B r) ⌝ }
+// The columns p and q of rows a and b that have the same term, as bit p * 8 + q.
+pub fn same_columns(marks: &[u64], numbers: &[u64], a: usize, b: usize) -> u64
+    requires { ⌜ (length (now marks) ≡ 64) × (length (now numbers) ≡ 64) × (a < 8) × (b < 8) ⌝ }
+    ensures { λ r. ⌜ ((A B : TheLine) → Row (now (marks .entry)) (now (numbers .entry)) a (lineValue A) → Row (now (marks .entry)) (now (numbers .entry)) b (lineValue B) → length (A .columns) ≤ 8 → length (B .columns) ≤ 8 → SameColumns A B r) ⌝ }
 {
     let mut m = 0;
     let mut p = 0;
     while p < 8 {
-        let t = a.terms[p];
-        m = with_column(m, p, t, b);
+        let t = model::term_at(marks, numbers, a * 8 + p);
+        m = with_column(m, p, t, marks, numbers, b);
         p += 1;
     }
     m

@@ -2,10 +2,13 @@
 
 mod assignment;
 mod columns;
+mod laying;
 mod pairs;
 mod showing;
 mod taking;
 
+pub use laying::QueryRows;
+pub use laying::query_rows;
 pub use showing::shared;
-pub use showing::show_line;
+pub use showing::show_marks;
 pub use taking::lines_left;

@@ -5,34 +5,38 @@ ghost use mathlib.Core.Bool.{_&&_};
 ghost use Prim.Native.Nat.{_≤_, _<_};
 ghost use lib.ListN.{length};
 ghost use Rattle.theory.specs.Query.{Query as TheQuery};
-ghost use Rattle.reduce.specs.Columns.{goesLine};
-ghost use Rattle.reduce.specs.Pairs.{Held, Goings, Columns, joins, Candidates, PairWord, PairWords};
+ghost use Rattle.reduce.specs.Columns.{goesRow};
+ghost use Rattle.reduce.specs.Laid.{Laid, LaidTables};
+ghost use Rattle.reduce.specs.Pairs.{Goings, Columns, joins, Candidates, PairWord, PairWords};
 use crate::columns::goes_line;
 use crate::columns::same_columns;
-use model::Line;
-use model::Query;
 
-fn can_go(there: bool, a: Line, s: Line) -> bool
-    ensures { λ r. ⌜ r ≡ (there && goesLine a s) ⌝ }
+fn can_go(
+    there: bool,
+    tables: &[u64; 8],
+    marks: &[u64],
+    numbers: &[u64],
+    a: usize,
+    s: usize,
+) -> bool
+    requires { ⌜ (length (now tables) ≡ 8) × (length (now marks) ≡ 64) × (length (now numbers) ≡ 64) × (a < 8) × (s < 8) ⌝ }
+    ensures { λ r. ⌜ r ≡ (there && goesRow (now (tables .entry)) (now (marks .entry)) (now (numbers .entry)) a s) ⌝ }
 {
     if !there {
         return false;
     }
-    goes_line(a, s)
+    goes_line(tables, marks, numbers, a, s)
 }
 
 // The pairs of a line with a line that it could go to.
-pub fn goings(q: Query) -> u64
-    requires { ⌜ q .count ≤ 8 ⌝ }
-    ensures { λ r. ⌜ ((Q : TheQuery) → Held q Q → Goings Q r) ⌝ }
+pub fn goings(n: usize, tables: &[u64; 8], marks: &[u64], numbers: &[u64]) -> u64
+    requires { ⌜ (n ≤ 8) × (length (now tables) ≡ 8) × (length (now marks) ≡ 64) × (length (now numbers) ≡ 64) ⌝ }
+    ensures { λ r. ⌜ ((Q : TheQuery) → length Q ≡ n → LaidTables Q (now (tables .entry)) → Laid Q (now (marks .entry)) (now (numbers .entry)) → Goings Q r) ⌝ }
 {
-    let n = q.count;
     let mut m = 0;
     let mut p = 0;
     while p < n * 8 {
-        let a = q.lines[p / 8];
-        let s = q.lines[p % 8];
-        let on = can_go(p % 8 < n, a, s);
+        let on = can_go(p % 8 < n, tables, marks, numbers, p / 8, p % 8);
         m = words::set_bit_if(m, p as u64, on);
         p += 1;
     }
@@ -40,18 +44,15 @@ pub fn goings(q: Query) -> u64
 }
 
 // For each two lines the columns that have the same term.
-pub fn columns(q: Query) -> [u64; 64]
-    requires { ⌜ q .count ≤ 8 ⌝ }
-    ensures { λ r. ⌜ ((Q : TheQuery) → Held q Q → Columns Q r) ⌝ }
+pub fn columns(n: usize, marks: &[u64], numbers: &[u64]) -> [u64; 64]
+    requires { ⌜ (n ≤ 8) × (length (now marks) ≡ 64) × (length (now numbers) ≡ 64) ⌝ }
+    ensures { λ r. ⌜ ((Q : TheQuery) → length Q ≡ n → Laid Q (now (marks .entry)) (now (numbers .entry)) → Columns Q r) ⌝ }
 {
-    let n = q.count;
     let mut table = [0; 64];
     let mut p = 0;
     while p < n * 8 {
-        let a = q.lines[p / 8];
-        let b = q.lines[p % 8];
         if p % 8 < n {
-            table[p] = same_columns(a, b);
+            table[p] = same_columns(marks, numbers, p / 8, p % 8);
         }
         p += 1;
     }

@@ -2,16 +2,17 @@
 
 ghost use mathlib.Core.Path.{_≡_};
 ghost use mathlib.Core.Bool.{_&&_};
-ghost use Prim.Native.Nat.{_≤_};
+ghost use Prim.Native.Nat.{_≤_, _<_};
+ghost use lib.ListN.{length};
 ghost use Rattle.theory.specs.Query.{Query as TheQuery};
 ghost use Rattle.words.specs.Bits.{isSet};
+ghost use Rattle.model.specs.Rows.{Row};
+ghost use Rattle.model.specs.declared.Line.{Line};
+ghost use Rattle.reduce.specs.Laid.{Laid};
 ghost use Rattle.reduce.specs.Left.{linesAt};
-ghost use Rattle.reduce.specs.Pairs.{Held};
-ghost use Rattle.reduce.specs.Showing.{hiddenTerm, withHidden, HiddenWord, HiddenIf, SharedWord, showValue, showLine};
+ghost use Rattle.reduce.specs.Showing.{hiddenTerm, withHidden, HiddenWord, HiddenIf, SharedWord, showValue, ShownMarks};
 use model::HIDDEN;
 use model::LAST_VARIABLE;
-use model::Line;
-use model::Query;
 use model::SHOWN;
 use model::Term;
 
@@ -35,14 +36,15 @@ fn with_hidden(m: u64, t: Term) -> u64
     m
 }
 
-// The hidden variables of a line, as bits.
-fn hidden_word(l: Line) -> u64
-    ensures { λ r. ⌜ HiddenWord l 8 r ⌝ }
+// The hidden variables of the line in row i, as bits.
+fn hidden_word(marks: &[u64], numbers: &[u64], i: usize) -> u64
+    requires { ⌜ (length (now marks) ≡ 64) × (length (now numbers) ≡ 64) × (i < 8) ⌝ }
+    ensures { λ r. ⌜ ((l : Line) → Row (now (marks .entry)) (now (numbers .entry)) i l → HiddenWord l 8 r) ⌝ }
 {
     let mut m = 0;
     let mut k = 0;
     while k < 8 {
-        let t = l.terms[k];
+        let t = model::term_at(marks, numbers, i * 8 + k);
         m = with_hidden(m, t);
         k += 1;
     }
@@ -50,28 +52,27 @@ fn hidden_word(l: Line) -> u64
 }
 
 // The hidden variables of a line that is there.
-fn hidden_if(there: bool, l: Line) -> u64
-    ensures { λ r. ⌜ HiddenIf there l r ⌝ }
+fn hidden_if(there: bool, marks: &[u64], numbers: &[u64], i: usize) -> u64
+    requires { ⌜ (length (now marks) ≡ 64) × (length (now numbers) ≡ 64) × (i < 8) ⌝ }
+    ensures { λ r. ⌜ ((l : Line) → Row (now (marks .entry)) (now (numbers .entry)) i l → HiddenIf there l r) ⌝ }
 {
     if !there {
         return 0;
     }
-    hidden_word(l)
+    hidden_word(marks, numbers, i)
 }
 
-// The hidden variables that stand in two of the lines left or more, as bits.
-pub fn shared(q: Query, left: u64) -> u64
-    requires { ⌜ q .count ≤ 8 ⌝ }
-    ensures { λ r. ⌜ ((Q : TheQuery) → Held q Q → SharedWord (linesAt left Q) r) ⌝ }
+// The hidden variables that stand in two or more of the lines left of n lines, as bits.
+pub fn shared<'a>(n: usize, marks: &'a [u64], numbers: &'a [u64], left: u64) -> u64
+    requires { ⌜ (n ≤ 8) × (length (now marks) ≡ 64) × (length (now numbers) ≡ 64) ⌝ }
+    ensures { λ r. ⌜ ((Q : TheQuery) → length Q ≡ n → Laid Q (now (marks .entry)) (now (numbers .entry)) → SharedWord (linesAt left Q) r) ⌝ }
 {
-    let n = q.count;
     let mut once = 0;
     let mut twice = 0;
     let mut i = 0;
     while i < n {
-        let l = q.lines[i];
         let there = words::has_bit(left, i as u64);
-        let w = hidden_if(there, l);
+        let w = hidden_if(there, marks, numbers, i);
         twice = twice | (once & w);
         once = once | w;
         i += 1;
@@ -101,18 +102,20 @@ fn show_term(shared: u64, t: Term) -> Term
     t
 }
 
-// The line with its shared variables shown.
-pub fn show_line(shared: u64, l: Line) -> Line
-    ensures { λ r. ⌜ r ≡ showLine shared l ⌝ }
+// The marks of n lines with their shared variables shown; showing alters no number.
+pub fn show_marks(n: usize, marks: [u64; 64], numbers: &[u64], shared: u64) -> [u64; 64]
+    requires { ⌜ (n ≤ 8) × (length (now numbers) ≡ 64) ⌝ }
+    ensures { λ r. ⌜ ShownMarks n marks (now (numbers .entry)) shared r ⌝ }
 {
     if shared == 0 {
-        return l;
+        return marks;
     }
-    let mut r = l;
+    let mut r = marks;
     let mut k = 0;
-    while k < 8 {
-        let t = l.terms[k];
-        r.terms[k] = show_term(shared, t);
+    while k < n * 8 {
+        let t = model::term_at(&marks, numbers, k);
+        let u = show_term(shared, t);
+        r[k] = u.mark;
         k += 1;
     }
     r

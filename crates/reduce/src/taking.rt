@@ -5,14 +5,14 @@ ghost use Prim.Native.Nat.{_^_, _≤_, _<_};
 ghost use lib.ListN.{length};
 ghost use Rattle.theory.specs.Query.{Query as TheQuery};
 ghost use Rattle.theory.specs.Executable.Reduce.{reduce};
-ghost use Rattle.reduce.specs.Pairs.{Held, Goings, Tabled};
+ghost use Rattle.reduce.specs.Laid.{Laid, LaidTables};
+ghost use Rattle.reduce.specs.Pairs.{Goings, Tabled};
 ghost use Rattle.reduce.specs.Left.{linesAt, Folds};
 use crate::assignment::search;
 use crate::pairs::candidates;
 use crate::pairs::columns;
 use crate::pairs::goings;
 use crate::pairs::pair_words;
-use model::Query;
 
 // The pairs of a line with itself, and the others.
 const STAYING: u64 = 0x8040_2010_0804_0201;
@@ -57,26 +57,25 @@ fn taken(n: usize, rows: u64, candidates: u64, table: &[u64; 64]) -> u64
 }
 
 // The lines left, where some line could go to another.
-fn searched(q: Query, goings: u64) -> u64
-    requires { ⌜ q .count ≤ 8 ⌝ }
-    ensures { λ r. ⌜ ((Q : TheQuery) → Held q Q → Goings Q goings → linesAt r Q ≡ reduce Q) ⌝ }
+fn searched(n: usize, marks: &[u64], numbers: &[u64], goings: u64) -> u64
+    requires { ⌜ (n ≤ 8) × (length (now marks) ≡ 64) × (length (now numbers) ≡ 64) ⌝ }
+    ensures { λ r. ⌜ ((Q : TheQuery) → length Q ≡ n → Laid Q (now (marks .entry)) (now (numbers .entry)) → Goings Q goings → linesAt r Q ≡ reduce Q) ⌝ }
 {
-    let n = q.count;
-    let same = columns(q);
+    let same = columns(n, marks, numbers);
     let c = candidates(&same, goings);
     let table = pair_words(&same, c);
     let rows = fold(n, c, &table);
     taken(n, rows, c, &table)
 }
 
-// The lines left once each that may go is taken out, line i at bit i.
-pub fn lines_left(q: Query) -> u64
-    requires { ⌜ q .count ≤ 8 ⌝ }
-    ensures { λ r. ⌜ ((Q : TheQuery) → Held q Q → linesAt r Q ≡ reduce Q) ⌝ }
+// The lines left of n lines once each that may go is taken out, line i at bit i.
+pub fn lines_left<'a>(n: usize, tables: &'a [u64; 8], marks: &'a [u64], numbers: &'a [u64]) -> u64
+    requires { ⌜ (n ≤ 8) × (length (now tables) ≡ 8) × (length (now marks) ≡ 64) × (length (now numbers) ≡ 64) ⌝ }
+    ensures { λ r. ⌜ ((Q : TheQuery) → length Q ≡ n → LaidTables Q (now (tables .entry)) → Laid Q (now (marks .entry)) (now (numbers .entry)) → linesAt r Q ≡ reduce Q) ⌝ }
 {
-    let g = goings(q);
+    let g = goings(n, tables, marks, numbers);
     if !words::meets(g, MOVING) {
-        return words::low_bits(q.count as u64);
+        return words::low_bits(n as u64);
     }
-    searched(q, g)
+    searched(n, marks, numbers, g)
 }

@@ -4,7 +4,7 @@ ghost use mathlib.Core.Path.{_≡_};
 ghost use mathlib.Core.List.{_++_};
 ghost use Prim.Native.Nat.{_+_, _≤_};
 ghost use lib.ListN.{length, take};
-ghost use Rattle.label.specs.Labelled.{TableMasks};
+ghost use Rattle.label.specs.Labelled.{TableMasks, ViewsLaid};
 ghost use Rattle.policy.specs.Text.{Declared};
 ghost use Rattle.labels.specs.Text.{LoadedTo, SomePolicy};
 ghost use Rattle.desk.specs.Reply.{Word, said};
@@ -59,15 +59,17 @@ fn put_reply(out: &mut [u8], at: usize, query: u64, reply: Reply, left: u64) -> 
 
 // The queries, each in the session that the one before it left. There are 5,463 of them at most, and their lines take 502,596
 // bytes at most.
-fn decide_all(
+fn decide_all<'a>(
     p: Policy,
     masks: &[u64; 17],
+    marks: &'a [u64; 256],
+    numbers: &'a [u64; 256],
     opened: Session,
     queries: &[u8],
     out: &mut [u8],
     start: usize,
 ) -> usize
-    requires { ⌜ SomePolicy p × TableMasks p (now masks) × (length (now queries) ≤ 65536) × (start + 502596 ≤ length (now out)) ⌝ }
+    requires { ⌜ SomePolicy p × TableMasks p (now masks) × ViewsLaid p (now marks) (now numbers) × (length (now queries) ≤ 65536) × (start + 502596 ≤ length (now out)) ⌝ }
     ensures { λ r. ⌜ ((d : Declared) → LoadedTo p d → take r (now (out .exit)) ≡ take start (now (out .entry)) ++ linesFrom d (opened .mask) 1 (cut (now (queries .entry)))) ⌝ }
     ensures { λ r. ⌜ (length (now (out .exit)) ≡ length (now (out .entry))) × (r ≤ start + 502596) ⌝ }
 {
@@ -78,7 +80,7 @@ fn decide_all(
     while at < queries.len() {
         let rest = &queries[at..];
         let n = cutting::next_cut(rest);
-        let d = desk::decide_loaded(p, masks, s, &rest[..n]);
+        let d = desk::decide_loaded(p, masks, marks, numbers, s, &rest[..n]);
         s = d.session;
         let reply = d.reply;
         to = put_reply(out, to, query, reply, words::ones(s.mask));
@@ -101,10 +103,20 @@ pub fn run(policy: &[u8], queries: &[u8], out: &mut [u8]) -> usize
         Outcome::Accepted => {
             let p = l.policy;
             let masks = label::table_views(p);
+            let rows = label::view_rows(p);
             let opened = Session {
                 mask: words::low_bits(p.partition_count as u64),
             };
-            decide_all(p, &masks, opened, queries, out, at)
+            decide_all(
+                p,
+                &masks,
+                &rows.marks,
+                &rows.numbers,
+                opened,
+                queries,
+                out,
+                at,
+            )
         }
     }
 }

@@ -168,7 +168,7 @@ fn unused_term(t: Term) -> bool
 }
 
 // The word with the bit of the term's number set, where the term has the mark.
-fn with_mark(mark: u8, m: u64, t: Term) -> u64
+fn with_mark(mark: u64, m: u64, t: Term) -> u64
     requires { ⌜ (t .mark ≡ mark → t .number < 64) ⌝ }
     ensures { λ r. ⌜ (t .mark ≡ mark → r ≡ setBit m (t .number)) ⌝ }
     ensures { λ r. ⌜ ((t .mark ≡ mark → ⊥) → r ≡ m) ⌝ }

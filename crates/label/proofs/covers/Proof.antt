@@ -1,9 +1,9 @@
+-- `label::covers`: the rules hold at the pairs of columns before `p` and `q`.
 use mathlib.Core.Path.{_≡_, refl, sym, _∙_}
 use mathlib.Core.Bool.{true}
 use Prim.Native.Nat.{_-_, _≤_}
 use native.Mathlib.Omega.{arith}
 use borrow.Author.Tests.{not-true, not-false}
-use Rattle.model.specs.Value.{unusedTerm}
 use Rattle.theory.specs.Query.{Line as TheLine}
 use Rattle.theory.specs.Cover.{at}
 use Rattle.label.proofs.Columns.{Wide, wide, rule, Passed, column, passed-none, passed-one, passed-row, passed-done, broken}
@@ -11,66 +11,85 @@ use Rattle.label.proofs.covers.Statement.{statement}
 use Rattle.label.proofs.covers.Tie as tie
 
 abbrev Inv-loop : tie.InvT-loop
-Inv-loop width v a ok₀ p x y q₀ ok q = (ok ≡ true) × (q ≤ width) × Passed width v a p q
+Inv-loop width view-marks view-numbers v marks numbers a ok₀ p x y q₀ ok q =
+    (ok ≡ true) × (q ≤ width) × Passed width (Wide width view-marks view-numbers v) (Wide width marks numbers a) p q
 
 abbrev μ-loop : tie.MeasureT-loop
-μ-loop width v a ok₀ p x y q₀ ok q = width - q
+μ-loop width view-marks view-numbers v marks numbers a ok₀ p x y q₀ ok q = width - q
 
 abbrev Inv-columns : tie.InvT-columns
-Inv-columns width v a ok₀ p₀ ok p = (ok ≡ true) × (p ≤ width) × Passed width v a p 0
+Inv-columns width view-marks view-numbers v marks numbers a ok₀ p₀ ok p =
+    (ok ≡ true) × (p ≤ width) × Passed width (Wide width view-marks view-numbers v) (Wide width marks numbers a) p 0
 
 abbrev μ-columns : tie.MeasureT-columns
-μ-columns width v a ok₀ p₀ ok p = width - p
+μ-columns width view-marks view-numbers v marks numbers a ok₀ p₀ ok p = width - p
 
 columns-holds : tie.Need-columns-holds Inv-loop μ-loop Inv-columns μ-columns
 columns-holds c = (refl, omega arith, passed-none)
 
-mul-x : tie.Need-mul-x Inv-loop μ-loop Inv-columns μ-columns
-mul-x c = omega arith
+mul-term-at : tie.Need-mul-term-at Inv-loop μ-loop Inv-columns μ-columns
+mul-term-at c = omega arith
 
-element-copy-out-x : tie.Need-element-copy-out-x Inv-loop μ-loop Inv-columns μ-columns
-element-copy-out-x c = omega arith
+add-term-at : tie.Need-add-term-at Inv-loop μ-loop Inv-columns μ-columns
+add-term-at c = omega arith
 
-mul-y : tie.Need-mul-y Inv-loop μ-loop Inv-columns μ-columns
-mul-y c = omega arith
+term-at-requires : tie.Need-term-at-requires Inv-loop μ-loop Inv-columns μ-columns
+term-at-requires c κs = (omega arith, omega arith)
 
-element-copy-out-y : tie.Need-element-copy-out-y Inv-loop μ-loop Inv-columns μ-columns
-element-copy-out-y c = omega arith
+mul-term-at-2 : tie.Need-mul-term-at-2 Inv-loop μ-loop Inv-columns μ-columns
+mul-term-at-2 c = omega arith
+
+add-term-at-2 : tie.Need-add-term-at-2 Inv-loop μ-loop Inv-columns μ-columns
+add-term-at-2 c = omega arith
+
+term-at-requires-2 : tie.Need-term-at-requires-2 Inv-loop μ-loop Inv-columns μ-columns
+term-at-requires-2 c κs = (omega arith, omega arith)
 
 loop-holds : tie.Need-loop-holds Inv-loop μ-loop Inv-columns μ-columns
 loop-holds c =
     let inv = c .before .before .before .columns .inv in (inv .0, omega arith, inv .2)
 
-mul-xq : tie.Need-mul-xq Inv-loop μ-loop Inv-columns μ-columns
-mul-xq c = omega arith
+mul-term-at-3 : tie.Need-mul-term-at-3 Inv-loop μ-loop Inv-columns μ-columns
+mul-term-at-3 c = omega arith
 
-element-copy-out-xq : tie.Need-element-copy-out-xq Inv-loop μ-loop Inv-columns μ-columns
-element-copy-out-xq c = omega arith
+add-term-at-3 : tie.Need-add-term-at-3 Inv-loop μ-loop Inv-columns μ-columns
+add-term-at-3 c = omega arith
 
-mul-yq : tie.Need-mul-yq Inv-loop μ-loop Inv-columns μ-columns
-mul-yq c = omega arith
+term-at-requires-3 : tie.Need-term-at-requires-3 Inv-loop μ-loop Inv-columns μ-columns
+term-at-requires-3 c κs = (omega arith, omega arith)
 
-element-copy-out-yq : tie.Need-element-copy-out-yq Inv-loop μ-loop Inv-columns μ-columns
-element-copy-out-yq c = omega arith
+mul-term-at-4 : tie.Need-mul-term-at-4 Inv-loop μ-loop Inv-columns μ-columns
+mul-term-at-4 c = omega arith
+
+add-term-at-4 : tie.Need-add-term-at-4 Inv-loop μ-loop Inv-columns μ-columns
+add-term-at-4 c = omega arith
+
+term-at-requires-4 : tie.Need-term-at-requires-4 Inv-loop μ-loop Inv-columns μ-columns
+term-at-requires-4 c κs = (omega arith, omega arith)
 
 obeys-requires : tie.Need-obeys-requires Inv-loop μ-loop Inv-columns μ-columns
 obeys-requires c κs = tt
 
 -- what the rules answer at the two columns
 answer : (c : tie.After-obeys Inv-loop μ-loop Inv-columns μ-columns) (view line : TheLine)
-    → (let a = c .before .before .before .before .before .before .before .before .before .args in
-    let p = c .before .before .before .before .before .before .before .before .columns .p in
-    let q = c .before .before .before .before .loop .q in
-    Wide (a .width) (a .t2) view → Wide (a .width) (a .t3) line → c .obeys .result ≡ rule view line p q)
-unfolding unusedTerm
+    → (let inner = c .before .before .before in
+    let outer = inner .before .before .before .before in
+    let r = outer .before .before .before .before .before .before .args in
+    Wide (r .width) (r .view-marks .now) (r .view-numbers .now) (r .v) view → Wide (r .width) (r .marks .now) (r .numbers .now) (r .a) line
+    → c .obeys .result ≡ rule view line (outer .before .columns .p) (inner .before .loop .q))
 answer c view line v a =
-    let start = c .before .before .before .before .before .before .before .before .before in
-    let p = c .before .before .before .before .before .before .before .before .columns .p in
-    let q = c .before .before .before .before .loop .q in
-    let p-in = c .before .before .before .before .before .before .before .columns-test .taken in
-    let q-in = c .before .before .before .loop-test .taken in
-    c .obeys .ensures (at view p) (at view q) (at line p) (at line q) (column (start .pre) v p p-in)
-    (column (start .pre) v q q-in) (column (start .pre) a p p-in) (column (start .pre) a q q-in)
+    let inner = c .before .before .before in
+    let outer = inner .before .before .before .before in
+    let few = outer .before .before .before .before .before .before .pre .0 in
+    let p = outer .before .columns .p in
+    let q = inner .before .loop .q in
+    let p-in = outer .columns-test .taken in
+    let q-in = inner .loop-test .taken in
+    let x = inner .before .before .before .term-at .ensures ∙ column few v p p-in in
+    let y = inner .before .before .term-at2 .ensures ∙ column few a p p-in in
+    let xq = c .before .before .term-at3 .ensures ∙ column few v q q-in in
+    let yq = c .before .term-at4 .ensures ∙ column few a q q-in in
+    c .obeys .ensures (at view p) (at view q) (at line p) (at line q) x xq y yq
 
 add-q : tie.Need-add-q Inv-loop μ-loop Inv-columns μ-columns
 add-q c = omega arith
@@ -118,15 +137,19 @@ covers-spec =
     Inv-columns
     μ-columns
     columns-holds
-    mul-x
-    element-copy-out-x
-    mul-y
-    element-copy-out-y
+    mul-term-at
+    add-term-at
+    term-at-requires
+    mul-term-at-2
+    add-term-at-2
+    term-at-requires-2
     loop-holds
-    mul-xq
-    element-copy-out-xq
-    mul-yq
-    element-copy-out-yq
+    mul-term-at-3
+    add-term-at-3
+    term-at-requires-3
+    mul-term-at-4
+    add-term-at-4
+    term-at-requires-4
     obeys-requires
     add-q
     loop-less

@@ -1,3 +1,4 @@
+-- `label::label_line`: the word has the covering views among those taken from the mask.
 use mathlib.Core.Path.{_∙_}
 use mathlib.Core.List.{List}
 use Prim.Native.Nat.{_^_, _<_}
@@ -13,16 +14,17 @@ use Rattle.label.proofs.label_line.Statement.{statement}
 use Rattle.label.proofs.label_line.Tie as tie
 
 abbrev Inv-loop : tie.InvT-loop
-Inv-loop mask width a p word₀ left₀ word left =
+Inv-loop view-marks view-numbers mask width table marks numbers a word₀ left₀ word left =
     (left < 2 ^ 32)
     × (word < 2 ^ 32)
-    × ((views : List TheLine) (A : TheLine) → Labelled p mask width a views A → Picked (Covering views A) mask left word)
+    × ((views : List TheLine) (A : TheLine) → Labelled view-marks view-numbers mask width table marks numbers a views A
+    → Picked (Covering views A) mask left word)
 
 abbrev μ-loop : tie.MeasureT-loop
-μ-loop mask width a p word₀ left₀ word left = left
+μ-loop view-marks view-numbers mask width table marks numbers a word₀ left₀ word left = left
 
 loop-holds : tie.Need-loop-holds Inv-loop μ-loop
-loop-holds c = (c .pre .0, omega arith, λ views A l. picked-none)
+loop-holds c = (c .pre .4, omega arith, λ views A l. picked-none)
 
 least-requires : tie.Need-least-requires Inv-loop μ-loop
 least-requires c κs = omega arith
@@ -31,17 +33,13 @@ least-requires c κs = omega arith
 small : (c : tie.After-least Inv-loop μ-loop) → c .least .result < 32
 small c = bit-within 32 _ (c .before .before .loop .inv .0) (c .least .ensures .set)
 
-mul-v : tie.Need-mul-v Inv-loop μ-loop
-mul-v c = omega (arith, small c)
-
-element-copy-out-v : tie.Need-element-copy-out-v Inv-loop μ-loop
-element-copy-out-v c = omega (arith, small c)
-
 covers-requires : tie.Need-covers-requires Inv-loop μ-loop
-covers-requires c κs = c .before .before .before .before .pre .1
+covers-requires c κs =
+    let k = small (c .before .before .before .before) in
+    (c .before .before .before .before .before .before .before .pre .5, omega (arith, k), omega (arith, k), omega arith, omega arith)
 
 set-bit-if-requires : tie.Need-set-bit-if-requires Inv-loop μ-loop
-set-bit-if-requires c κs = omega (arith, small (c .before .before))
+set-bit-if-requires c κs = omega (arith, small (c .before .before .before .before .before))
 
 drop-least-requires : tie.Need-drop-least-requires Inv-loop μ-loop
 drop-least-requires c κs = omega arith
@@ -51,8 +49,8 @@ loop-less c = c .drop-least .ensures .less
 
 loop-again : tie.Need-loop-again Inv-loop μ-loop
 loop-again c =
-    let at = c .before .before .before .before .before .before .loop in
-    let found = c .before .before .before .before in
+    let at = c .before .before .before .before .before .before .before .before .before .loop in
+    let found = c .before .before .before .before .before .before .before in
     let answer = c .before .before .covers in (
       omega (arith, c .drop-least .ensures .less),
       rw (c .before .set-bit-if .ensures) (set-where-below 32 (at .word) _ (answer .result) (at .inv .1) (small found)),
@@ -65,7 +63,7 @@ loop-again c =
     )
 
 join-requires : tie.Need-join-requires Inv-loop μ-loop
-join-requires c κs = (c .before .before .pre .2, omega (arith, c .before .loop .inv .1))
+join-requires c κs = (c .before .before .pre .6, omega (arith, c .before .loop .inv .1))
 
 returns : tie.Need-returns Inv-loop μ-loop
 returns c views A l =
@@ -80,8 +78,6 @@ label-line-spec =
     μ-loop
     loop-holds
     least-requires
-    mul-v
-    element-copy-out-v
     covers-requires
     set-bit-if-requires
     drop-least-requires

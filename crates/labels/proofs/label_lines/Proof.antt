@@ -2,9 +2,9 @@
 use mathlib.Core.Path.{_≡_, sym, _∙_}
 use mathlib.Core.Bool.{true}
 use mathlib.Core.Logic.{⊎-elim}
-use Prim.Native.Nat.{_-_, _≤_, _<_}
+use Prim.Native.Nat.{ℕ, _-_, _≤_, _<_}
 use native.Mathlib.Omega.{arith}
-use lib.ListN.{take}
+use lib.ListN.{length, take}
 use Rattle.theory.specs.Query.{Query, over}
 use Rattle.theory.specs.Executable.Label.{label}
 use Rattle.theory.specs.Executable.Show.{showTerm}
@@ -13,58 +13,55 @@ use Rattle.model.specs.Value.{pad}
 use Rattle.policy.specs.Text.{Declared}
 use Rattle.reduce.specs.Left.{pick, linesAt}
 use Rattle.reduce.specs.Showing.{SharedWord}
-use Rattle.reduce.proofs.Lines.{held-count}
-use Rattle.labels.specs.Posed.{Posed}
+use Rattle.labels.specs.Posed.{Ready, Rows}
 use Rattle.labels.proofs.Lines.{some-line, shown-line, Written, written-none, written-more, written-same, written-all}
 use Rattle.labels.proofs.label_lines.Statement.{statement}
 use Rattle.labels.proofs.label_lines.Tie as tie
 
 abbrev Inv-loop : tie.InvT-loop
-Inv-loop p masks left shared q n words₀ count₀ i₀ words count i =
+Inv-loop tables masks view-marks view-numbers n line-tables marks numbers left words₀ count₀ i₀ words count i =
     (i ≤ n)
     × (count ≤ i)
-    × ((d : Declared) (Q : Query) → Posed p q d Q → SharedWord (linesAt left Q) shared
+    × ((d : Declared) (Q : Query) (w : ℕ) → Ready d tables masks view-marks view-numbers → length Q ≡ n
+    → Rows d Q w line-tables marks numbers → SharedWord (linesAt left Q) w
     → Written (λ A. label (d .views) (over (showTerm (linesAt left Q)) A)) (pick (isSet left) (take i Q)) words count)
 
 abbrev μ-loop : tie.MeasureT-loop
-μ-loop p masks left shared q n words₀ count₀ i₀ words count i = n - i
+μ-loop tables masks view-marks view-numbers n line-tables marks numbers left words₀ count₀ i₀ words count i = n - i
 
 loop-holds : tie.Need-loop-holds Inv-loop μ-loop
 unfolding pick pad
-loop-holds c = (omega arith, omega arith, λ d Q g w. written-none _)
+loop-holds c = (omega arith, omega arith, λ d Q w ready e rows word. written-none _)
 
 -- the query that was given has at most eight lines
 room : (c : tie.In-loop Inv-loop μ-loop) → c .before .loop .i < 8
-room c = let g = c .before .before .pre .0 .2 .query in omega (arith, c .loop-test .taken, held-count g, g .lines)
+room c = let (d, Q, w, ready, e, rows) = c .before .before .pre .0 in omega (arith, c .loop-test .taken, e, rows .lines)
 
 has-bit-requires : tie.Need-has-bit-requires Inv-loop μ-loop
 has-bit-requires c κs = omega (arith, room c)
 
-mul-l : tie.Need-mul-l Inv-loop μ-loop
-mul-l c = omega (arith, room (c .before .before))
+mul-table : tie.Need-mul-table Inv-loop μ-loop
+mul-table c = omega (arith, room (c .before .before))
 
-element-copy-out-l : tie.Need-element-copy-out-l Inv-loop μ-loop
-element-copy-out-l c = omega (arith, room (c .before .before))
-
-show-line-requires : tie.Need-show-line-requires Inv-loop μ-loop
-show-line-requires c κs = tt
+element-copy-out-table : tie.Need-element-copy-out-table Inv-loop μ-loop
+element-copy-out-table c = omega (arith, room (c .before .before))
 
 label-of-requires : tie.Need-label-of-requires Inv-loop μ-loop
 label-of-requires c κs =
-    let at = c .before .before .before .before in
+    let at = c .before .before .before in
     let s = at .before .before in
-    let g = s .pre .0 .2 in
-    let h = rw (held-count (g .query)) at (at .loop-test .taken) in
-    ((s .pre .0 .0, _, some-line g (s .args .shared) (at .before .loop .i) h (c .show-line .result) _ (c .show-line .ensures)), s .pre .1)
+    let (d, Q, w, ready, e, rows) = s .pre .0 in
+    let h : at .before .loop .i < length Q = rw e (at .loop-test .taken) in
+    ((d, _, ready, some-line rows (at .before .loop .i) h), s .pre .2, s .pre .3, omega (arith, room at))
 
 mul-words : tie.Need-mul-words Inv-loop μ-loop
-mul-words c = omega (arith, room (c .before .before .before .before .before))
+mul-words c = omega (arith, room (c .before .before .before .before))
 
 array-write-words : tie.Need-array-write-words Inv-loop μ-loop
-array-write-words c = omega (arith, room (c .before .before .before .before .before))
+array-write-words c = omega (arith, room (c .before .before .before .before))
 
 add-count : tie.Need-add-count Inv-loop μ-loop
-add-count c = omega (arith, room (c .before .before .before .before .before))
+add-count c = omega (arith, room (c .before .before .before .before))
 
 add-i : tie.Need-add-i Inv-loop μ-loop
 add-i c = omega (arith, room (c .before .before))
@@ -77,23 +74,23 @@ loop-again c =
     let at = c .before .before .before .loop in
     let args = c .before .before .before .before .args in (
       omega arith,
-      ⊎-elim (λ w. rw (w .5) (omega arith)) (λ w. rw (w .2) (omega arith)) (c .if1 .came),
-      λ d Q g word.
-          let h = rw (held-count (g .query)) at (c .before .before .loop-test .taken) in
-          let v = at .inv .2 d Q g word in
+      ⊎-elim (λ x. rw (x .4) (omega arith)) (λ x. rw (x .2) (omega arith)) (c .if1 .came),
+      λ d Q w ready e rows word.
+          let h : at .i < length Q = rw e (c .before .before .loop-test .taken) in
+          let v = at .inv .2 d Q w ready e rows word in
           ⊎-elim
-          (λ w.
-          let e : isSet (args .left) (at .i) ≡ true = sym (c .before .has-bit .ensures) ∙ w .0 .taken in
-          let l = shown-line g (args .shared) (at .i) h (w .2 .result) _ (w .2 .ensures) (args .left) word e in
-          rw (w .4, w .5, w .3 .ensures d _ l) (written-more (args .left) Q (at .i) v h e (omega (arith, room (c .before .before)))))
-          (λ w. rw (w .1, w .2) (written-same (args .left) Q (at .i) v h (sym (c .before .has-bit .ensures) ∙ w .0 .left)))
+          (λ x.
+          let t : isSet (args .left) (at .i) ≡ true = sym (c .before .has-bit .ensures) ∙ x .0 .taken in
+          let l = shown-line rows (at .i) h (args .left) word t in
+          rw (x .3, x .4, x .2 .ensures d _ ready l) (written-more (args .left) Q (at .i) v h t (omega (arith, room (c .before .before)))))
+          (λ x. rw (x .1, x .2) (written-same (args .left) Q (at .i) v h (sym (c .before .has-bit .ensures) ∙ x .0 .left)))
           (c .if1 .came),
     )
 
 returns : tie.Need-returns Inv-loop μ-loop
-returns c = λ d Q g word.
-    written-all (d .views) (c .before .before .args .left) Q (c .before .loop .i) _ _
-    (rw (← held-count (g .query)) (c .loop-test .left)) (c .before .loop .inv .2 d Q g word)
+returns c = λ d Q w ready e rows word.
+    written-all (d .views) (c .before .before .args .left) Q (c .before .loop .i) _ _ (rw e (c .loop-test .left))
+    (c .before .loop .inv .2 d Q w ready e rows word)
 
 pub label-lines-spec : {M : Type 1} → statement M
 label-lines-spec =
@@ -103,9 +100,8 @@ label-lines-spec =
     μ-loop
     loop-holds
     has-bit-requires
-    mul-l
-    element-copy-out-l
-    show-line-requires
+    mul-table
+    element-copy-out-table
     label-of-requires
     mul-words
     array-write-words

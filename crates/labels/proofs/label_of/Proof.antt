@@ -1,32 +1,40 @@
 -- `labels::label_of`: the width and the mask are those of the line's table.
 use native.Mathlib.Omega.{arith}
-use Rattle.labels.proofs.Lines.{first-table, last-table, tables-are, narrow, line-labelled}
+use Rattle.labels.proofs.Lines.{first-table, last-table, narrow, line-labelled}
 use Rattle.labels.proofs.label_of.Statement.{statement}
 use Rattle.labels.proofs.label_of.Tie as tie
 
 width-of-requires : tie.Need-width-of-requires
-width-of-requires c κs = (first-table (c .before .pre .0 .2), last-table (c .before .pre .0 .2))
+width-of-requires c κs =
+    let (d, A, ready, line) = c .pre .0 in (first-table ready line, last-table ready line)
 
 mul-mask : tie.Need-mul-mask
-mul-mask c = omega (arith, last-table (c .before .before .pre .0 .2))
+mul-mask c =
+    let (d, A, ready, line) = c .before .pre .0 in omega (arith, last-table ready line)
 
 element-copy-out-mask : tie.Need-element-copy-out-mask
-element-copy-out-mask c = omega (arith, last-table (c .before .before .pre .0 .2))
+element-copy-out-mask c =
+    let (d, A, ready, line) = c .before .pre .0 in omega (arith, last-table ready line)
 
 label-line-requires : tie.Need-label-line-requires
 label-line-requires c κs =
-    let s = c .before .before .before in
-    let l = s .pre .0 .2 in (
-      s .pre .1 .mask _ (last-table l) .below,
-      rw (c .before .width-of .ensures (s .pre .0 .0 .widths) (tables-are l)) (narrow l),
-      omega (arith, last-table l),
+    let s = c .before .before in
+    let (d, A, ready, line) = s .pre .0 in
+    let last = last-table ready line in (
+      ready .marksLong,
+      ready .numbersLong,
+      s .pre .1,
+      s .pre .2,
+      ready .below _ last,
+      rw (c .before .width-of .ensures (d .widths) (ready .tablesAre)) (narrow ready line),
+      omega (arith, last),
+      s .pre .3,
     )
 
 returns : tie.Need-returns
-returns c = λ d A l.
-    let s = c .before .before .before .before in
+returns c = λ d A ready line.
     c .label-line .ensures (d .views) A
-    (line-labelled l _ _ (s .pre .1 .mask _ (last-table l)) (c .before .before .width-of .ensures (d .widths) (tables-are l)))
+    (line-labelled ready line _ (c .before .before .width-of .ensures (d .widths) (ready .tablesAre)))
 
 pub label-of-spec : {M : Type 1} → statement M
 label-of-spec =

@@ -2,7 +2,7 @@ use mathlib.Core.Path.{ap, ap₂, sym, _∙_}
 use borrow.Author.Needs.{needs}
 use Rattle.query.specs.Text.{read}
 use Rattle.labels.specs.Text.{askedValue}
-use Rattle.labels.proofs.Posing.{tables-of, posed}
+use Rattle.labels.proofs.Posing.{posed}
 use Rattle.labels.proofs.Readings.{read-accepted, read-refused}
 use Rattle.labels.proofs.label_text.Statement.{statement}
 use Rattle.labels.proofs.label_text.Tie as tie
@@ -15,11 +15,10 @@ enum-told c = search needs
 
 label-query-requires : tie.Need-label-query-requires
 label-query-requires c κs =
-    let s = c .before .before .before .before .before .before in
-    let (d, l) = s .pre .0 in
+    let (d, ready) = c .before .before .before .before .before .pre in
     let r = c .before .before .before .read-query in
-    let (Q, e, o, q) = read-accepted (read (d .widths) _) (r .result) (r .ensures (d .widths) (tables-of l)) (c .before .before .match .keys1) in
-    ((d, Q, posed d _ Q (l .good) e (l .policy) q), s .pre .1)
+    let (Q, e, o, q) = read-accepted (read (d .widths) _) (r .result) (r .ensures (d .widths) (ready .tablesAre)) (c .before .before .match .keys1) in
+    (d, Q, ready, posed d _ Q (ready .good) e q)
 
 enum-told-2 : tie.Need-enum-told-2
 enum-told-2 c = search needs
@@ -29,16 +28,17 @@ no-labels-requires c κs = search needs
 
 returns : tie.Need-returns
 unfolding askedValue
-returns c = λ d l.
+returns c = λ d ready.
     let r = c .before .before .before .before .read-query in
-    let (Q, e, o, q) = read-accepted (read (d .widths) _) (r .result) (r .ensures (d .widths) (tables-of l)) (c .before .before .before .match .keys1) in
-    ap₂ (λ x y. record { outcome = x; labels = y }) o (c .label-query .ensures d Q (posed d _ Q (l .good) e (l .policy) q)) ∙ ap (askedValue (d .views)) (sym e)
+    let (Q, e, o, q) = read-accepted (read (d .widths) _) (r .result) (r .ensures (d .widths) (ready .tablesAre)) (c .before .before .before .match .keys1) in
+    ap₂ (λ x y. record { outcome = x; labels = y }) o (c .label-query .ensures d Q ready (posed d _ Q (ready .good) e q))
+    ∙ ap (askedValue (d .views)) (sym e)
 
 returns-2 : tie.Need-returns-2
 unfolding askedValue
-returns-2 c = λ d l.
+returns-2 c = λ d ready.
     let r = c .before .before .before .read-query in
-    let (n, k, e, o) = read-refused (read (d .widths) _) (r .result) (r .ensures (d .widths) (tables-of l)) (c .before .before .match .keys2) in
+    let (n, k, e, o) = read-refused (read (d .widths) _) (r .result) (r .ensures (d .widths) (ready .tablesAre)) (c .before .before .match .keys2) in
     ap₂ (λ x y. record { outcome = x; labels = y }) o (c .no-labels .ensures) ∙ ap (askedValue (d .views)) (sym e)
 
 pub label-text-spec : {M : Type 1} → statement M

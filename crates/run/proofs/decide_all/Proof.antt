@@ -13,10 +13,10 @@ use Rattle.run.proofs.decide_all.Statement.{statement}
 use Rattle.run.proofs.decide_all.Tie as tie
 
 abbrev Inv-loop : tie.InvT-loop
-Inv-loop p masks queries out₀ start s₀ query₀ at₀ to₀ out s query at to = Told p queries out₀ start (s₀ .mask) out (s .mask) query at to
+Inv-loop p masks marks numbers queries out₀ start s₀ query₀ at₀ to₀ out s query at to = Told p queries out₀ start (s₀ .mask) out (s .mask) query at to
 
 abbrev μ-loop : tie.MeasureT-loop
-μ-loop p masks queries out₀ start s₀ query₀ at₀ to₀ out s query at to = length queries - at
+μ-loop p masks marks numbers queries out₀ start s₀ query₀ at₀ to₀ out s query at to = length queries - at
 
 -- ---- the query text
 
@@ -40,13 +40,13 @@ few : (c : tie.After-next-cut Inv-loop μ-loop) → turn c .loop .query ≤ 5463
 few c =
     let s = turn c .before .before .before in
     let h : turn c .loop .at < length (text c) = c .before .before .loop-test .taken in
-    let n : length (text c) ≤ 65536 = s .pre .2 in
+    let n : length (text c) ≤ 65536 = s .pre .3 in
     omega (arith, turn c .loop .inv .few)
 
 room : (c : tie.After-next-cut Inv-loop μ-loop) → turn c .loop .to + 92 ≤ length (turn c .loop .out)
 room c =
     let s = turn c .before .before .before in
-    let h : s .args .start + 502596 ≤ length (s .args .out .now) = s .pre .3 in
+    let h : s .args .start + 502596 ≤ length (s .args .out .now) = s .pre .4 in
     let z : length (turn c .loop .out) ≡ length (s .args .out .now) = turn c .loop .inv .size in
     omega (arith, turn c .loop .inv .room, few c)
 
@@ -76,7 +76,7 @@ slice-aggregate-decide-loaded c =
     simp (length-take, length-drop) (omega (arith, cut-at d .within, length-drop (turn d .loop .at) (text d)))
 
 decide-loaded-requires : tie.Need-decide-loaded-requires Inv-loop μ-loop
-decide-loaded-requires c κs = let s = turn (c .before) .before .before .before in (s .pre .0, s .pre .1)
+decide-loaded-requires c κs = let s = turn (c .before) .before .before .before in (s .pre .0, s .pre .1, s .pre .2)
 
 ones-requires : tie.Need-ones-requires Inv-loop μ-loop
 ones-requires c κs = search needs
@@ -113,7 +113,7 @@ returns : tie.Need-returns Inv-loop μ-loop
 returns c =
     let inv = c .before .loop .inv in
     let s = c .before .before .before .before in
-    let n : length (s .args .queries .now) ≤ 65536 = s .pre .2 in
+    let n : length (s .args .queries .now) ≤ 65536 = s .pre .3 in
     (told-all inv (c .loop-test .left), (inv .size, omega (arith, inv .room, inv .few, inv .within)))
 
 pub decide-all-spec : {M : Type 1} → statement M

@@ -51,13 +51,16 @@ enum-told c = search needs
 table-views-requires : tie.Need-table-views-requires
 table-views-requires c κs = search needs
 
+view-rows-requires : tie.Need-view-rows-requires
+view-rows-requires c κs = search needs
+
 low-bits-requires : tie.Need-low-bits-requires
-low-bits-requires c κs = omega (arith, few-partitions (loaded (c .before .before .before) .2))
+low-bits-requires c κs = omega (arith, few-partitions (loaded (c .before .before .before .before) .2))
 
 decide-all-requires : tie.Need-decide-all-requires
 decide-all-requires c κs =
-    let v = c .before .before .before in
-    let m = v .before .before .before in
+    let v = c .before .before .before .before .before .before in
+    let m = v .before .before .before .before in
     let s = start m in
     let (d, e, l) = loaded m in
     let b = named m in
@@ -65,7 +68,7 @@ decide-all-requires c κs =
     let z : length (b .put-bytes .last .0) ≡ length (s .args .out .now) = b .put-bytes .ensures .size in
     let h : 524288 ≤ length (s .args .out .now) = s .pre .1 in
     let room : b .put-bytes .result + 502596 ≤ length (b .put-bytes .last .0) = omega arith in
-    ((d, l), v .table-views .ensures, s .pre .0, room)
+    ((d, l), v .before .table-views .ensures, v .view-rows .ensures, s .pre .0, room)
 
 same-length : tie.Need-same-length
 same-length c = search needs
@@ -94,8 +97,8 @@ returns-2 : tie.Need-returns-2
 unfolding outputNames allOpen
 returns-2 c =
     let r = c .before .before in
-    let b = r .before .before .before in
-    let m = b .before .before .before .before in
+    let b = r .before .before .before .before .before .before in
+    let m = b .before .before .before .before .before in
     let (d, e, l) = loaded m in
     let all : b .low-bits .result ≡ allOpen d = b .low-bits .ensures ∙ ap (λ (n : ℕ). 2 ^ n - 1) (partition-count l) in
     let n : named m .put-bytes .result ≡ 31 = named m .put-bytes .ensures .next in
@@ -117,6 +120,7 @@ run-spec =
     put-line-requires
     enum-told
     table-views-requires
+    view-rows-requires
     low-bits-requires
     decide-all-requires
     same-length

@@ -1,4 +1,3 @@
-use native.Mathlib.Omega.{arith}
 use lib.Pow.{pow-pos}
 use borrow.Author.Needs.{needs}
 use Rattle.words.proofs.ClearBits.{one-shifted}

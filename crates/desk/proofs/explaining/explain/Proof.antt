@@ -36,14 +36,11 @@ mul-granted c = omega (arith, place c)
 element-copy-out-granted : tie.Need-element-copy-out-granted
 element-copy-out-granted c = omega (arith, place c)
 
-table-views-requires : tie.Need-table-views-requires
-table-views-requires c κs = search needs
-
-label-text-requires : tie.Need-label-text-requires
-label-text-requires c κs =
-    let e = c .before .before .before in
+ask-requires : tie.Need-ask-requires
+ask-requires c κs =
+    let e = c .before in
     let l = passes (e .before .before .before .valid .ensures) (e .before .before .if1 .left) in
-    ((l .declared, loaded-to l), c .before .table-views .ensures)
+    (l .declared, loaded-to l)
 
 enum-told : tie.Need-enum-told
 enum-told c = search needs
@@ -51,9 +48,9 @@ enum-told c = search needs
 give-words-requires : tie.Need-give-words-requires
 give-words-requires c κs =
     let a = c .before .before .before .before in
-    let e = a .before .before .before .before in
+    let e = a .before .before in
     let l = passes (e .before .before .before .valid .ensures) (e .before .before .if1 .left) in
-    let q = text-accepted _ _ (a .label-text .ensures) l (c .before .before .before .match .keys1) in
+    let q = text-accepted _ _ (a .ask .ensures) l (c .before .before .before .match .keys1) in
     (_, q .held)
 
 enum-known-outcome : tie.Need-enum-known-outcome
@@ -65,19 +62,19 @@ same-length c = search needs
 returns-3 : tie.Need-returns-3
 returns-3 c =
     let a = c .before .before .before .before .before .before .before in
-    let e = a .before .before .before .before in
-    text-explained (a .label-text .result) (passes (e .before .before .before .valid .ensures) (e .before .before .if1 .left))
+    let e = a .before .before in
+    text-explained (a .ask .result) (passes (e .before .before .before .valid .ensures) (e .before .before .if1 .left))
     (passing (e .before .is-among .ensures) (e .if2 .left))
-    (λ l. text-accepted _ _ (a .label-text .ensures) l (c .before .before .before .before .before .before .match .keys1))
+    (λ l. text-accepted _ _ (a .ask .ensures) l (c .before .before .before .before .before .before .match .keys1))
     (c .before .before .give-words .ensures)
 
 returns-4 : tie.Need-returns-4
 returns-4 c =
     let a = c .before .before .before in
-    let e = a .before .before .before .before in
+    let e = a .before .before in
     text-refused (passes (e .before .before .before .valid .ensures) (e .before .before .if1 .left))
     (passing (e .before .is-among .ensures) (e .if2 .left))
-    (λ l. text-turned _ _ (a .label-text .ensures) l (c .before .outcome .given .1))
+    (λ l. text-turned _ _ (a .ask .ensures) l (c .before .outcome .given .1))
 
 pub explain-spec : {M : Type 1} → statement M
 explain-spec =
@@ -90,8 +87,7 @@ explain-spec =
     sub-granted
     mul-granted
     element-copy-out-granted
-    table-views-requires
-    label-text-requires
+    ask-requires
     enum-told
     give-words-requires
     enum-known-outcome

@@ -13,13 +13,9 @@ valid-requires c κs = search needs
 returns : tie.Need-returns
 returns c = unlisted (fails (c .before .valid .ensures) (c .if1 .taken))
 
-table-views-requires : tie.Need-table-views-requires
-table-views-requires c κs = search needs
-
-label-text-requires : tie.Need-label-text-requires
-label-text-requires c κs =
-    let l = passes (c .before .before .before .valid .ensures) (c .before .before .if1 .left) in
-    ((l .declared, loaded-to l), c .before .table-views .ensures)
+ask-requires : tie.Need-ask-requires
+ask-requires c κs =
+    let l = passes (c .before .valid .ensures) (c .if1 .left) in (l .declared, loaded-to l)
 
 enum-told : tie.Need-enum-told
 enum-told c = search needs
@@ -27,8 +23,8 @@ enum-told c = search needs
 give-labels-requires : tie.Need-give-labels-requires
 give-labels-requires c κs =
     let a = c .before .before .before .before in
-    let l = passes (a .before .before .before .before .valid .ensures) (a .before .before .before .if1 .left) in
-    labels-held (text-accepted _ _ (a .label-text .ensures) l (c .before .before .before .match .keys1) .held)
+    let l = passes (a .before .before .valid .ensures) (a .before .if1 .left) in
+    labels-held (text-accepted _ _ (a .ask .ensures) l (c .before .before .before .match .keys1) .held)
 
 enum-known-outcome : tie.Need-enum-known-outcome
 enum-known-outcome c = search needs
@@ -39,15 +35,15 @@ same-length c = search needs
 returns-2 : tie.Need-returns-2
 returns-2 c =
     let a = c .before .before .before .before .before .before .before in
-    text-listed (a .label-text .result) (passes (a .before .before .before .before .valid .ensures) (a .before .before .before .if1 .left))
-    (λ l. text-accepted _ _ (a .label-text .ensures) l (c .before .before .before .before .before .before .match .keys1))
+    text-listed (a .ask .result) (passes (a .before .before .valid .ensures) (a .before .if1 .left))
+    (λ l. text-accepted _ _ (a .ask .ensures) l (c .before .before .before .before .before .before .match .keys1))
     (c .before .before .give-labels .ensures)
 
 returns-3 : tie.Need-returns-3
 returns-3 c =
     let a = c .before .before .before in
-    text-refused (passes (a .before .before .before .before .valid .ensures) (a .before .before .before .if1 .left))
-    (λ l. text-turned _ _ (a .label-text .ensures) l (c .before .outcome .given .1))
+    text-refused (passes (a .before .before .valid .ensures) (a .before .if1 .left))
+    (λ l. text-turned _ _ (a .ask .ensures) l (c .before .outcome .given .1))
 
 pub labels-spec : {M : Type 1} → statement M
 labels-spec =
@@ -55,8 +51,7 @@ labels-spec =
     (tie.spec
     valid-requires
     returns
-    table-views-requires
-    label-text-requires
+    ask-requires
     enum-told
     give-labels-requires
     enum-known-outcome

@@ -1,52 +1,85 @@
-use Rattle.words.proofs.Answers.{failing, passing}
-use Prim.Native.Nat.{ℕ, _-_, _≤_, _<_}
-use lib.Dec.{eqb}
-use native.Mathlib.Omega.{arith}
-use mathlib.Core.Path.{_≡_, sym}
+use mathlib.Core.Path.{_≡_, sym, ap₂, _∙_}
 use mathlib.Core.Bool.{true}
+use Prim.Native.Nat.{ℕ, _+_, _*_, _-_, _≤_, _<_}
+use native.Mathlib.Omega.{arith}
 use borrow.Author.Count.{below-none, below-more}
-use borrow.Author.Needs.{needs}
 use borrow.Author.Tests.{eq-eqb, ne-eqb}
-use Rattle.model.specs.Value.{unusedTerm}
-use Rattle.reduce.specs.Columns.{keepsTerm, termAt, goesLine}
+use lib.Dec.{eqb}
+use lib.ListN.{getD}
+use Rattle.words.proofs.Answers.{failing, passing}
+use Rattle.model.specs.Rows.{laidTerm}
+use Rattle.reduce.specs.Columns.{keepsTerm, goesRow}
 use Rattle.reduce.proofs.Below.{and-no, below-broken, below-done}
 use Rattle.reduce.proofs.columns.goes_line.Statement.{statement}
 use Rattle.reduce.proofs.columns.goes_line.Tie as tie
 
 abbrev Inv-loop : tie.InvT-loop
-Inv-loop a s p₀ p = (p ≤ 8) × ((k : ℕ) → k < p → keepsTerm (termAt a k) (termAt s k) ≡ true)
+Inv-loop tables marks numbers a s p₀ p =
+    (p ≤ 8) × ((k : ℕ) → k < p → keepsTerm (laidTerm marks numbers (a * 8 + k)) (laidTerm marks numbers (s * 8 + k)) ≡ true)
 
 abbrev μ-loop : tie.MeasureT-loop
-μ-loop a s p₀ p = 8 - p
+μ-loop tables marks numbers a s p₀ p = 8 - p
+
+mul-if1 : tie.Need-mul-if1 Inv-loop μ-loop
+mul-if1 c = omega arith
+
+element-copy-out-if1 : tie.Need-element-copy-out-if1 Inv-loop μ-loop
+element-copy-out-if1 c = omega arith
+
+mul-if1-2 : tie.Need-mul-if1-2 Inv-loop μ-loop
+mul-if1-2 c = omega arith
+
+element-copy-out-if1-2 : tie.Need-element-copy-out-if1-2 Inv-loop μ-loop
+element-copy-out-if1-2 c = omega arith
 
 returns : tie.Need-returns Inv-loop μ-loop
-unfolding goesLine
+unfolding goesRow
 returns c = simp (ne-eqb _ _ (c .if1 .taken))
 
 loop-holds : tie.Need-loop-holds Inv-loop μ-loop
 loop-holds c = (omega arith, below-none _)
 
-mul-t : tie.Need-mul-t Inv-loop μ-loop
-mul-t c = omega arith
+mul-term-at : tie.Need-mul-term-at Inv-loop μ-loop
+mul-term-at c = omega arith
 
-element-copy-out-t : tie.Need-element-copy-out-t Inv-loop μ-loop
-element-copy-out-t c = search needs
+add-term-at : tie.Need-add-term-at Inv-loop μ-loop
+add-term-at c = omega arith
 
-mul-u : tie.Need-mul-u Inv-loop μ-loop
-mul-u c = omega arith
+term-at-requires : tie.Need-term-at-requires Inv-loop μ-loop
+term-at-requires c κs = (omega arith, omega arith)
 
-element-copy-out-u : tie.Need-element-copy-out-u Inv-loop μ-loop
-element-copy-out-u c = search needs
+mul-term-at-2 : tie.Need-mul-term-at-2 Inv-loop μ-loop
+mul-term-at-2 c = omega arith
+
+add-term-at-2 : tie.Need-add-term-at-2 Inv-loop μ-loop
+add-term-at-2 c = omega arith
+
+term-at-requires-2 : tie.Need-term-at-requires-2 Inv-loop μ-loop
+term-at-requires-2 c κs = (omega arith, omega arith)
 
 keeps-term-requires : tie.Need-keeps-term-requires Inv-loop μ-loop
 keeps-term-requires c κs = tt
 
+-- what the test answers is said of the terms in the rows
+answer : (c : tie.After-keeps-term Inv-loop μ-loop)
+    → (let a = c .before .before .before .before .before .before .before .before .before .before .args in
+    let p = c .before .before .before .before .loop .p in
+    c .keeps-term .result
+    ≡ keepsTerm (laidTerm (a .marks .now) (a .numbers .now) (a .a * 8 + p)) (laidTerm (a .marks .now) (a .numbers .now) (a .s * 8 + p)))
+answer c = c .keeps-term .ensures ∙ ap₂ keepsTerm (c .before .before .term-at .ensures) (c .before .term-at2 .ensures)
+
 returns-2 : tie.Need-returns-2 Inv-loop μ-loop
-unfolding goesLine keepsTerm termAt unusedTerm
-returns-2 c = let a = c .before .before .before .before .before .before .before .args in
-    sym (simp (sym (below-broken (λ k. keepsTerm (termAt (a .t1) k) (termAt (a .t2) k)) 8 (c .before .before .before .before .before .loop .p)
-    (c .before .before .before .before .loop-test .taken)
-    (failing (c .before .keeps-term .ensures) (c .if2 .taken)))) (and-no (eqb (a .t1 .table) (a .t2 .table))))
+unfolding goesRow
+returns-2 c =
+    let a = c .before .before .before .before .before .before .before .before .before .before .before .args in
+    sym
+    (simp
+    (sym
+    (below-broken
+    (λ k.
+    keepsTerm (laidTerm (a .marks .now) (a .numbers .now) (a .a * 8 + k)) (laidTerm (a .marks .now) (a .numbers .now) (a .s * 8 + k)))
+    8 (c .before .before .before .before .before .loop .p) (c .before .before .before .before .loop-test .taken)
+    (failing (answer (c .before)) (c .if2 .taken)))) (and-no (eqb (getD (a .tables .now) (a .a) 0) (getD (a .tables .now) (a .s) 0))))
 
 add-p : tie.Need-add-p Inv-loop μ-loop
 add-p c = omega arith
@@ -55,12 +88,20 @@ loop-less : tie.Need-loop-less Inv-loop μ-loop
 loop-less c = omega arith
 
 loop-again : tie.Need-loop-again Inv-loop μ-loop
-unfolding keepsTerm termAt unusedTerm
-loop-again c = (omega arith, below-more _ _ (c .before .before .before .before .before .loop .inv .1) (passing (c .before .keeps-term .ensures) (c .if2 .left)))
+loop-again c =
+    (omega arith, below-more _ _ (c .before .before .before .before .before .loop .inv .1) (passing (answer (c .before)) (c .if2 .left)))
 
 returns-3 : tie.Need-returns-3 Inv-loop μ-loop
-unfolding goesLine
-returns-3 c = simp (eq-eqb _ _ (c .before .before .if1 .left), below-done (λ k. keepsTerm (termAt (c .before .before .before .args .t1) k) (termAt (c .before .before .before .args .t2) k)) 8 (λ k h. c .before .loop .inv .1 k (omega arith)))
+unfolding goesRow
+returns-3 c =
+    let a = c .before .before .before .before .before .before .before .args in
+    simp (
+      eq-eqb _ _ (c .before .before .if1 .left),
+      below-done
+          (λ k.
+          keepsTerm (laidTerm (a .marks .now) (a .numbers .now) (a .a * 8 + k)) (laidTerm (a .marks .now) (a .numbers .now) (a .s * 8 + k)))
+          8 (λ k h. c .before .loop .inv .1 k (omega arith)),
+    )
 
 pub goes-line-spec : {M : Type 1} → statement M
 goes-line-spec =
@@ -68,12 +109,18 @@ goes-line-spec =
     (tie.spec
     Inv-loop
     μ-loop
+    mul-if1
+    element-copy-out-if1
+    mul-if1-2
+    element-copy-out-if1-2
     returns
     loop-holds
-    mul-t
-    element-copy-out-t
-    mul-u
-    element-copy-out-u
+    mul-term-at
+    add-term-at
+    term-at-requires
+    mul-term-at-2
+    add-term-at-2
+    term-at-requires-2
     keeps-term-requires
     returns-2
     add-p

@@ -1,35 +1,39 @@
-use mathlib.Core.Path.{_≡_}
+use mathlib.Core.Path.{_≡_, _∙_}
 use Prim.Native.Nat.{_+_, _*_, _-_, _≤_}
 use native.Mathlib.Omega.{arith}
-use borrow.Author.Needs.{needs}
 use lib.ListN.{length}
 use Rattle.theory.specs.Query.{Line as TheLine}
 use Rattle.words.proofs.Marks.{Upto, upto-none}
-use Rattle.model.specs.Value.{unusedTerm, lineValue}
-use Rattle.reduce.specs.Columns.{termAt, SameColumn}
+use Rattle.model.specs.Rows.{Row}
+use Rattle.model.specs.Value.{lineValue}
+use Rattle.reduce.specs.Columns.{SameColumn}
 use Rattle.reduce.proofs.EqualColumns.{columns-all}
 use Rattle.reduce.proofs.columns.same_columns.Statement.{statement}
 use Rattle.reduce.proofs.columns.same_columns.Tie as tie
 
 abbrev Inv-loop : tie.InvT-loop
-Inv-loop b a m₀ p₀ m p =
+Inv-loop marks numbers a b m₀ p₀ m p =
     (p ≤ 8)
-    × ((A B : TheLine) → a ≡ lineValue A → b ≡ lineValue B → length (A .columns) ≤ 8 → length (B .columns) ≤ 8 → Upto (SameColumn A B) (p * 8) m)
+    × ((A B : TheLine) → Row marks numbers a (lineValue A) → Row marks numbers b (lineValue B) → length (A .columns) ≤ 8
+    → length (B .columns) ≤ 8 → Upto (SameColumn A B) (p * 8) m)
 
 abbrev μ-loop : tie.MeasureT-loop
-μ-loop b a m₀ p₀ m p = 8 - p
+μ-loop marks numbers a b m₀ p₀ m p = 8 - p
 
 loop-holds : tie.Need-loop-holds Inv-loop μ-loop
 loop-holds c = (omega arith, λ A B ea eb few few′. upto-none 0 (λ b l h. omega arith))
 
-mul-t : tie.Need-mul-t Inv-loop μ-loop
-mul-t c = omega arith
+mul-term-at : tie.Need-mul-term-at Inv-loop μ-loop
+mul-term-at c = omega arith
 
-element-copy-out-t : tie.Need-element-copy-out-t Inv-loop μ-loop
-element-copy-out-t c = search needs
+add-term-at : tie.Need-add-term-at Inv-loop μ-loop
+add-term-at c = omega arith
+
+term-at-requires : tie.Need-term-at-requires Inv-loop μ-loop
+term-at-requires c κs = (omega arith, omega arith)
 
 with-column-requires : tie.Need-with-column-requires Inv-loop μ-loop
-with-column-requires c κs = omega arith
+with-column-requires c κs = (omega arith, omega arith, omega arith, omega arith)
 
 add-p : tie.Need-add-p Inv-loop μ-loop
 add-p c = omega arith
@@ -38,13 +42,14 @@ loop-less : tie.Need-loop-less Inv-loop μ-loop
 loop-less c = omega arith
 
 loop-again : tie.Need-loop-again Inv-loop μ-loop
-unfolding termAt unusedTerm
 loop-again c = (
   omega arith,
   λ A B ea eb few few′.
       let loop = c .before .before .before .loop in
       let e : (loop .p + 1) * 8 ≡ loop .p * 8 + 8 = omega arith in
-      rw e (c .with-column .ensures A B (rw ea) eb few few′ (loop .inv .1 A B ea eb few few′)),
+      rw e
+      (c .with-column .ensures A B (c .before .term-at .ensures ∙ ea (loop .p) (c .before .before .loop-test .taken)) eb few few′
+      (loop .inv .1 A B ea eb few few′)),
 )
 
 returns : tie.Need-returns Inv-loop μ-loop
@@ -59,8 +64,9 @@ same-columns-spec =
     Inv-loop
     μ-loop
     loop-holds
-    mul-t
-    element-copy-out-t
+    mul-term-at
+    add-term-at
+    term-at-requires
     with-column-requires
     add-p
     loop-less

@@ -1,25 +1,25 @@
-use mathlib.Core.Path.{_≡_}
+use mathlib.Core.Path.{_≡_, _∙_}
 use Prim.Native.Nat.{_+_, _*_, _-_, _≤_}
 use native.Mathlib.Nat.{add-zero}
 use native.Mathlib.Omega.{arith}
-use borrow.Author.Needs.{needs}
 use lib.ListN.{length}
 use Rattle.theory.specs.Query.{Line as TheLine}
 use Rattle.words.proofs.Marks.{Upto}
-use Rattle.model.specs.Value.{unusedTerm, lineValue}
-use Rattle.reduce.specs.Columns.{termAt, SameColumn}
+use Rattle.model.specs.Rows.{termAt, Row}
+use Rattle.model.specs.Value.{lineValue}
+use Rattle.reduce.specs.Columns.{SameColumn}
 use Rattle.reduce.proofs.EqualColumns.{column-more, column-skip}
 use Rattle.reduce.proofs.columns.with_column.Statement.{statement}
 use Rattle.reduce.proofs.columns.with_column.Tie as tie
 
 abbrev Inv-loop : tie.InvT-loop
-Inv-loop m p t b r₀ q₀ r q =
+Inv-loop m p t marks numbers b r₀ q₀ r q =
     (q ≤ 8)
-    × ((A B : TheLine) → t ≡ termAt (lineValue A) p → b ≡ lineValue B → length (A .columns) ≤ 8 → length (B .columns) ≤ 8
+    × ((A B : TheLine) → t ≡ termAt (lineValue A) p → Row marks numbers b (lineValue B) → length (A .columns) ≤ 8 → length (B .columns) ≤ 8
     → Upto (SameColumn A B) (p * 8) m → Upto (SameColumn A B) (p * 8 + q) r)
 
 abbrev μ-loop : tie.MeasureT-loop
-μ-loop m p t b r₀ q₀ r q = 8 - q
+μ-loop m p t marks numbers b r₀ q₀ r q = 8 - q
 
 returns : tie.Need-returns Inv-loop μ-loop
 returns c = λ A B et eb few few′ k. column-skip A B few few′ _ _ et (c .if1 .taken) k
@@ -27,11 +27,14 @@ returns c = λ A B et eb few few′ k. column-skip A B few few′ _ _ et (c .if1
 loop-holds : tie.Need-loop-holds Inv-loop μ-loop
 loop-holds c = (omega arith, λ A B et eb few few′ k. simp add-zero k)
 
-mul-u : tie.Need-mul-u Inv-loop μ-loop
-mul-u c = omega arith
+mul-term-at : tie.Need-mul-term-at Inv-loop μ-loop
+mul-term-at c = omega arith
 
-element-copy-out-u : tie.Need-element-copy-out-u Inv-loop μ-loop
-element-copy-out-u c = search needs
+add-term-at : tie.Need-add-term-at Inv-loop μ-loop
+add-term-at c = omega arith
+
+term-at-requires : tie.Need-term-at-requires Inv-loop μ-loop
+term-at-requires c κs = (omega arith, omega arith)
 
 same-term-requires : tie.Need-same-term-requires Inv-loop μ-loop
 same-term-requires c κs = tt
@@ -52,12 +55,12 @@ loop-less : tie.Need-loop-less Inv-loop μ-loop
 loop-less c = omega arith
 
 loop-again : tie.Need-loop-again Inv-loop μ-loop
-unfolding termAt unusedTerm
 loop-again c = (
   omega arith,
   λ A B et eb few few′ k.
       let loop = c .before .before .before .before .loop in
-      column-more A B few few′ _ _ _ _ (c .before .same-term .result) (c .set-bit-if .result) et (rw eb) (omega arith)
+      column-more A B few few′ _ _ _ (c .before .before .term-at .result) (c .before .same-term .result) (c .set-bit-if .result) et
+      (c .before .before .term-at .ensures ∙ eb (loop .q) (c .before .before .before .loop-test .taken)) (c .before .before .before .loop-test .taken)
       (c .before .before .before .before .before .if1 .left) (c .before .same-term .ensures) (c .set-bit-if .ensures) (loop .inv .1 A B et eb few few′ k),
 )
 
@@ -74,8 +77,9 @@ with-column-spec =
     μ-loop
     returns
     loop-holds
-    mul-u
-    element-copy-out-u
+    mul-term-at
+    add-term-at
+    term-at-requires
     same-term-requires
     mul-set-bit-if
     add-set-bit-if

@@ -1,28 +1,30 @@
-use mathlib.Core.Path.{_≡_}
+use mathlib.Core.Path.{_≡_, ap, _∙_}
 use Prim.Native.Nat.{_-_, _≤_}
 use native.Mathlib.Omega.{arith}
-use borrow.Author.Needs.{needs}
-use Rattle.model.specs.Value.{unusedTerm}
-use Rattle.reduce.specs.Columns.{termAt}
-use Rattle.reduce.specs.Showing.{HiddenWord}
+use Rattle.model.specs.Rows.{Row}
+use Rattle.model.specs.declared.Line.{Line}
+use Rattle.reduce.specs.Showing.{withHidden, HiddenWord}
 use Rattle.reduce.proofs.Hidden.{hidden-none, hidden-more}
 use Rattle.reduce.proofs.showing.hidden_word.Statement.{statement}
 use Rattle.reduce.proofs.showing.hidden_word.Tie as tie
 
 abbrev Inv-loop : tie.InvT-loop
-Inv-loop l m₀ k₀ m k = (k ≤ 8) × HiddenWord l k m
+Inv-loop marks numbers i m₀ k₀ m k = (k ≤ 8) × ((l : Line) → Row marks numbers i l → HiddenWord l k m)
 
 abbrev μ-loop : tie.MeasureT-loop
-μ-loop l m₀ k₀ m k = 8 - k
+μ-loop marks numbers i m₀ k₀ m k = 8 - k
 
 loop-holds : tie.Need-loop-holds Inv-loop μ-loop
-loop-holds c = (omega arith, hidden-none _)
+loop-holds c = (omega arith, λ l row. hidden-none l)
 
-mul-t : tie.Need-mul-t Inv-loop μ-loop
-mul-t c = omega arith
+mul-term-at : tie.Need-mul-term-at Inv-loop μ-loop
+mul-term-at c = omega arith
 
-element-copy-out-t : tie.Need-element-copy-out-t Inv-loop μ-loop
-element-copy-out-t c = search needs
+add-term-at : tie.Need-add-term-at Inv-loop μ-loop
+add-term-at c = omega arith
+
+term-at-requires : tie.Need-term-at-requires Inv-loop μ-loop
+term-at-requires c κs = (omega arith, omega arith)
 
 with-hidden-requires : tie.Need-with-hidden-requires Inv-loop μ-loop
 with-hidden-requires c κs = tt
@@ -34,11 +36,18 @@ loop-less : tie.Need-loop-less Inv-loop μ-loop
 loop-less c = omega arith
 
 loop-again : tie.Need-loop-again Inv-loop μ-loop
-unfolding termAt unusedTerm
-loop-again c = (omega arith, hidden-more (c .before .before .before .before .args .t1) _ _ _ (c .before .before .before .loop .inv .1) (c .with-hidden .ensures))
+loop-again c =
+    let at = c .before .before .before .loop in (
+      omega arith,
+      λ l row.
+          hidden-more l (at .k) (at .m) _ (at .inv .1 l row)
+          (c .with-hidden .ensures ∙ ap (withHidden (at .m)) (c .before .term-at .ensures ∙ row (at .k) (c .before .before .loop-test .taken))),
+    )
 
 returns : tie.Need-returns Inv-loop μ-loop
-returns c = let e : c .before .loop .k ≡ 8 = omega arith in rw e at (c .before .loop .inv .1)
+returns c = λ l row.
+    let e : c .before .loop .k ≡ 8 = omega arith in
+    rw e at (c .before .loop .inv .1 l row)
 
 pub hidden-word-spec : {M : Type 1} → statement M
 hidden-word-spec =
@@ -47,8 +56,9 @@ hidden-word-spec =
     Inv-loop
     μ-loop
     loop-holds
-    mul-t
-    element-copy-out-t
+    mul-term-at
+    add-term-at
+    term-at-requires
     with-hidden-requires
     add-k
     loop-less

@@ -6,35 +6,31 @@ use lib.ListN.{length, take}
 use lib.Seq.{take-all}
 use Rattle.theory.specs.Query.{Query}
 use Rattle.words.specs.Bits.{isSet}
+use Rattle.model.specs.Value.{lineValue}
 use Rattle.reduce.specs.Agree.{lineAt}
+use Rattle.reduce.specs.Laid.{Laid}
 use Rattle.reduce.specs.Left.{pick, linesAt}
-use Rattle.reduce.specs.Pairs.{Held}
-use Rattle.reduce.proofs.Lines.{held-count, held-line, held-few, left-more}
+use Rattle.reduce.proofs.Lines.{laid-few, left-more}
 use Rattle.reduce.proofs.Seen.{Seen, seen-none, seen-more}
 use Rattle.reduce.proofs.showing.shared.Statement.{statement}
 use Rattle.reduce.proofs.showing.shared.Tie as tie
 
 abbrev Inv-loop : tie.InvT-loop
-Inv-loop left q n once₀ twice₀ i₀ once twice i = (i ≤ n) × ((Q : Query) → Held q Q → Seen (pick (isSet left) (take i Q)) once twice)
+Inv-loop n marks numbers left once₀ twice₀ i₀ once twice i =
+    (i ≤ n) × ((Q : Query) → length Q ≡ n → Laid Q marks numbers → Seen (pick (isSet left) (take i Q)) once twice)
 
 abbrev μ-loop : tie.MeasureT-loop
-μ-loop left q n once₀ twice₀ i₀ once twice i = n - i
+μ-loop n marks numbers left once₀ twice₀ i₀ once twice i = n - i
 
 loop-holds : tie.Need-loop-holds Inv-loop μ-loop
 unfolding pick
-loop-holds c = (omega arith, λ Q held. seen-none)
-
-mul-l : tie.Need-mul-l Inv-loop μ-loop
-mul-l c = omega arith
-
-element-copy-out-l : tie.Need-element-copy-out-l Inv-loop μ-loop
-element-copy-out-l c = omega arith
+loop-holds c = (omega arith, λ Q e laid. seen-none)
 
 has-bit-requires : tie.Need-has-bit-requires Inv-loop μ-loop
 has-bit-requires c κs = omega arith
 
 hidden-if-requires : tie.Need-hidden-if-requires Inv-loop μ-loop
-hidden-if-requires c κs = tt
+hidden-if-requires c κs = (omega arith, omega arith, omega arith)
 
 add-i : tie.Need-add-i Inv-loop μ-loop
 add-i c = omega arith
@@ -45,21 +41,21 @@ loop-less c = omega arith
 loop-again : tie.Need-loop-again Inv-loop μ-loop
 loop-again c = (
   omega arith,
-  λ Q held.
-      let at = c .before .before .before .before .loop in
-      let left = c .before .before .before .before .before .args .left in
-      let l : at .i < length Q = omega (arith, held-count held) in
+  λ Q e laid.
+      let at = c .before .before .before .loop in
+      let left = c .before .before .before .before .before .before .args .left in
+      let l : at .i < length Q = omega (arith, e, c .before .before .loop-test .taken) in
       rw (left-more left Q (at .i) l)
-      (seen-more (at .inv .1 Q held) (isSet left (at .i)) (lineAt Q (at .i)) (held-few held (at .i) l) (c .hidden-if .result)
-      (rw (c .before .has-bit .ensures, held-line held (at .i) _ l) at (c .hidden-if .ensures))),
+      (seen-more (at .inv .1 Q e laid) (isSet left (at .i)) (lineAt Q (at .i)) (laid-few laid (at .i) l) (c .hidden-if .result)
+      (rw (c .before .has-bit .ensures) at (c .hidden-if .ensures (lineValue (lineAt Q (at .i))) (laid .row (at .i) l)))),
 )
 
 returns : tie.Need-returns Inv-loop μ-loop
 unfolding linesAt
-returns c = λ Q held.
+returns c = λ Q e laid.
     let i = c .before .loop .i in
-    let e : take i Q ≡ Q = take-all i Q (omega (arith, held-count held)) in
-    rw e at (c .before .loop .inv .1 Q held .twos)
+    let all : take i Q ≡ Q = take-all i Q (omega (arith, e)) in
+    rw all at (c .before .loop .inv .1 Q e laid .twos)
 
 pub shared-spec : {M : Type 1} → statement M
 shared-spec =
@@ -68,8 +64,6 @@ shared-spec =
     Inv-loop
     μ-loop
     loop-holds
-    mul-l
-    element-copy-out-l
     has-bit-requires
     hidden-if-requires
     add-i

@@ -2,7 +2,6 @@ use mathlib.Core.Path.{sym, _∙_}
 use native.Mathlib.Omega.{arith}
 use borrow.Author.Needs.{needs}
 use borrow.Author.Tests.{not-true}
-use Rattle.reduce.proofs.Lines.{held-count}
 use Rattle.reduce.proofs.Staying.{nothing-goes}
 use Rattle.reduce.proofs.taking.lines_left.Statement.{statement}
 use Rattle.reduce.proofs.taking.lines_left.Tie as tie
@@ -17,16 +16,16 @@ low-bits-requires : tie.Need-low-bits-requires
 low-bits-requires c κs = search needs
 
 returns : tie.Need-returns
-returns c = λ Q held.
+returns c = λ Q e t laid.
     rw (c .low-bits .ensures)
-    (nothing-goes Q _ (c .before .before .before .goings .ensures Q held) (omega (arith, held .lines))
-    (sym (c .before .before .meets .ensures) ∙ not-true _ (c .before .if1 .taken)) _ (held-count held))
+    (nothing-goes Q _ (c .before .before .before .goings .ensures Q e t laid) (omega (arith, laid .lines))
+    (sym (c .before .before .meets .ensures) ∙ not-true _ (c .before .if1 .taken)) _ (sym e))
 
 searched-requires : tie.Need-searched-requires
 searched-requires c κs = search needs
 
 returns-2 : tie.Need-returns-2
-returns-2 c = λ Q held. c .searched .ensures Q held (c .before .before .before .goings .ensures Q held)
+returns-2 c = λ Q e t laid. c .searched .ensures Q e laid (c .before .before .before .goings .ensures Q e t laid)
 
 pub lines-left-spec : {M : Type 1} → statement M
 lines-left-spec =

@@ -1,7 +1,5 @@
 use borrow.Author.Needs.{needs}
-use Rattle.reduce.proofs.Lines.{held-count}
 use Rattle.reduce.proofs.Tables.{tabled}
-use mathlib.Core.Path.{sym}
 use Rattle.reduce.proofs.taking.searched.Statement.{statement}
 use Rattle.reduce.proofs.taking.searched.Tie as tie
 
@@ -21,10 +19,9 @@ taken-requires : tie.Need-taken-requires
 taken-requires c κs = search needs
 
 returns : tie.Need-returns
-returns c = λ Q held goings.
-    let t = tabled held _ _ _ _ goings (c .before .before .before .before .before .before .before .before .columns .ensures Q held) (c .before .before .before .before .before .before .candidates .ensures) (c .before .before .before .before .pair-words .ensures) in
-    let n = sym (held-count held) in
-    c .taken .ensures Q n t (c .before .before .fold .ensures .1 Q n t)
+returns c = λ Q e laid goings.
+    let t = tabled laid _ _ _ _ goings (c .before .before .before .before .before .before .before .before .columns .ensures Q e laid) (c .before .before .before .before .before .before .candidates .ensures) (c .before .before .before .before .pair-words .ensures) in
+    c .taken .ensures Q e t (c .before .before .fold .ensures .1 Q e t)
 
 pub searched-spec : {M : Type 1} → statement M
 searched-spec =

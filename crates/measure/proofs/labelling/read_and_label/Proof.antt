@@ -1,13 +1,16 @@
 -- `measure::read_and_label`: the query that is labelled is one that reading accepted under the policy's tables.
 use borrow.Author.Needs.{needs}
 use Rattle.query.specs.Text.{read as read-text}
-use Rattle.labels.proofs.Posing.{tables-of, posed}
+use Rattle.labels.proofs.Posing.{tables-of, ready, posed}
 use Rattle.labels.proofs.Readings.{read-accepted}
-use Rattle.measure.proofs.read_and_label.Statement.{statement}
-use Rattle.measure.proofs.read_and_label.Tie as tie
+use Rattle.measure.proofs.labelling.read_and_label.Statement.{statement}
+use Rattle.measure.proofs.labelling.read_and_label.Tie as tie
 
 table-views-requires : tie.Need-table-views-requires
 table-views-requires c κs = search needs
+
+view-rows-requires : tie.Need-view-rows-requires
+view-rows-requires c κs = search needs
 
 read-query-requires : tie.Need-read-query-requires
 read-query-requires c κs = search needs
@@ -17,12 +20,12 @@ enum-told c = search needs
 
 label-again-requires : tie.Need-label-again-requires
 label-again-requires c κs =
-    let m = c .before .before .before in
+    let m = c .before .before .before .before .before .before in
+    let made = m .before .before .before in
     let read = m .before .read-query in
-    let masks = m .before .before .before .table-views in
-    let (d, l) = m .before .before .before .before .before .pre in
+    let (d, l) = c .before .before .before .before .before .before .before .before .before .before .before .before .pre in
     let (Q, e, o, q) = read-accepted (read-text (d .widths) _) (read .result) (read .ensures (d .widths) (tables-of l)) (m .match .keys1) in
-    ((d, Q, posed d _ Q (l .good) e (l .policy) q), masks .ensures)
+    (d, Q, ready l (made .before .table-views .ensures) (made .view-rows .ensures), posed d _ Q (l .good) e q)
 
 enum-told-2 : tie.Need-enum-told-2
 enum-told-2 c = search needs
@@ -38,6 +41,7 @@ read-and-label-spec =
     tie.close
     (tie.spec
     table-views-requires
+    view-rows-requires
     read-query-requires
     enum-told
     label-again-requires

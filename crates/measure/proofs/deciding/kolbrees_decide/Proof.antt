@@ -1,8 +1,8 @@
--- `measure::kolbrees_label`: the policy that the query is read under is loaded.
+-- `measure::kolbrees_decide`: the policy that the text is decided under is loaded.
 use borrow.Author.Needs.{needs}
 use Rattle.load.proofs.Accepted.{loaded-policy}
-use Rattle.measure.proofs.kolbrees_label.Statement.{statement}
-use Rattle.measure.proofs.kolbrees_label.Tie as tie
+use Rattle.measure.proofs.deciding.kolbrees_decide.Statement.{statement}
+use Rattle.measure.proofs.deciding.kolbrees_decide.Tie as tie
 
 load-requires : tie.Need-load-requires
 load-requires c κs = search needs
@@ -10,8 +10,8 @@ load-requires c κs = search needs
 enum-told : tie.Need-enum-told
 enum-told c = search needs
 
-read-and-label-requires : tie.Need-read-and-label-requires
-read-and-label-requires c κs =
+prepare-and-decide-requires : tie.Need-prepare-and-decide-requires
+prepare-and-decide-requires c κs =
     let m = c .before .before in
     let loaded = m .before .load in
     let (d, is, good) = loaded-policy _ (loaded .result) (loaded .ensures) (m .match .keys1) in
@@ -26,7 +26,7 @@ returns c = search needs
 returns-2 : tie.Need-returns-2
 returns-2 c = search needs
 
-pub kolbrees-label-spec : {M : Type 1} → statement M
-kolbrees-label-spec =
+pub kolbrees-decide-spec : {M : Type 1} → statement M
+kolbrees-decide-spec =
     tie.close
-    (tie.spec load-requires enum-told read-and-label-requires enum-told-2 returns returns-2)
+    (tie.spec load-requires enum-told prepare-and-decide-requires enum-told-2 returns returns-2)

@@ -1,23 +1,20 @@
--- `measure::label_again` ends: `i` comes nearer to `times`.
+-- `measure::check_again` ends: `i` comes nearer to `times`.
 use Prim.Native.Nat.{_-_, _≤_}
 use borrow.Author.Needs.{needs}
-use Rattle.measure.proofs.label_again.Statement.{statement}
-use Rattle.measure.proofs.label_again.Tie as tie
+use Rattle.measure.proofs.checking.check_again.Statement.{statement}
+use Rattle.measure.proofs.checking.check_again.Tie as tie
 
 abbrev Inv-loop : tie.InvT-loop
-Inv-loop p masks q times sum₀ i₀ sum i = i ≤ times
+Inv-loop p times sum₀ i₀ sum i = i ≤ times
 
 abbrev μ-loop : tie.MeasureT-loop
-μ-loop p masks q times sum₀ i₀ sum i = times - i
+μ-loop p times sum₀ i₀ sum i = times - i
 
 loop-holds : tie.Need-loop-holds Inv-loop μ-loop
 loop-holds c = search needs
 
-label-query-requires : tie.Need-label-query-requires Inv-loop μ-loop
-label-query-requires c κs = search needs
-
-sum-of-requires : tie.Need-sum-of-requires Inv-loop μ-loop
-sum-of-requires c κs = search needs
+valid-requires : tie.Need-valid-requires Inv-loop μ-loop
+valid-requires c κs = search needs
 
 wrapping-add-u64-requires : tie.Need-wrapping-add-u64-requires Inv-loop μ-loop
 wrapping-add-u64-requires c κs = search needs
@@ -34,15 +31,14 @@ loop-again c = search needs
 returns : tie.Need-returns Inv-loop μ-loop
 returns c = search needs
 
-pub label-again-spec : {M : Type 1} → statement M
-label-again-spec =
+pub check-again-spec : {M : Type 1} → statement M
+check-again-spec =
     tie.close
     (tie.spec
     Inv-loop
     μ-loop
     loop-holds
-    label-query-requires
-    sum-of-requires
+    valid-requires
     wrapping-add-u64-requires
     add-i
     loop-less

@@ -1,8 +1,8 @@
 -- `measure::sum_of` reads the eight words.
 use Prim.Native.Nat.{_-_, _≤_}
 use borrow.Author.Needs.{needs}
-use Rattle.measure.proofs.sum_of.Statement.{statement}
-use Rattle.measure.proofs.sum_of.Tie as tie
+use Rattle.measure.proofs.labelling.sum_of.Statement.{statement}
+use Rattle.measure.proofs.labelling.sum_of.Tie as tie
 
 abbrev Inv-loop : tie.InvT-loop
 Inv-loop l sum₀ i₀ sum i = i ≤ 8

@@ -1,0 +1,46 @@
+use borrow.Author.Needs.{needs}
+use Rattle.words.proofs.Answers.{passes, fails}
+use Rattle.desk.proofs.Loaded.{loaded-to}
+use Rattle.desk.proofs.deciding.decide_checked.Statement.{statement}
+use Rattle.desk.proofs.deciding.decide_checked.Tie as tie
+
+valid-requires : tie.Need-valid-requires
+valid-requires c κs = search needs
+
+refused-requires : tie.Need-refused-requires
+refused-requires c κs = search needs
+
+returns : tie.Need-returns
+returns c = record {
+  unloaded = λ n. c .refused .ensures;
+  loaded = λ l. absurd (fails (c .before .before .valid .ensures) (c .before .if1 .taken) l);
+}
+
+table-views-requires : tie.Need-table-views-requires
+table-views-requires c κs = search needs
+
+view-rows-requires : tie.Need-view-rows-requires
+view-rows-requires c κs = search needs
+
+decide-loaded-requires : tie.Need-decide-loaded-requires
+decide-loaded-requires c κs =
+    let l = passes (c .before .before .before .before .before .before .before .valid .ensures) (c .before .before .before .before .before .before .if1 .left) in
+    ((l .declared, loaded-to l), c .before .before .before .before .before .table-views .ensures, c .before .before .before .before .view-rows .ensures)
+
+returns-2 : tie.Need-returns-2
+returns-2 c = record {
+  unloaded = λ n. absurd (n (passes (c .before .before .before .before .before .before .before .before .valid .ensures) (c .before .before .before .before .before .before .before .if1 .left)));
+  loaded = λ l. c .decide-loaded .ensures (l .declared) (loaded-to l);
+}
+
+pub decide-checked-spec : {M : Type 1} → statement M
+decide-checked-spec =
+    tie.close
+    (tie.spec
+    valid-requires
+    refused-requires
+    returns
+    table-views-requires
+    view-rows-requires
+    decide-loaded-requires
+    returns-2)
