@@ -1,0 +1,63 @@
+// The desk is asked by texts alone: a policy text is loaded, and a query text decided.
+
+ghost use mathlib.Core.Path.{_≡_};
+ghost use Prim.Native.Nat.{_+_, _≤_, _<_};
+ghost use lib.ListN.{length};
+use crate::family::NONE;
+use crate::family::Query;
+use crate::family::TERMS;
+use desk::Reply;
+use desk::Session;
+use model::Policy;
+
+fn put_term(text: &mut [u8], at: usize, term: usize)
+    requires { ⌜ (at + 2 ≤ length (now text)) × (term < 6) ⌝ }
+    ensures { λ _. ⌜ length (now (text .exit)) ≡ length (now (text .entry)) ⌝ }
+{
+    text[at] = TERMS[2 * term];
+    text[at + 1] = TERMS[2 * term + 1];
+}
+
+// The two terms of a line; the byte between them stays, and all of them where there is no line.
+pub fn put_line(text: &mut [u8], at: usize, line: u64)
+    requires { ⌜ at + 5 ≤ length (now text) ⌝ }
+    ensures { λ _. ⌜ length (now (text .exit)) ≡ length (now (text .entry)) ⌝ }
+{
+    if line < NONE {
+        put_term(text, at, (line / 6) as usize);
+        put_term(text, at + 3, (line % 6) as usize);
+    }
+}
+
+// How many lines a number stands for.
+fn lines(line: u64) -> usize
+    ensures { λ r. ⌜ r ≤ 1 ⌝ }
+{
+    if line < NONE {
+        return 1;
+    }
+    0
+}
+
+// The policy of two views and one partition, which grants neither, the first or both. One that is not granted is `#0 #0`.
+pub fn policy(first: u64, second: u64) -> Policy {
+    let mut text =
+        *b"table columns\n1 2\nview table terms\n1 1 #0 #0\n2 1 #0 #0\npartition views\n1 1 2\n";
+    put_line(&mut text, 39, first);
+    put_line(&mut text, 49, second);
+    let end = 72 + 2 * (lines(first) + lines(second));
+    text[end] = b'\n';
+    let r = load::load(&text[..end + 1]);
+    r.policy
+}
+
+// What the desk says to a query in a session.
+pub fn decide(p: Policy, s: Session, q: Query) -> Reply {
+    let mut text = *b"table terms\n1 #0 #0\n1 #0 #0\n1 #0 #0\n";
+    put_line(&mut text, 14, q.first);
+    put_line(&mut text, 22, q.second);
+    put_line(&mut text, 30, q.third);
+    let end = 12 + 8 * (lines(q.first) + lines(q.second) + lines(q.third));
+    let d = desk::decide_checked(p, s, &text[..end]);
+    d.reply
+}
