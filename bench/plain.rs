@@ -242,7 +242,7 @@ pub fn shared(q: &Query, left: u64) -> u64 {
     twice
 }
 
-// reduce::showing::show_line
+// reduce::showing::show, of one line
 pub fn show_line(shared: u64, l: &Line) -> Line {
     let mut r = *l;
     if shared == 0 {

@@ -92,17 +92,15 @@ fn answer(s: Session, left: u64) -> Decision
     Decision { reply, session }
 }
 
-// Deciding under a policy that is known to be loaded: `masks` has the views of each table, the other lists the terms of the
-// views.
-pub fn decide_loaded<'a>(
+// Deciding under a policy that is known to be loaded: `masks` has the views of each table, `views` their rows.
+pub fn decide_loaded(
     p: Policy,
     masks: &[u64; 17],
-    marks: &'a [u64; 256],
-    numbers: &'a [u64; 256],
+    views: &[u64; 544],
     s: Session,
     text: &[u8],
 ) -> Decision
-    requires { ⌜ SomePolicy p × TableMasks p (now masks) × ViewsLaid p (now marks) (now numbers) ⌝ }
+    requires { ⌜ SomePolicy p × TableMasks p (now masks) × ViewsLaid p (now views) ⌝ }
     ensures { λ r. ⌜ ((d : Declared) → LoadedTo p d → Gives r (decideUnder d (s .mask) (now (text .entry)))) ⌝ }
 {
     let n = p.partition_count;
@@ -110,7 +108,7 @@ pub fn decide_loaded<'a>(
         return refused(s, 9, 0);
     }
     let tables = p.tables;
-    let a = labels::label_text(tables, masks, marks, numbers, text);
+    let a = labels::label_text(tables, masks, views, text);
     let outcome = a.outcome;
     match outcome {
         Outcome::Refused { number, line } => refused(s, number, line),
@@ -131,8 +129,8 @@ pub fn decide_checked(p: Policy, s: Session, text: &[u8]) -> Decision
         return refused(s, 8, 0);
     }
     let masks = label::table_views(p);
-    let rows = label::view_rows(p);
-    decide_loaded(p, &masks, &rows.marks, &rows.numbers, s, text)
+    let views = label::view_rows(p);
+    decide_loaded(p, &masks, &views, s, text)
 }
 
 // Deciding a query text in a session, which is lent and altered by a yes alone: yes, no or a refusal.

@@ -54,7 +54,8 @@ fn give_words(l: Labels, granted: u64, out: &mut [u32]) -> Explaining
     requires { ⌜ SomeLabels l ⌝ }
     ensures { λ r. ⌜ ((ws : List ℕ) → Held l ws → Explains r (now (out .exit)) (explainedBy (now (out .entry)) (settled granted ws) (explained granted ws))) ⌝ }
 {
-    let w = explain::words_of(l, granted);
+    let is_settled = labels::settles(l, granted);
+    let w = explain::words_of(l, granted, is_settled);
     let count = w.count;
     if out.len() < count {
         return Explaining::Refused {
@@ -64,7 +65,7 @@ fn give_words(l: Labels, granted: u64, out: &mut [u32]) -> Explaining
     }
     let words = w.words;
     write_words(words, count, out);
-    if labels::settles(l, granted) {
+    if is_settled {
         return Explaining::Settled {
             count: count as u64,
         };

@@ -2,7 +2,7 @@
 use mathlib.Core.Path.{_≡_, sym, ap, _∙_, subst}
 use mathlib.Core.Bool.{Bool, true, false}
 use mathlib.Core.List.{List, map}
-use Prim.Native.Nat.{ℕ, _+_, _*_, _≤_, _<_}
+use Prim.Native.Nat.{ℕ, _+_, _≤_, _<_}
 use native.Mathlib.Omega.{arith}
 use borrow.Author.Count.{below-none, below-more}
 use borrow.Author.Tests.{eq-eqb}
@@ -22,19 +22,19 @@ use Rattle.model.proofs.Terms.{terms-few}
 use Rattle.words.proofs.Answers.{true-holds, holds-true, fails-false}
 
 -- row k holds a line of n columns
-pub record Wide (n : ℕ) (marks numbers : List ℕ) (k : ℕ) (view : TheLine) : Type 0 where
-  pub is : Row marks numbers k (lineValue view)
+pub record Wide (n : ℕ) (rows : List ℕ) (k : ℕ) (view : TheLine) : Type 0 where
+  pub is : Row rows k (lineValue view)
   pub width : length (view .columns) ≡ n
 
-module _ {n : ℕ} {marks numbers : List ℕ} {k : ℕ} {view : TheLine} where
-  pub wide : Row marks numbers k (lineValue view) → length (view .columns) ≡ n → Wide n marks numbers k view
+module _ {n : ℕ} {rows : List ℕ} {k : ℕ} {view : TheLine} where
+  pub wide : Row rows k (lineValue view) → length (view .columns) ≡ n → Wide n rows k view
   wide e w = record { is = e; width = w }
 
-  pub column : n ≤ 8 → Wide n marks numbers k view → (p : ℕ) → p < n → laidTerm marks numbers (k * 8 + p) ≡ termValue (at view p)
+  pub column : n ≤ 8 → Wide n rows k view → (p : ℕ) → p < n → laidTerm rows k p ≡ termValue (at view p)
   unfolding termAt lineValue
   column few w p h =
       let columns = view .columns in
-      w .is p (omega arith)
+      w .is .term p (omega arith)
       ∙ ap (λ l. getD l p unusedTerm) (terms-few columns (omega (arith, w .width)))
       ∙ pad-get 8 unusedTerm (map termValue columns) p
       ∙ getD-map termValue columns p (constant 0) unusedTerm (omega (arith, w .width))
@@ -62,8 +62,8 @@ module _ {width : ℕ} {IsView IsLine : TheLine → Type 0} where
   passed-row {p} {q} r h =
       record { rows = below-more _ p (r .rows) (λ j l. r .row j (omega arith)); row = below-none _ }
 
-module _ {width : ℕ} {viewMarks viewNumbers : List ℕ} {v : ℕ} {marks numbers : List ℕ} {a : ℕ} (view line : TheLine)
-    (sv : Wide width viewMarks viewNumbers v view) (sa : Wide width marks numbers a line) where
+module _ {width : ℕ} {views : List ℕ} {v : ℕ} {lines : List ℕ} {a : ℕ} (view line : TheLine) (sv : Wide width views v view)
+    (sa : Wide width lines a line) where
   rows : Bool
   rows = allBelow width (λ p. allBelow width (rule view line p))
 
@@ -73,7 +73,7 @@ module _ {width : ℕ} {viewMarks viewNumbers : List ℕ} {v : ℕ} {marks numbe
       let wide : length (view .columns) ≡ length (line .columns) = sv .width ∙ sym (sa .width) in
       rw (eq-eqb (view .table) (line .table) t, eq-eqb (length (view .columns)) (length (line .columns)) wide, sv .width)
 
-  pub passed-done : {p q : ℕ} → Passed width (Wide width viewMarks viewNumbers v) (Wide width marks numbers a) p q → width ≤ p
+  pub passed-done : {p q : ℕ} → Passed width (Wide width views v) (Wide width lines a) p q → width ≤ p
       → view .table ≡ line .table → true ≡ covers view line
   unfolding rows
   passed-done r h t =

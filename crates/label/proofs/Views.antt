@@ -76,11 +76,11 @@ module _ {p : Policy} {views : List TheLine} (h : Holds p views) where
 abbrev pub Covering : List TheLine → TheLine → ℕ → Type 0
 Covering views A k = (v : TheLine) × (getElem? views k ≡ some v) × Covers v A
 
-module _ {viewMarks viewNumbers : List ℕ} {mask width table : ℕ} {marks numbers : List ℕ} {a : ℕ} {views : List TheLine} {A : TheLine}
-    (l : Labelled viewMarks viewNumbers mask width table marks numbers a views A) where
+module _ {rows : List ℕ} {mask width : ℕ} {lines : List ℕ} {a : ℕ} {views : List TheLine} {A : TheLine}
+    (l : Labelled rows mask width lines a views A) where
   -- what the test of covering says at a place of the mask
   pub answered : (k : ℕ) (b : Bool) → bit mask k ≡ 1
-      → ((view line : TheLine) → Row viewMarks viewNumbers k (lineValue view) → Row marks numbers a (lineValue line)
+      → ((view line : TheLine) → Row rows k (lineValue view) → Row lines a (lineValue line)
       → view .table ≡ line .table → length (view .columns) ≡ width → length (line .columns) ≡ width → b ≡ covers view line)
       → (b ≡ true) ↔ Covering views A k
   answered k b e test =
@@ -109,6 +109,6 @@ module _ {viewMarks viewNumbers : List ℕ} {mask width table : ℕ} {marks numb
       let v = viewBits-bit views A k in (λ e. v .1 (covered k .0 e), λ e. covered k .1 (v .0 e)))
 
   pub labelled : (left word : ℕ) → left ≡ 0 → word < 2 ^ 32 → Picked (Covering views A) mask left word
-      → table + 2 ^ 32 * word ≡ label views A
-  unfolding label
-  labelled left word none small w = ap₂ (λ t x. t + 2 ^ 32 * x) (l .tableIs) (views-word left word none small w)
+      → getD lines (a * 17) 0 + 2 ^ 32 * word ≡ label views A
+  unfolding label lineValue
+  labelled left word none small w = ap₂ (λ t x. t + 2 ^ 32 * x) (l .line .table) (views-word left word none small w)

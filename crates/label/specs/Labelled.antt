@@ -33,24 +33,21 @@ pub record TableMasks (p : Policy) (masks : List ℕ) : Type 0 where
   pub long : length masks ≡ 17
   pub mask : (table : ℕ) → table ≤ 16 → TableViews p table (getD masks table 0)
 
--- the terms of each view, view n in row n - 1
-pub record LaidViews (marks numbers : List ℕ) (views : List TheLine) : Type 0 where
-  pub row : (k : ℕ) (v : TheLine) → getElem? views k ≡ some v → Row marks numbers k (lineValue v)
+-- the rows of views, view n in row n - 1
+pub record LaidViews (rows : List ℕ) (views : List TheLine) : Type 0 where
+  pub row : (k : ℕ) (v : TheLine) → getElem? views k ≡ some v → Row rows k (lineValue v)
 
 -- the rows of a policy's views
-pub record ViewsLaid (p : Policy) (marks numbers : List ℕ) : Type 0 where
-  pub marksLong : length marks ≡ 256
-  pub numbersLong : length numbers ≡ 256
-  pub laid : (views : List TheLine) → Holds p views → LaidViews marks numbers views
+pub record ViewsLaid (p : Policy) (rows : List ℕ) : Type 0 where
+  pub long : length rows ≡ 544
+  pub laid : (views : List TheLine) → Holds p views → LaidViews rows views
 
--- row a of the line's marks and numbers holds the line, whose table is this, and the mask has the views of its table; these have
--- as many columns as the line
-pub record Labelled (marks numbers : List ℕ) (mask width table : ℕ) (lineMarks lineNumbers : List ℕ) (a : ℕ) (views : List TheLine)
-    (A : TheLine) : Type 0 where
+-- the rows of views, row a of lines, which holds a line, and the mask with the views of its table; these have as many columns as
+-- the line
+pub record Labelled (rows : List ℕ) (mask width : ℕ) (lines : List ℕ) (a : ℕ) (views : List TheLine) (A : TheLine) : Type 0 where
   pub few : length views ≤ 32
-  pub laid : LaidViews marks numbers views
-  pub line : Row lineMarks lineNumbers a (lineValue A)
-  pub tableIs : table ≡ A .table
+  pub laid : LaidViews rows views
+  pub line : Row lines a (lineValue A)
   pub bits : OfTable views (A .table) mask
   pub lineWidth : length (A .columns) ≡ width
   pub viewWidths : (v : TheLine) → v ∈ views → v .table ≡ A .table → length (v .columns) ≡ width

@@ -4,7 +4,7 @@ ghost use mathlib.Core.Path.{_≡_};
 ghost use mathlib.Core.Bool.{not, _||_};
 ghost use mathlib.Core.List.{List};
 ghost use Prim.Native.Nat.{_+_, _*_, _^_, _≤_, _<_};
-ghost use lib.ListN.{length};
+ghost use lib.ListN.{length, getD};
 ghost use Rattle.theory.specs.Query.{Term as TheTerm, Line as TheLine};
 ghost use Rattle.theory.specs.Executable.Cover.{obeys as obeysRules, covers as coversLine};
 ghost use Rattle.theory.specs.Executable.Label.{label};
@@ -45,29 +45,21 @@ fn obeys(v: Term, w: Term, a: Term, b: Term) -> bool
     equals && implies(same_term(a, b), same_term(v, w))
 }
 
-// Whether a view covers a line of its table, which has `width` columns: row `v` of one pair of lists, and row `a` of another.
+// Whether a view covers a line of its table, which has `width` columns: the view in row `v`, the line in row `a` of other rows.
 // The first broken rule ends the comparison.
-pub fn covers(
-    width: usize,
-    view_marks: &[u64],
-    view_numbers: &[u64],
-    v: usize,
-    marks: &[u64],
-    numbers: &[u64],
-    a: usize,
-) -> bool
-    requires { ⌜ (width ≤ 8) × (v * 8 + 8 ≤ length (now «view_marks»)) × (v * 8 + 8 ≤ length (now «view_numbers»)) × (a * 8 + 8 ≤ length (now marks)) × (a * 8 + 8 ≤ length (now numbers)) ⌝ }
-    ensures { λ r. ⌜ ((view line : TheLine) → Row (now («view_marks» .entry)) (now («view_numbers» .entry)) v (lineValue view) → Row (now (marks .entry)) (now (numbers .entry)) a (lineValue line) → view .table ≡ line .table → length (view .columns) ≡ width → length (line .columns) ≡ width → r ≡ coversLine view line) ⌝ }
+pub fn covers(width: usize, views: &[u64], v: usize, lines: &[u64], a: usize) -> bool
+    requires { ⌜ (width ≤ 8) × (v * 17 + 17 ≤ length (now views)) × (a * 17 + 17 ≤ length (now lines)) ⌝ }
+    ensures { λ r. ⌜ ((view line : TheLine) → Row (now (views .entry)) v (lineValue view) → Row (now (lines .entry)) a (lineValue line) → view .table ≡ line .table → length (view .columns) ≡ width → length (line .columns) ≡ width → r ≡ coversLine view line) ⌝ }
 {
     let mut ok = true;
     let mut p = 0;
     'columns: while p < width {
-        let x = model::term_at(view_marks, view_numbers, v * 8 + p);
-        let y = model::term_at(marks, numbers, a * 8 + p);
+        let x = model::term_at(views, v, p);
+        let y = model::term_at(lines, a, p);
         let mut q = 0;
         while q < width {
-            let xq = model::term_at(view_marks, view_numbers, v * 8 + q);
-            let yq = model::term_at(marks, numbers, a * 8 + q);
+            let xq = model::term_at(views, v, q);
+            let yq = model::term_at(lines, a, q);
             if !obeys(x, xq, y, yq) {
                 ok = false;
                 break 'columns;
@@ -100,59 +92,34 @@ pub fn table_views(p: Policy) -> [u64; 17]
     masks
 }
 
-// The terms of the views, view n in row n - 1.
-pub struct ViewRows {
-    pub marks: [u64; 256],
-    pub numbers: [u64; 256],
-}
-
-pub fn view_rows(p: Policy) -> ViewRows
-    ensures { λ r. ⌜ ViewsLaid p (r .marks) (r .numbers) ⌝ }
+// The views laid out as numbers, view n in row n - 1.
+pub fn view_rows(p: Policy) -> [u64; 544]
+    ensures { λ r. ⌜ ViewsLaid p r ⌝ }
 {
-    let mut marks = [0; 256];
-    let mut numbers = [0; 256];
+    let mut views = [0; 544];
     let mut k = 0;
-    while k < 256 {
-        let v = p.views[k / 8];
-        let t = v.terms[k % 8];
-        marks[k] = t.mark;
-        numbers[k] = t.number;
+    while k < 32 {
+        let v = p.views[k];
+        model::lay_line(v, k, &mut views);
         k += 1;
     }
-    ViewRows { marks, numbers }
+    views
 }
 
-// The label of a line of a table with `width` columns, in row `a`; `mask` has the views of the table.
-pub fn label_line(
-    view_marks: &[u64; 256],
-    view_numbers: &[u64; 256],
-    mask: u64,
-    width: usize,
-    table: u64,
-    marks: &[u64; 64],
-    numbers: &[u64; 64],
-    a: usize,
-) -> u64
-    requires { ⌜ (length (now «view_marks») ≡ 256) × (length (now «view_numbers») ≡ 256) × (length (now marks) ≡ 64) × (length (now numbers) ≡ 64) × (mask < 2 ^ 32) × (width ≤ 8) × (table < 2 ^ 32) × (a < 8) ⌝ }
-    ensures { λ r. ⌜ ((views : List TheLine) (line : TheLine) → Labelled (now («view_marks» .entry)) (now («view_numbers» .entry)) mask width table (now (marks .entry)) (now (numbers .entry)) a views line → r ≡ label views line) ⌝ }
+// The label of the line in row `a`, of a table of `width` columns; `mask` has the views of its table.
+pub fn label_line(views: &[u64; 544], mask: u64, width: usize, lines: &[u64; 136], a: usize) -> u64
+    requires { ⌜ (length (now views) ≡ 544) × (length (now lines) ≡ 136) × (mask < 2 ^ 32) × (width ≤ 8) × (a < 8) × (getD (now lines) (a * 17) 0 < 2 ^ 32) ⌝ }
+    ensures { λ r. ⌜ ((vs : List TheLine) (line : TheLine) → Labelled (now (views .entry)) mask width (now (lines .entry)) a vs line → r ≡ label vs line) ⌝ }
 {
     let mut word = 0;
     let mut left = mask;
     while left != 0 {
         let k = words::least(left);
-        let on = covers(
-            width,
-            view_marks,
-            view_numbers,
-            k as usize,
-            marks,
-            numbers,
-            a,
-        );
+        let on = covers(width, views, k as usize, lines, a);
         word = words::set_bit_if(word, k, on);
         left = words::drop_least(left);
     }
-    words::join(table, word)
+    words::join(lines[a * 17], word)
 }
 
 // ---- the order of labels

@@ -28,48 +28,54 @@ use Rattle.policy.proofs.Value.{up-to-iff}
 use Rattle.label.specs.Labelled.{Labelled}
 use Rattle.reduce.specs.Agree.{lineAt}
 use Rattle.reduce.specs.Left.{pick, linesAt}
-use Rattle.reduce.specs.Laid.{Laid, LaidTables}
-use Rattle.reduce.specs.Showing.{SharedWord, showValue, showLine, ShownMarks}
+use Rattle.reduce.specs.Laid.{Laid}
+use Rattle.reduce.specs.Showing.{SharedWord, showValue, showLine, ShownRows}
 use Rattle.reduce.proofs.Left.{in-lines, lines-subset}
 use Rattle.reduce.proofs.Lines.{laid-few, left-more}
 use Rattle.reduce.proofs.Shown.{shownBy, line-value, line-shown}
-use Rattle.reduce.proofs.ShownRows.{shown-term}
+use Rattle.reduce.proofs.ShownTerms.{shown-term}
 use Rattle.labels.specs.Posed.{Ready, LineOf, Posed, Rows, labelsValue}
 use Rattle.labels.specs.declared.Labels.{Labels}
 
 -- ---- a line
 
-module _ {d : Declared} {tables : Tables} {masks viewMarks viewNumbers : List ℕ} (ready : Ready d tables masks viewMarks viewNumbers)
-    {table : ℕ} {marks numbers : List ℕ} {i : ℕ} {A : Line} (l : LineOf d table marks numbers i A) where
+module _ {d : Declared} {tables : Tables} {masks views : List ℕ} (ready : Ready d tables masks views) {lines : List ℕ} {i : ℕ} {A : Line}
+    (l : LineOf d lines i A) where
+  abbrev table : ℕ
+  table = getD lines (i * 17) 0
+
+  table-is : table ≡ A .table
+  unfolding lineValue
+  table-is = l .line .table
+
   pub first-table : 1 ≤ table
-  first-table = rw (l .tableIs) (l .fits .first)
+  first-table = rw table-is (l .fits .first)
 
   pub last-table : table ≤ 16
   unfolding mostTables
-  last-table = rw (l .tableIs) (omega (arith, l .fits .last, ready .good .tables .few))
+  last-table = rw table-is (omega (arith, l .fits .last, ready .good .tables .few))
 
   width-is : getD (d .widths) (table - 1) 0 ≡ length (A .columns)
-  width-is = ap (λ (t : ℕ). getD (d .widths) (t - 1) 0) (l .tableIs) ∙ sym (l .fits .width)
+  width-is = ap (λ (t : ℕ). getD (d .widths) (t - 1) 0) table-is ∙ sym (l .fits .width)
 
   pub narrow : getD (d .widths) (table - 1) 0 ≤ 8
   unfolding mostColumns
   narrow =
-      let m = getD-mem (d .widths) (table - 1) 0 (omega (arith, first-table, l .tableIs, l .fits .last)) in
+      let m = getD-mem (d .widths) (table - 1) 0 (omega (arith, first-table, table-is, l .fits .last)) in
       up-to-iff 8 _ .0 (ready .good .tables .each _ m) .1
 
   pub line-labelled : (width : ℕ) → width ≡ getD (d .widths) (table - 1) 0
-      → Labelled viewMarks viewNumbers (getD masks table 0) width table marks numbers i (d .views) A
+      → Labelled views (getD masks table 0) width lines i (d .views) A
   unfolding wide mostViews
   line-labelled width w =
       record {
         few = ready .good .views .few;
         laid = ready .laid;
         line = l .line;
-        tableIs = l .tableIs;
-        bits = rw (sym (l .tableIs)) (ready .bits table first-table last-table);
+        bits = rw (sym table-is) (ready .bits table first-table last-table);
         lineWidth = sym (w ∙ width-is);
         viewWidths = λ v m e.
-            eqb→eq _ _ (ready .good .views .each v m .fitting) ∙ ap (λ (t : ℕ). getD (d .widths) (t - 1) 0) (e ∙ sym (l .tableIs)) ∙ sym w;
+            eqb→eq _ _ (ready .good .views .each v m .fitting) ∙ ap (λ (t : ℕ). getD (d .widths) (t - 1) 0) (e ∙ sym table-is) ∙ sym w;
       }
 
 -- ---- the lines of a query, shown
@@ -83,13 +89,12 @@ shown-fits widths Q f B m =
     subst (λ (C : Line). Fits widths C) (a .2) (fits-over (showTerm R) (a .0) (f (a .0) (reduced-subset (reduce-reduces Q) (a .0) (a .1))))
 
 -- the line in row i, shown by a word
-module _ {d : Declared} {Q : Query} {w : ℕ} {tables marks numbers : List ℕ} (r : Rows d Q w tables marks numbers) (i : ℕ) (h : i < length Q) where
+module _ {d : Declared} {Q : Query} {w : ℕ} {lines : List ℕ} (r : Rows d Q w lines) (i : ℕ) (h : i < length Q) where
   line-of : (f : Term → Term) → showLine w (lineValue (lineAt Q i)) ≡ lineValue (over f (lineAt Q i))
-      → LineOf d (getD tables i 0) marks numbers i (over f (lineAt Q i))
+      → LineOf d lines i (over f (lineAt Q i))
   unfolding lineAt
   line-of f e = record {
-    line = subst (Row marks numbers i) e (r .row i h);
-    tableIs = r .laidTables i h;
+    line = subst (Row lines i) e (r .row i h);
     fits = fits-over f (lineAt Q i) (r .fits (lineAt Q i) (getD-mem Q i _ h));
   }
 
@@ -98,12 +103,12 @@ module _ {d : Declared} {Q : Query} {w : ℕ} {tables marks numbers : List ℕ} 
   few = r .columns (lineAt Q i) (getD-mem Q i (record { table = 0; columns = [] }) h)
 
   -- whatever the word, it is a line of the tables
-  pub some-line : LineOf d (getD tables i 0) marks numbers i (over (shownBy w) (lineAt Q i))
+  pub some-line : LineOf d lines i (over (shownBy w) (lineAt Q i))
   some-line = line-of (shownBy w) (line-value w (lineAt Q i) few)
 
   -- with the word of the shared variables of the lines left, it is the line shown
   pub shown-line : (left : ℕ) → SharedWord (linesAt left Q) w → isSet left i ≡ true
-      → LineOf d (getD tables i 0) marks numbers i (over (showTerm (linesAt left Q)) (lineAt Q i))
+      → LineOf d lines i (over (showTerm (linesAt left Q)) (lineAt Q i))
   shown-line left word e =
       let R = linesAt left Q in
       line-of (showTerm R)
@@ -111,17 +116,21 @@ module _ {d : Declared} {Q : Query} {w : ℕ} {tables marks numbers : List ℕ} 
       (lineAt Q i) (in-lines left Q i h (eqb-true _ _ e)))
 
 -- the rows of a query laid out and then shown
-pub rows-shown : {q : QueryValue} {d : Declared} {Q : Query} (n w : ℕ) {tables marks numbers : List ℕ} {marks′ : List ℕ} → length Q ≡ n
-    → Posed q d Q → LaidTables Q tables → Laid Q marks numbers → ShownMarks n marks numbers w marks′ → Rows d Q w tables marks′ numbers
-rows-shown {Q = Q} n w {marks = marks} {numbers} {marks′} e g t laid s = record {
+pub rows-shown : {q : QueryValue} {d : Declared} {Q : Query} (n w : ℕ) {lines lines′ : List ℕ} → length Q ≡ n → Posed q d Q → Laid Q lines
+    → ShownRows n lines w lines′ → Rows d Q w lines′
+unfolding showLine
+rows-shown {Q = Q} n w e g laid s = record {
   lines = laid .lines;
   columns = laid .columns;
   small = g .small;
   fits = g .fits;
-  laidTables = t;
-  row = λ i h p b.
-      s .term (i * 8 + p) (omega (arith, e)) ∙ ap (showValue w) (laid .row i h p b)
-      ∙ sym (shown-term w (lineAt Q i) (laid-few laid i h) p b);
+  row = λ i h.
+      record {
+        table = s .table i (omega (arith, e)) ∙ laid .row i h .table;
+        term = λ p b.
+            s .term i p (omega (arith, e)) b ∙ ap (showValue w) (laid .row i h .term p b)
+            ∙ sym (shown-term w (lineAt Q i) (laid-few laid i h) p b);
+      };
 }
 
 -- ---- the words, one by one

@@ -48,9 +48,9 @@ unfolding policyValue mostViews
 holds l = record { few = l .good .views .few; is = ap (λ (x : Policy). x .views) (l .policy) }
 
 -- what is made of a loaded policy once
-pub ready : {p : Policy} {d : Declared} {masks marks numbers : List ℕ} → LoadedTo p d → TableMasks p masks → ViewsLaid p marks numbers
-    → Ready d (p .tables) masks marks numbers
-ready {d = d} l masks rows =
+pub ready : {p : Policy} {d : Declared} {masks rows : List ℕ} → LoadedTo p d → TableMasks p masks → ViewsLaid p rows
+    → Ready d (p .tables) masks rows
+ready {d = d} l masks views =
     let held = holds l in
     record {
       good = l .good;
@@ -58,9 +58,8 @@ ready {d = d} l masks rows =
       masksLong = masks .long;
       below = λ table h. masks .mask table h .below;
       bits = λ table first h. masks .mask table h .bits first (d .views) held;
-      marksLong = rows .marksLong;
-      numbersLong = rows .numbersLong;
-      laid = rows .laid (d .views) held;
+      rowsLong = views .long;
+      laid = views .laid (d .views) held;
     }
 
 pub posed : {q : QueryValue} (d : Declared) (text : List ℕ) (Q : Query) → WellFormed d → read (d .widths) text ≡ accepted Q

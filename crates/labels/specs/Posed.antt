@@ -14,31 +14,29 @@ use Rattle.policy.specs.Text.{Declared}
 use Rattle.policy.specs.Value.{WellFormed}
 use Rattle.label.specs.Labelled.{OfTable, LaidViews}
 use Rattle.reduce.specs.Agree.{lineAt}
-use Rattle.reduce.specs.Laid.{Held, LaidTables}
+use Rattle.reduce.specs.Laid.{Held}
 use Rattle.reduce.specs.Showing.{Small, showLine}
 use Rattle.labels.specs.declared.Labels.{Labels}
 
--- ---- what is made of a policy once: its tables' columns, the views of each table as bits, and the terms of the views as rows
+-- ---- what is made of a policy once: its tables' columns, the views of each table as bits, and the views as rows
 
-pub record Ready (d : Declared) (tables : Tables) (masks marks numbers : List ℕ) : Type 0 where
+pub record Ready (d : Declared) (tables : Tables) (masks rows : List ℕ) : Type 0 where
   pub good : WellFormed d
   pub tablesAre : tables ≡ tablesValue (d .widths)
   pub masksLong : length masks ≡ 17
   pub below : (table : ℕ) → table ≤ 16 → getD masks table 0 < 2 ^ 32
   pub bits : (table : ℕ) → 1 ≤ table → table ≤ 16 → OfTable (d .views) table (getD masks table 0)
-  pub marksLong : length marks ≡ 256
-  pub numbersLong : length numbers ≡ 256
-  pub laid : LaidViews marks numbers (d .views)
+  pub rowsLong : length rows ≡ 544
+  pub laid : LaidViews rows (d .views)
 
-abbrev pub SomeReady : Tables → List ℕ → List ℕ → List ℕ → Type 0
-SomeReady tables masks marks numbers = (d : Declared) × Ready d tables masks marks numbers
+abbrev pub SomeReady : Tables → List ℕ → List ℕ → Type 0
+SomeReady tables masks rows = (d : Declared) × Ready d tables masks rows
 
 -- ---- a line, and a query
 
--- row i has a line of this table, which is one of the policy's
-pub record LineOf (d : Declared) (table : ℕ) (marks numbers : List ℕ) (i : ℕ) (A : TheLine) : Type 0 where
-  pub line : Row marks numbers i (lineValue A)
-  pub tableIs : table ≡ A .table
+-- row i has a line of one of the policy's tables
+pub record LineOf (d : Declared) (rows : List ℕ) (i : ℕ) (A : TheLine) : Type 0 where
+  pub line : Row rows i (lineValue A)
   pub fits : Fits (d .widths) A
 
 -- q holds a query on the policy's tables
@@ -48,13 +46,12 @@ pub record Posed (q : Query) (d : Declared) (Q : TheQuery) : Type 0 where
   pub fits : AllFit (d .widths) Q
 
 -- the rows of such a query, its variables of a word shown
-pub record Rows (d : Declared) (Q : TheQuery) (w : ℕ) (tables marks numbers : List ℕ) : Type 0 where
+pub record Rows (d : Declared) (Q : TheQuery) (w : ℕ) (rows : List ℕ) : Type 0 where
   pub lines : length Q ≤ 8
   pub columns : (A : TheLine) → A ∈ Q → length (A .columns) ≤ 8
   pub small : Small Q
   pub fits : AllFit (d .widths) Q
-  pub laidTables : LaidTables Q tables
-  pub row : (i : ℕ) → i < length Q → Row marks numbers i (showLine w (lineValue (lineAt Q i)))
+  pub row : (i : ℕ) → i < length Q → Row rows i (showLine w (lineValue (lineAt Q i)))
 
 -- ---- the labels
 

@@ -44,61 +44,37 @@ fn width_of(tables: Tables, table: u64) -> usize
 fn label_of(
     tables: Tables,
     masks: &[u64; 17],
-    view_marks: &[u64; 256],
-    view_numbers: &[u64; 256],
-    table: u64,
-    marks: &[u64; 64],
-    numbers: &[u64; 64],
+    views: &[u64; 544],
+    lines: &[u64; 136],
     i: usize,
 ) -> u64
-    requires { ⌜ ((d : Declared) × (A : TheLine) × Ready d tables (now masks) (now «view_marks») (now «view_numbers») × LineOf d table (now marks) (now numbers) i A) × (length (now marks) ≡ 64) × (length (now numbers) ≡ 64) × (i < 8) ⌝ }
-    ensures { λ r. ⌜ ((d : Declared) (A : TheLine) → Ready d tables (now (masks .entry)) (now («view_marks» .entry)) (now («view_numbers» .entry)) → LineOf d table (now (marks .entry)) (now (numbers .entry)) i A → r ≡ label (d .views) A) ⌝ }
+    requires { ⌜ ((d : Declared) × (A : TheLine) × Ready d tables (now masks) (now views) × LineOf d (now lines) i A) × (length (now lines) ≡ 136) × (i < 8) ⌝ }
+    ensures { λ r. ⌜ ((d : Declared) (A : TheLine) → Ready d tables (now (masks .entry)) (now (views .entry)) → LineOf d (now (lines .entry)) i A → r ≡ label (d .views) A) ⌝ }
 {
+    let table = lines[i * 17];
     let width = width_of(tables, table);
     let mask = masks[table as usize];
-    label::label_line(
-        view_marks,
-        view_numbers,
-        mask,
-        width,
-        table,
-        marks,
-        numbers,
-        i,
-    )
+    label::label_line(views, mask, width, lines, i)
 }
 
 // The labels of the lines left of n lines, whose shared variables are shown.
-fn label_lines<'a>(
+fn label_lines(
     tables: Tables,
     masks: &[u64; 17],
-    view_marks: &[u64; 256],
-    view_numbers: &[u64; 256],
+    views: &[u64; 544],
     n: usize,
-    line_tables: &'a [u64; 8],
-    marks: &[u64; 64],
-    numbers: &'a [u64; 64],
+    lines: &[u64; 136],
     left: u64,
 ) -> Labels
-    requires { ⌜ ((d : Declared) × (Q : TheQuery) × (w : ℕ) × Ready d tables (now masks) (now «view_marks») (now «view_numbers») × (length Q ≡ n) × Rows d Q w (now «line_tables») (now marks) (now numbers)) × (length (now «line_tables») ≡ 8) × (length (now marks) ≡ 64) × (length (now numbers) ≡ 64) ⌝ }
-    ensures { λ r. ⌜ ((d : Declared) (Q : TheQuery) (w : ℕ) → Ready d tables (now (masks .entry)) (now («view_marks» .entry)) (now («view_numbers» .entry)) → length Q ≡ n → Rows d Q w (now («line_tables» .entry)) (now (marks .entry)) (now (numbers .entry)) → SharedWord (linesAt left Q) w → r ≡ labelsValue (map (label (d .views)) (show (linesAt left Q)))) ⌝ }
+    requires { ⌜ ((d : Declared) × (Q : TheQuery) × (w : ℕ) × Ready d tables (now masks) (now views) × (length Q ≡ n) × Rows d Q w (now lines)) × (length (now lines) ≡ 136) ⌝ }
+    ensures { λ r. ⌜ ((d : Declared) (Q : TheQuery) (w : ℕ) → Ready d tables (now (masks .entry)) (now (views .entry)) → length Q ≡ n → Rows d Q w (now (lines .entry)) → SharedWord (linesAt left Q) w → r ≡ labelsValue (map (label (d .views)) (show (linesAt left Q)))) ⌝ }
 {
     let mut words = [0; 8];
     let mut count = 0;
     let mut i = 0;
     while i < n {
         if words::has_bit(left, i as u64) {
-            let table = line_tables[i];
-            words[count] = label_of(
-                tables,
-                masks,
-                view_marks,
-                view_numbers,
-                table,
-                marks,
-                numbers,
-                i,
-            );
+            words[count] = label_of(tables, masks, views, lines, i);
             count += 1;
         }
         i += 1;
@@ -107,32 +83,16 @@ fn label_lines<'a>(
 }
 
 // The labels of a query.
-pub fn label_query<'a>(
-    tables: Tables,
-    masks: &[u64; 17],
-    view_marks: &'a [u64; 256],
-    view_numbers: &'a [u64; 256],
-    q: Query,
-) -> Labels
-    requires { ⌜ ((d : Declared) × (Q : TheQuery) × Ready d tables (now masks) (now «view_marks») (now «view_numbers») × Posed q d Q) ⌝ }
-    ensures { λ r. ⌜ ((d : Declared) (Q : TheQuery) → Ready d tables (now (masks .entry)) (now («view_marks» .entry)) (now («view_numbers» .entry)) → Posed q d Q → r ≡ labelsValue (labels (d .views) Q)) ⌝ }
+pub fn label_query(tables: Tables, masks: &[u64; 17], views: &[u64; 544], q: Query) -> Labels
+    requires { ⌜ ((d : Declared) × (Q : TheQuery) × Ready d tables (now masks) (now views) × Posed q d Q) ⌝ }
+    ensures { λ r. ⌜ ((d : Declared) (Q : TheQuery) → Ready d tables (now (masks .entry)) (now (views .entry)) → Posed q d Q → r ≡ labelsValue (labels (d .views) Q)) ⌝ }
 {
     let n = q.count;
-    let r = reduce::query_rows(q);
-    let left = reduce::lines_left(n, &r.tables, &r.marks, &r.numbers);
-    let shared = reduce::shared(n, &r.marks, &r.numbers, left);
-    let marks = reduce::show_marks(n, r.marks, &r.numbers, shared);
-    label_lines(
-        tables,
-        masks,
-        view_marks,
-        view_numbers,
-        n,
-        &r.tables,
-        &marks,
-        &r.numbers,
-        left,
-    )
+    let mut lines = reduce::query_rows(q);
+    let left = reduce::lines_left(n, &lines);
+    let shared = reduce::shared(n, &lines, left);
+    reduce::show(n, &mut lines, shared);
+    label_lines(tables, masks, views, n, &lines, left)
 }
 
 fn no_labels() -> Labels
@@ -145,22 +105,16 @@ fn no_labels() -> Labels
 }
 
 // The labels of a query text, or what turns it back.
-pub fn label_text<'a>(
-    tables: Tables,
-    masks: &[u64; 17],
-    view_marks: &'a [u64; 256],
-    view_numbers: &'a [u64; 256],
-    text: &[u8],
-) -> Asked
-    requires { ⌜ SomeReady tables (now masks) (now «view_marks») (now «view_numbers») ⌝ }
-    ensures { λ r. ⌜ ((d : Declared) → Ready d tables (now (masks .entry)) (now («view_marks» .entry)) (now («view_numbers» .entry)) → r ≡ askedValue (d .views) (read (d .widths) (now (text .entry)))) ⌝ }
+pub fn label_text(tables: Tables, masks: &[u64; 17], views: &[u64; 544], text: &[u8]) -> Asked
+    requires { ⌜ SomeReady tables (now masks) (now views) ⌝ }
+    ensures { λ r. ⌜ ((d : Declared) → Ready d tables (now (masks .entry)) (now (views .entry)) → r ≡ askedValue (d .views) (read (d .widths) (now (text .entry)))) ⌝ }
 {
     let r = query::read_query(tables, text);
     let outcome = r.outcome;
     match outcome {
         Outcome::Accepted => {
             let q = r.query;
-            let labels = label_query(tables, masks, view_marks, view_numbers, q);
+            let labels = label_query(tables, masks, views, q);
             Asked { outcome, labels }
         }
         Outcome::Refused { .. } => {
@@ -176,9 +130,9 @@ pub fn ask(p: Policy, text: &[u8]) -> Asked
     ensures { λ r. ⌜ ((d : Declared) → LoadedTo p d → r ≡ askedValue (d .views) (read (d .widths) (now (text .entry)))) ⌝ }
 {
     let masks = label::table_views(p);
-    let rows = label::view_rows(p);
+    let views = label::view_rows(p);
     let tables = p.tables;
-    label_text(tables, &masks, &rows.marks, &rows.numbers, text)
+    label_text(tables, &masks, &views, text)
 }
 
 // Whether each label holds one of the views of a partition, view n at bit n - 1.

@@ -99,18 +99,18 @@ module _ (b : Block) (started : Bool) (d : Declared) (l : List ℕ) (k : ℕ) (l
 
 -- ---- the loop
 
--- line number `line` starts at the place `at`
-pub record Walked (text : List ℕ) (g : Progress) (line at : ℕ) : Type 0 where
+-- line number `line` starts at the place `at`, and the text's first line has the number `start`
+pub record Walked (text : List ℕ) (start : ℕ) (g : Progress) (line at : ℕ) : Type 0 where
   pub block : Block
   pub begun : Bool
   pub declared : Declared
   pub held : g ≡ progressValue block begun declared
-  pub number : line ≤ at + 2
+  pub number : line ≤ at + start
   pub inside : at ≤ length text
-  pub ahead : behind block begun declared line (drop at text) ≡ behind tables false nothing 2 text
+  pub ahead : behind block begun declared line (drop at text) ≡ behind tables false nothing start text
 
-pub walked-none : (text : List ℕ) (g : Progress) → g ≡ progressValue tables false nothing → Walked text g 2 0
-walked-none text g e =
+pub walked-none : (text : List ℕ) (start : ℕ) (g : Progress) → g ≡ progressValue tables false nothing → Walked text start g start 0
+walked-none text start g e =
     record {
       block = tables;
       begun = false;
@@ -121,7 +121,7 @@ walked-none text g e =
       ahead = refl;
     }
 
-module _ {text : List ℕ} {g : Progress} {line at : ℕ} (w : Walked text g line at) where
+module _ {text : List ℕ} {start : ℕ} {g : Progress} {line at : ℕ} (w : Walked text start g line at) where
   pub block-small : g .block ≤ 2
   unfolding blockNumber
   block-small = go (w .block) (block-of (w .block) (w .begun) (w .declared) g (w .held))
@@ -132,7 +132,7 @@ module _ {text : List ℕ} {g : Progress} {line at : ℕ} (w : Walked text g lin
       go partitions e = omega arith
 
   -- the text stops in a line
-  pub stops : at < length text → before 10 (drop at text) ≡ length (drop at text) → refused 1 line ≡ behind tables false nothing 2 text
+  pub stops : at < length text → before 10 (drop at text) ≡ length (drop at text) → refused 1 line ≡ behind tables false nothing start text
   stops l e =
       sym (behind-tail (w .block) (w .begun) (w .declared) line (drop at text) e (simp length-drop (omega arith))) ∙ w .ahead
 
@@ -145,18 +145,18 @@ module _ {text : List ℕ} {g : Progress} {line at : ℕ} (w : Walked text g lin
     rest = drop (suc (before 10 (drop at text))) (drop at text)
 
     from-here : loadFrom (w .block) (w .begun) (w .declared) line (here ∷ lines rest .ended) (lines rest .rest)
-        ≡ behind tables false nothing 2 text
+        ≡ behind tables false nothing start text
     from-here = sym (behind-line (w .block) (w .begun) (w .declared) line (drop at text) h) ∙ w .ahead
 
     module _ (r : Stepped) (value : r ≡ steppedValue (w .block) (w .begun) (w .declared) here) where
-      pub turns-back : (r .fault ≡ 0 → ⊥) → refused (r .fault) line ≡ behind tables false nothing 2 text
+      pub turns-back : (r .fault ≡ 0 → ⊥) → refused (r .fault) line ≡ behind tables false nothing start text
       turns-back n =
           let fault = ap (λ (s : Stepped). s .fault) value in
           ap (λ (m : ℕ). refused m line) fault
           ∙ sym (turned-back (w .block) (w .begun) (w .declared) here line (lines rest .ended) (lines rest .rest) (λ e. n (fault ∙ e)))
           ∙ from-here
 
-      pub walked-more : r .fault ≡ 0 → Walked text (r .progress) (line + 1) (at + before 10 (drop at text) + 1)
+      pub walked-more : r .fault ≡ 0 → Walked text start (r .progress) (line + 1) (at + before 10 (drop at text) + 1)
       walked-more z =
           let n = goes-on (w .block) (w .begun) (w .declared) here line (lines rest .ended) (lines rest .rest)
           (sym (ap (λ (s : Stepped). s .fault) value) ∙ z) in
@@ -180,16 +180,16 @@ module _ {text : List ℕ} {g : Progress} {line at : ℕ} (w : Walked text g lin
 
   -- the text stops behind its last line
   module _ (l : length text ≤ at) where
-    ended : ends (w .block) (w .begun) (w .declared) line [] ≡ behind tables false nothing 2 text
+    ended : ends (w .block) (w .begun) (w .declared) line [] ≡ behind tables false nothing start text
     unfolding loadFrom lines split
     ended = ap (behind (w .block) (w .begun) (w .declared) line) (sym (drop-of-length-le text l)) ∙ w .ahead
 
-    pub not-partitions : (g .block ≡ 2 → ⊥) → refused 1 line ≡ behind tables false nothing 2 text
+    pub not-partitions : (g .block ≡ 2 → ⊥) → refused 1 line ≡ behind tables false nothing start text
     unfolding ends blockNumber
     not-partitions n = go (w .block) (block-of (w .block) (w .begun) (w .declared) g (w .held)) ended
       where
-        go : (b : Block) → g .block ≡ blockNumber b → ends b (w .begun) (w .declared) line [] ≡ behind tables false nothing 2 text
-            → refused 1 line ≡ behind tables false nothing 2 text
+        go : (b : Block) → g .block ≡ blockNumber b → ends b (w .begun) (w .declared) line [] ≡ behind tables false nothing start text
+            → refused 1 line ≡ behind tables false nothing start text
         go tables e q = q
         go views e q = q
         go partitions e q = absurd (n e)
@@ -197,23 +197,23 @@ module _ {text : List ℕ} {g : Progress} {line at : ℕ} (w : Walked text g lin
     is-begun : w .begun ≡ g .started
     is-begun = sym (started-of (w .block) (w .begun) (w .declared) g (w .held))
 
-    pub not-begun : g .started ≡ false → refused 1 line ≡ behind tables false nothing 2 text
+    pub not-begun : g .started ≡ false → refused 1 line ≡ behind tables false nothing start text
     unfolding ends
     not-begun s = go (w .block) (w .begun) (is-begun ∙ s) ended
       where
-        go : (b : Block) (t : Bool) → t ≡ false → ends b t (w .declared) line [] ≡ behind tables false nothing 2 text
-            → refused 1 line ≡ behind tables false nothing 2 text
+        go : (b : Block) (t : Bool) → t ≡ false → ends b t (w .declared) line [] ≡ behind tables false nothing start text
+            → refused 1 line ≡ behind tables false nothing start text
         go tables t e q = q
         go views t e q = q
         go partitions true e q = absurd (true≢false e)
         go partitions false e q = q
 
-    pub all-declared : g .block ≡ 2 → g .started ≡ true → accepted (w .declared) ≡ behind tables false nothing 2 text
+    pub all-declared : g .block ≡ 2 → g .started ≡ true → accepted (w .declared) ≡ behind tables false nothing start text
     unfolding ends blockNumber
     all-declared p s = go (w .block) (w .begun) (sym (block-of (w .block) (w .begun) (w .declared) g (w .held)) ∙ p) (is-begun ∙ s) ended
       where
-        go : (b : Block) (t : Bool) → blockNumber b ≡ 2 → t ≡ true → ends b t (w .declared) line [] ≡ behind tables false nothing 2 text
-            → accepted (w .declared) ≡ behind tables false nothing 2 text
+        go : (b : Block) (t : Bool) → blockNumber b ≡ 2 → t ≡ true → ends b t (w .declared) line [] ≡ behind tables false nothing start text
+            → accepted (w .declared) ≡ behind tables false nothing start text
         go tables t e f q = absurd (omega (arith, e))
         go views t e f q = absurd (omega (arith, e))
         go partitions true e f q = q

@@ -4,11 +4,12 @@ use mathlib.Core.Bool.{Bool, true, false, cond, _&&_}
 use mathlib.Core.List.{List, [], _∷_, _++_}
 use mathlib.Core.Option.{Option, none, some}
 use Prim.Native.Nat.{ℕ, _≤_}
+use Rattle.text.specs.Lines.{lines}
 use Rattle.theory.specs.Query.{Line}
 use Rattle.model.specs.Fields.{Numbered}
 use Rattle.model.specs.declared.Parsed.{Parsed}
 use Rattle.model.specs.declared.Outcome.the-variants.{Accepted, Refused}
-use Rattle.policy.specs.Text.{Declared, nothing, refused, accepted, faulty, entered, tables, views, partitions, Block, enter, isNext, nextBlock}
+use Rattle.policy.specs.Text.{Declared, nothing, refused, accepted, faulty, entered, tables, views, partitions, Block, enter, isNext, nextBlock, loadFrom}
 use Rattle.policy.specs.Text.{Loading as TheLoading, Entered as TheEntered}
 use Rattle.policy.specs.Policy.{policyValue}
 use Rattle.load.specs.declared.Loading.{Loading}
@@ -21,6 +22,10 @@ unfoldable pub loadingValue : TheLoading → Loading
 unfolding policyValue nothing
 loadingValue (refused n k) = record { outcome = Refused n k; policy = policyValue nothing }
 loadingValue (accepted d) = record { outcome = Accepted; policy = policyValue d }
+
+-- the loading of a text that is the blocks without their first names line, the first line with the number k
+abbrev pub BlocksLoaded : List ℕ → ℕ → Loading → Type 0
+BlocksLoaded text k r = r ≡ loadingValue (loadFrom tables false nothing k (lines text .ended) (lines text .rest))
 
 -- a line that is turned back declares nothing more
 unfoldable pub enteredValue : Declared → TheEntered → Entered

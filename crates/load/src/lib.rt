@@ -3,19 +3,19 @@
 mod enter;
 
 ghost use mathlib.Core.Path.{_≡_};
-ghost use mathlib.Core.Bool.{Bool, false, _&&_};
+ghost use mathlib.Core.Bool.{Bool, _&&_};
 ghost use Prim.Native.Nat.{_≤_, _<_, _^_};
 ghost use lib.ListN.{length};
-ghost use Rattle.text.specs.Lines.{lines};
-ghost use Rattle.policy.specs.Text.{Declared, Block, tables as tableBlock, nothing, refused as refusedLoading, isNext, enter as enterBlock, loadFrom, load as loadText};
+ghost use Rattle.policy.specs.Text.{Declared, Block, nothing, refused as refusedLoading, isNext, enter as enterBlock, load as loadText};
 ghost use Rattle.policy.specs.Policy.{policyValue};
-ghost use Rattle.load.specs.Value.{loadingValue, enteredValue, blockNumber, progressValue, steppedValue};
+ghost use Rattle.load.specs.Value.{loadingValue, BlocksLoaded, enteredValue, blockNumber, progressValue, steppedValue};
 use enter::Entered;
 use model::Line;
 use model::Outcome;
 use model::Policy;
 use model::Tables;
 use model::Term;
+use text::Reader;
 
 // The most bytes of a policy text.
 const MOST_BYTES: usize = 16384;
@@ -132,17 +132,17 @@ fn step(g: Progress, line: &[u8]) -> Stepped
     }
 }
 
-// The blocks, all of the text behind its first names line.
-fn load_lines(text: &[u8]) -> Loading
-    requires { ⌜ length (now text) ≤ 16384 ⌝ }
-    ensures { λ r. ⌜ r ≡ loadingValue (loadFrom tableBlock false nothing 2 (lines (now (text .entry)) .ended) (lines (now (text .entry)) .rest)) ⌝ }
+// The blocks without their first names line, all of a text whose first line has the number `start`.
+fn load_lines(text: &[u8], start: u64) -> Loading
+    requires { ⌜ (length (now text) ≤ 16384) × (start < 2 ^ 32) ⌝ }
+    ensures { λ r. ⌜ BlocksLoaded (now (text .entry)) start r ⌝ }
 {
     let mut g = Progress {
         block: TABLES,
         started: false,
         policy: empty_policy(),
     };
-    let mut line = 2;
+    let mut line = start;
     let mut at = 0;
     while at < text.len() {
         let rest = &text[at..];
@@ -171,6 +171,23 @@ fn load_lines(text: &[u8]) -> Loading
     }
 }
 
+// The blocks that a reader has before it. The work is done on its two parts, since code that holds a reader is proved by
+// hand.
+fn load_rest<'a>(r: Reader<'a>) -> Loading
+    requires { ⌜ (length (now (r .rest)) ≤ 16384) × (r .line < 2 ^ 32) ⌝ }
+    ensures { λ y. ⌜ BlocksLoaded (now (r .entry .rest)) (r .entry .line) y ⌝ }
+{
+    load_lines(r.rest, r.line)
+}
+
+// The same of a text that is lent, with the number of its first line: a reader is made of the two.
+fn load_from(text: &[u8], line: u64) -> Loading
+    requires { ⌜ (length (now text) ≤ 16384) × (line < 2 ^ 32) ⌝ }
+    ensures { λ r. ⌜ BlocksLoaded (now (text .entry)) line r ⌝ }
+{
+    load_rest(Reader { rest: text, line })
+}
+
 // The policy of a text, or the number that turns it back and the line.
 pub fn load(text: &[u8]) -> Loading
     ensures { λ r. ⌜ r ≡ loadingValue (loadText (now (text .entry))) ⌝ }
@@ -186,5 +203,5 @@ pub fn load(text: &[u8]) -> Loading
         return refused(1, 1);
     }
     let from = n + 1;
-    load_lines(&text[from..])
+    load_from(&text[from..], 2)
 }

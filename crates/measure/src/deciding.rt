@@ -16,22 +16,15 @@ fn number_of(r: Reply) -> u64 {
     }
 }
 
-fn decide_again<'a>(
-    p: Policy,
-    masks: &[u64; 17],
-    marks: &'a [u64; 256],
-    numbers: &'a [u64; 256],
-    text: &[u8],
-    times: u64,
-) -> u64
-    requires { ⌜ SomePolicy p × TableMasks p (now masks) × ViewsLaid p (now marks) (now numbers) ⌝ }
+fn decide_again(p: Policy, masks: &[u64; 17], views: &[u64; 544], text: &[u8], times: u64) -> u64
+    requires { ⌜ SomePolicy p × TableMasks p (now masks) × ViewsLaid p (now views) ⌝ }
 {
     let o = desk::open_session(p);
     let s = o.session;
     let mut sum = 0;
     let mut i = 0;
     while i < times {
-        let d = desk::decide_loaded(p, masks, marks, numbers, s, text);
+        let d = desk::decide_loaded(p, masks, views, s, text);
         let reply = d.reply;
         sum = wrapping_add_u64(sum, number_of(reply));
         i += 1;
@@ -43,8 +36,8 @@ fn prepare_and_decide(p: Policy, text: &[u8], times: u64) -> u64
     requires { ⌜ SomePolicy p ⌝ }
 {
     let masks = label::table_views(p);
-    let rows = label::view_rows(p);
-    decide_again(p, &masks, &rows.marks, &rows.numbers, text, times)
+    let views = label::view_rows(p);
+    decide_again(p, &masks, &views, text, times)
 }
 
 // The text decided so many times under the policy of a text, as a run over a file does: the policy is known to be loaded.

@@ -21,20 +21,13 @@ fn sum_of(l: Labels) -> u64 {
     sum
 }
 
-fn label_again<'a>(
-    tables: Tables,
-    masks: &[u64; 17],
-    marks: &'a [u64; 256],
-    numbers: &'a [u64; 256],
-    q: Query,
-    times: u64,
-) -> u64
-    requires { ⌜ ((d : Declared) × (Q : TheQuery) × Ready d tables (now masks) (now marks) (now numbers) × Posed q d Q) ⌝ }
+fn label_again(tables: Tables, masks: &[u64; 17], views: &[u64; 544], q: Query, times: u64) -> u64
+    requires { ⌜ ((d : Declared) × (Q : TheQuery) × Ready d tables (now masks) (now views) × Posed q d Q) ⌝ }
 {
     let mut sum = 0;
     let mut i = 0;
     while i < times {
-        let l = labels::label_query(tables, masks, marks, numbers, q);
+        let l = labels::label_query(tables, masks, views, q);
         sum = wrapping_add_u64(sum, sum_of(l));
         i += 1;
     }
@@ -45,14 +38,14 @@ fn read_and_label(p: Policy, query: &[u8], times: u64) -> u64
     requires { ⌜ SomePolicy p ⌝ }
 {
     let masks = label::table_views(p);
-    let rows = label::view_rows(p);
+    let views = label::view_rows(p);
     let tables = p.tables;
     let r = query::read_query(tables, query);
     let outcome = r.outcome;
     match outcome {
         Outcome::Accepted => {
             let q = r.query;
-            label_again(tables, &masks, &rows.marks, &rows.numbers, q, times)
+            label_again(tables, &masks, &views, q, times)
         }
         Outcome::Refused { .. } => 0,
     }

@@ -1,20 +1,103 @@
--- A term written at one place of lists of marks and numbers.
-use mathlib.Core.Path.{_≡_}
+-- A line laid into a row, number by number.
+use mathlib.Core.Path.{_≡_, refl, _∙_}
 use mathlib.Core.List.{List}
-use Prim.Native.Nat.{ℕ, _<_}
-use lib.ListN.{length, set}
+use Prim.Native.Nat.{ℕ, _+_, _*_, _≤_, _<_}
+use native.Mathlib.Decide.{ℕ-discrete}
+use native.Mathlib.Omega.{arith}
+use lib.ListN.{length, getD, set, length-set}
 use lib.Seq.{getD-set-same, getD-set-other}
-use Rattle.model.specs.Rows.{laidTerm}
+use Rattle.model.specs.Rows.{termAt, laidTerm, Row, LaidInto}
 use Rattle.model.specs.declared.Term.{Term}
+use Rattle.model.specs.declared.Line.{Line}
 
-module _ (marks numbers : List ℕ) (k : ℕ) (t : Term) where
-  pub laid-set-same : k < length marks → k < length numbers → laidTerm (set marks k (t .mark)) (set numbers k (t .number)) k ≡ t
-  unfolding laidTerm
-  laid-set-same h g =
-      λ i. record { mark = getD-set-same marks k (t .mark) 0 h i; number = getD-set-same numbers k (t .number) 0 g i }
+-- ---- a row that is not written to
 
-  pub laid-set-other : (j : ℕ) → (j ≡ k → ⊥)
-      → laidTerm (set marks k (t .mark)) (set numbers k (t .number)) j ≡ laidTerm marks numbers j
+-- a term is that of its two numbers
+pub same-term : (rows rows′ : List ℕ) (k p : ℕ) → getD rows′ (k * 17 + 1 + p * 2) 0 ≡ getD rows (k * 17 + 1 + p * 2) 0
+    → getD rows′ (k * 17 + 1 + p * 2 + 1) 0 ≡ getD rows (k * 17 + 1 + p * 2 + 1) 0 → laidTerm rows′ k p ≡ laidTerm rows k p
+unfolding laidTerm
+same-term rows rows′ k p e f = λ i. record { mark = e i; number = f i }
+
+pub row-stays : {a b : Line} {j k : ℕ} {rows rows′ : List ℕ} → j < k → LaidInto b k rows rows′ → Row rows j a → Row rows′ j a
+row-stays {j = j} {rows = rows} {rows′} h l r = record {
+  table = l .before (j * 17) (omega arith) ∙ r .table;
+  term = λ p b.
+      same-term rows rows′ j p (l .before (j * 17 + 1 + p * 2) (omega arith)) (l .before (j * 17 + 1 + p * 2 + 1) (omega arith))
+      ∙ r .term p b;
+}
+
+-- ---- a term written
+
+module _ (rows : List ℕ) (k p : ℕ) (t : Term) where
+  -- the rows with the term in its place
+  abbrev pub with-term : List ℕ
+  with-term = set (set rows (k * 17 + 1 + p * 2) (t .mark)) (k * 17 + 1 + p * 2 + 1) (t .number)
+
+  pub term-length : length with-term ≡ length rows
+  term-length =
+      length-set (set rows (k * 17 + 1 + p * 2) (t .mark)) (k * 17 + 1 + p * 2 + 1) (t .number)
+      ∙ length-set rows (k * 17 + 1 + p * 2) (t .mark)
+
+  pub term-other : (i : ℕ) → (i ≡ k * 17 + 1 + p * 2 → ⊥) → (i ≡ k * 17 + 1 + p * 2 + 1 → ⊥) → getD with-term i 0 ≡ getD rows i 0
+  term-other i f g =
+      getD-set-other (set rows (k * 17 + 1 + p * 2) (t .mark)) (k * 17 + 1 + p * 2 + 1) i (t .number) 0 g
+      ∙ getD-set-other rows (k * 17 + 1 + p * 2) i (t .mark) 0 f
+
+  pub term-here : k * 17 + 17 ≤ length rows → p < 8 → laidTerm with-term k p ≡ t
   unfolding laidTerm
-  laid-set-other j n =
-      λ i. record { mark = getD-set-other marks k j (t .mark) 0 n i; number = getD-set-other numbers k j (t .number) 0 n i }
+  term-here h b =
+      let m = set rows (k * 17 + 1 + p * 2) (t .mark) in
+      let e : getD with-term (k * 17 + 1 + p * 2) 0 ≡ t .mark =
+      getD-set-other m (k * 17 + 1 + p * 2 + 1) (k * 17 + 1 + p * 2) (t .number) 0 (λ x. omega arith)
+      ∙ getD-set-same rows (k * 17 + 1 + p * 2) (t .mark) 0 (omega arith) in
+      let f : getD with-term (k * 17 + 1 + p * 2 + 1) 0 ≡ t .number =
+      getD-set-same m (k * 17 + 1 + p * 2 + 1) (t .number) 0 (omega (arith, length-set rows (k * 17 + 1 + p * 2) (t .mark))) in
+      λ i. record { mark = e i; number = f i }
+
+-- ---- a line, its terms before column p laid
+
+pub record LaidTo (a : Line) (k p : ℕ) (rows rows′ : List ℕ) : Type 0 where
+  pub long : length rows′ ≡ length rows
+  pub before : (i : ℕ) → i < k * 17 → getD rows′ i 0 ≡ getD rows i 0
+  pub terms : (q : ℕ) → q < p → laidTerm rows′ k q ≡ termAt a q
+
+pub nothing-laid : (a : Line) (k : ℕ) (rows : List ℕ) → LaidTo a k 0 rows rows
+nothing-laid a k rows = record { long = refl; before = λ i b. refl; terms = λ q b. absurd (omega arith) }
+
+pub term-laid : {a : Line} {k p : ℕ} {rows rows′ : List ℕ} (t : Term) → LaidTo a k p rows rows′ → k * 17 + 17 ≤ length rows → p < 8
+    → t ≡ termAt a p → LaidTo a k (p + 1) rows (with-term rows′ k p t)
+term-laid {a} {k} {p} {rows} {rows′} t l h b e = record {
+  long = term-length rows′ k p t ∙ l .long;
+  before = λ i c. term-other rows′ k p t i (λ x. omega arith) (λ x. omega arith) ∙ l .before i c;
+  terms = λ q c. go q c (ℕ-discrete q p);
+}
+  where
+    room : k * 17 + 17 ≤ length rows′
+    room = omega (arith, h, l .long)
+
+    go : (q : ℕ) → q < p + 1 → Dec (q ≡ p) → laidTerm (with-term rows′ k p t) k q ≡ termAt a q
+    go q c (yes x) = rw x (term-here rows′ k p t room b ∙ e)
+    go q c (no f) =
+        same-term rows′ (with-term rows′ k p t) k q
+        (term-other rows′ k p t (k * 17 + 1 + q * 2) (λ x. f (omega arith)) (λ x. omega arith))
+        (term-other rows′ k p t (k * 17 + 1 + q * 2 + 1) (λ x. omega arith) (λ x. f (omega arith)))
+        ∙ l .terms q (omega arith)
+
+pub line-laid : {a : Line} {k p : ℕ} {rows rows′ : List ℕ} → LaidTo a k p rows rows′ → 8 ≤ p → k * 17 + 17 ≤ length rows
+    → LaidInto a k rows (set rows′ (k * 17) (a .table))
+line-laid {a} {k} {p} {rows} {rows′} l h room =
+    let t = a .table in
+    let other : (i : ℕ) → (i ≡ k * 17 → ⊥) → getD (set rows′ (k * 17) t) i 0 ≡ getD rows′ i 0 =
+    λ i f. getD-set-other rows′ (k * 17) i t 0 f in
+    record {
+      long = length-set rows′ (k * 17) t ∙ l .long;
+      before = λ i b. other i (λ x. omega arith) ∙ l .before i b;
+      row =
+          record {
+            table = getD-set-same rows′ (k * 17) t 0 (omega (arith, room, l .long));
+            term = λ q b.
+                same-term rows′ (set rows′ (k * 17) t) k q (other (k * 17 + 1 + q * 2) (λ x. omega arith))
+                (other (k * 17 + 1 + q * 2 + 1) (λ x. omega arith))
+                ∙ l .terms q (omega arith);
+          };
+    }

@@ -1,9 +1,9 @@
--- Lines laid out as numbers, which are lent where a line would be copied: row k has its terms at places 8 k to 8 k + 7, their
--- marks in one list and their numbers in another.
+-- Lines laid out as numbers, which are lent where a line would be copied: row k is the 17 numbers from place 17 k on, the table
+-- and then the mark and the number of each of eight terms.
 use mathlib.Core.Path.{_≡_}
 use mathlib.Core.List.{List}
 use Prim.Native.Nat.{ℕ, _+_, _*_, _<_}
-use lib.ListN.{getD}
+use lib.ListN.{length, getD}
 use Rattle.model.specs.Value.{unusedTerm}
 use Rattle.model.specs.declared.Term.{Term}
 use Rattle.model.specs.declared.Line.{Line}
@@ -13,10 +13,17 @@ unfoldable pub termAt : Line → ℕ → Term
 unfolding unusedTerm
 termAt a p = getD (a .terms) p unusedTerm
 
--- the term at a place
-unfoldable pub laidTerm : List ℕ → List ℕ → ℕ → Term
-laidTerm marks numbers k = record { mark = getD marks k 0; number = getD numbers k 0 }
+-- the term in a column of a row
+unfoldable pub laidTerm : List ℕ → ℕ → ℕ → Term
+laidTerm rows k p = record { mark = getD rows (k * 17 + 1 + p * 2) 0; number = getD rows (k * 17 + 1 + p * 2 + 1) 0 }
 
--- row k has the terms of a line
-abbrev pub Row : List ℕ → List ℕ → ℕ → Line → Type 0
-Row marks numbers k a = (p : ℕ) → p < 8 → laidTerm marks numbers (k * 8 + p) ≡ termAt a p
+-- row k has the table and the terms of a line
+pub record Row (rows : List ℕ) (k : ℕ) (a : Line) : Type 0 where
+  pub table : getD rows (k * 17) 0 ≡ a .table
+  pub term : (p : ℕ) → p < 8 → laidTerm rows k p ≡ termAt a p
+
+-- a line laid into row k, behind what stood before it
+pub record LaidInto (a : Line) (k : ℕ) (rows rows′ : List ℕ) : Type 0 where
+  pub long : length rows′ ≡ length rows
+  pub before : (i : ℕ) → i < k * 17 → getD rows′ i 0 ≡ getD rows i 0
+  pub row : Row rows′ k a

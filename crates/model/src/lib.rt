@@ -12,6 +12,7 @@ pub use read::read_line;
 pub use read::read_term;
 pub use read::read_terms;
 pub use read::up_to;
+pub use rows::lay_line;
 pub use rows::term_at;
 
 // The marks of a term.

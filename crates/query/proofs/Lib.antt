@@ -4,3 +4,5 @@ pub mod Walk
 pub mod Names
 pub mod Accepted
 pub mod Bridge
+-- Machine values, for the walks of code that has a reader.
+pub mod MachineValues

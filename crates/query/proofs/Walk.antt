@@ -70,61 +70,61 @@ one-more earlier A h =
 -- ---- what has been read
 
 -- the lines `earlier` have been read, line number `line` starts at the place `at`, and reading the rest gives what reading
--- the text from its first line gives
-pub record Walked (tables : Tables) (text : List ℕ) (q : QueryValue) (s h line at : ℕ) : Type 0 where
+-- the text from its first line, number `start`, gives
+pub record Walked (tables : Tables) (text : List ℕ) (start : ℕ) (q : QueryValue) (s h line at : ℕ) : Type 0 where
   pub earlier : List Line
   pub held : q ≡ queryValue earlier
   pub marked : Marked earlier s h
-  pub number : line ≡ 2 + length earlier
+  pub number : line ≡ start + length earlier
   pub few : length earlier ≤ 8
   pub within : at ≤ length text
-  pub ahead : (widths : List ℕ) → tables ≡ tablesValue widths → behind widths earlier line (drop at text) ≡ behind widths [] 2 text
+  pub ahead : (widths : List ℕ) → tables ≡ tablesValue widths → behind widths earlier line (drop at text) ≡ behind widths [] start text
 
-pub walked-none : (tables : Tables) (text : List ℕ) (q : QueryValue) → q ≡ queryValue [] → Walked tables text q 0 0 2 0
-walked-none tables text q e =
+pub walked-none : (tables : Tables) (text : List ℕ) (start : ℕ) (q : QueryValue) → q ≡ queryValue [] → Walked tables text start q 0 0 start 0
+walked-none tables text start q e =
     record {
       earlier = [];
       held = e;
       marked = marked-none;
-      number = refl;
+      number = omega arith;
       few = omega arith;
       within = omega arith;
       ahead = λ widths t. refl;
     }
 
-module _ {tables : Tables} {text : List ℕ} {q : QueryValue} {s h line at : ℕ} (w : Walked tables text q s h line at) where
+module _ {tables : Tables} {text : List ℕ} {start : ℕ} {q : QueryValue} {s h line at : ℕ} (w : Walked tables text start q s h line at) where
   pub counted : q .count ≡ length (w .earlier)
   unfolding queryValue
   counted = ap (λ (x : QueryValue). x .count) (w .held)
 
   -- the text stops in a line
   pub stops : (widths : List ℕ) → tables ≡ tablesValue widths → at < length text → before 10 (drop at text) ≡ length (drop at text)
-      → refused 1 line ≡ behind widths [] 2 text
+      → refused 1 line ≡ behind widths [] start text
   stops widths t l e =
       sym (behind-tail widths (w .earlier) line (drop at text) e (simp length-drop (omega arith))) ∙ w .ahead widths t
 
   -- the text stops behind its last line
   module _ (widths : List ℕ) (t : tables ≡ tablesValue widths) (l : length text ≤ at) where
-    ended : ends (w .earlier) line [] ≡ behind widths [] 2 text
+    ended : ends (w .earlier) line [] ≡ behind widths [] start text
     ended =
         sym (behind-end widths (w .earlier) line)
         ∙ ap (behind widths (w .earlier) line) (sym (drop-of-length-le text l))
         ∙ w .ahead widths t
 
-    pub empty : q .count ≡ 0 → refused 1 line ≡ behind widths [] 2 text
+    pub empty : q .count ≡ 0 → refused 1 line ≡ behind widths [] start text
     unfolding ends
     empty z = go (w .earlier) (sym counted ∙ z) ended
       where
-        go : (Q : List Line) → length Q ≡ 0 → ends Q line [] ≡ behind widths [] 2 text → refused 1 line ≡ behind widths [] 2 text
+        go : (Q : List Line) → length Q ≡ 0 → ends Q line [] ≡ behind widths [] start text → refused 1 line ≡ behind widths [] start text
         go [] n e = e
         go (A ∷ Q) n e = absurd (omega arith)
 
-    pub done : (q .count ≡ 0 → ⊥) → record { outcome = Accepted; query = q } ≡ readingValue (behind widths [] 2 text)
+    pub done : (q .count ≡ 0 → ⊥) → record { outcome = Accepted; query = q } ≡ readingValue (behind widths [] start text)
     unfolding ends readingValue
     done f = go (w .earlier) (w .held) (λ z. f (counted ∙ z)) ended
       where
-        go : (Q : List Line) → q ≡ queryValue Q → (length Q ≡ 0 → ⊥) → ends Q line [] ≡ behind widths [] 2 text
-            → record { outcome = Accepted; query = q } ≡ readingValue (behind widths [] 2 text)
+        go : (Q : List Line) → q ≡ queryValue Q → (length Q ≡ 0 → ⊥) → ends Q line [] ≡ behind widths [] start text
+            → record { outcome = Accepted; query = q } ≡ readingValue (behind widths [] start text)
         go [] v n e = absurd (n refl)
         go (A ∷ Q) v n e = rw v (ap readingValue e)
 
@@ -132,17 +132,17 @@ module _ {tables : Tables} {text : List ℕ} {q : QueryValue} {s h line at : ℕ
   module _ (l : before 10 (drop at text) < length (drop at text)) where
     turn : (widths : List ℕ) → tables ≡ tablesValue widths
         → step (queryLine (front (drop at text))) line (fault widths (w .earlier)) (λ A. behind widths (w .earlier ++ A ∷ []) (suc line) (back (drop at text)))
-        ≡ behind widths [] 2 text
+        ≡ behind widths [] start text
     turn widths t = sym (behind-line widths (w .earlier) line (drop at text) l) ∙ w .ahead widths t
 
     pub wrong : queryLine (front (drop at text)) ≡ none → (widths : List ℕ) → tables ≡ tablesValue widths
-        → refused 1 line ≡ behind widths [] 2 text
+        → refused 1 line ≡ behind widths [] start text
     unfolding step
     wrong e widths t = rw e at (turn widths t)
 
     module _ (A : Line) (e : queryLine (front (drop at text)) ≡ some A) where
       pub faulty : (f : ℕ) → (f ≡ 0 → ⊥) → (widths : List ℕ) → tables ≡ tablesValue widths → f ≡ fault widths (w .earlier) A
-          → refused f line ≡ behind widths [] 2 text
+          → refused f line ≡ behind widths [] start text
       unfolding step judged
       faulty zero n widths t g = absurd (n refl)
       faulty (suc f) n widths t g = rw (e, ← g) at (turn widths t)
@@ -161,7 +161,7 @@ module _ {tables : Tables} {text : List ℕ} {q : QueryValue} {s h line at : ℕ
         marks-more = rw good (marked-more (w .earlier) A s h (w .marked))
 
         ahead-more : (n : ℕ) → n ≡ before 10 (drop at text) → (widths : List ℕ) → tables ≡ tablesValue widths → 0 ≡ fault widths (w .earlier) A
-            → behind widths (w .earlier ++ A ∷ []) (line + 1) (drop (at + n + 1) text) ≡ behind widths [] 2 text
+            → behind widths (w .earlier ++ A ∷ []) (line + 1) (drop (at + n + 1) text) ≡ behind widths [] start text
         unfolding step judged
         ahead-more n c widths t g =
             let place : at + n + 1 ≡ at + suc (before 10 (drop at text)) = omega arith in
@@ -172,7 +172,7 @@ module _ {tables : Tables} {text : List ℕ} {q : QueryValue} {s h line at : ℕ
         -- a line without a fault
         pub walked-more : (n : ℕ) → n ≡ before 10 (drop at text)
             → ((widths : List ℕ) → tables ≡ tablesValue widths → 0 ≡ fault widths (w .earlier) A)
-            → Walked tables text (with-line q p) (bitOr s (p .shown)) (bitOr h (p .hidden)) (line + 1) (at + n + 1)
+            → Walked tables text start (with-line q p) (bitOr s (p .shown)) (bitOr h (p .hidden)) (line + 1) (at + n + 1)
         walked-more n c g =
             record {
               earlier = w .earlier ++ A ∷ [];

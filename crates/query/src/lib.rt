@@ -4,20 +4,20 @@ ghost use mathlib.Core.Path.{_≡_};
 ghost use mathlib.Core.Bool.{false};
 ghost use mathlib.Core.List.{List, []};
 ghost use mathlib.Core.Option.{some};
-ghost use Prim.Native.Nat.{ℕ, _≤_, _<_};
+ghost use Prim.Native.Nat.{ℕ, _≤_, _<_, _^_};
 ghost use lib.ListN.{length};
 ghost use Rattle.theory.specs.Query.{Query as TheQuery, Line as TheLine};
-ghost use Rattle.text.specs.Lines.{lines};
 ghost use Rattle.model.specs.Value.{queryValue, tablesValue, parsedLine};
-ghost use Rattle.query.specs.Text.{refused as refusedReading, fault as faultOf, readFrom, read};
+ghost use Rattle.query.specs.Text.{refused as refusedReading, fault as faultOf, read};
 ghost use Rattle.model.specs.Variables.{Marked};
-ghost use Rattle.query.specs.Value.{readingValue, Tabled};
+ghost use Rattle.query.specs.Value.{readingValue, LinesRead, Tabled};
 use model::Line;
 use model::Outcome;
 use model::Parsed;
 use model::Query;
 use model::Tables;
 use model::Term;
+use text::Reader;
 
 // The most bytes of a query text.
 const MOST_BYTES: usize = 4096;
@@ -69,15 +69,15 @@ fn fault(tables: Tables, count: usize, shown: u64, hidden: u64, p: Parsed) -> u6
     model::check_line(tables, shown, hidden, p)
 }
 
-// The lines of values, all of the text behind its names line.
-fn read_lines(tables: Tables, text: &[u8]) -> Reading
-    requires { ⌜ length (now text) ≤ 4096 ⌝ }
-    ensures { λ r. ⌜ ((widths : List ℕ) → tables ≡ tablesValue widths → r ≡ readingValue (readFrom widths [] 2 (lines (now (text .entry)) .ended) (lines (now (text .entry)) .rest))) ⌝ }
+// The lines of values, all of a text whose first line has the number `start`.
+fn read_lines(tables: Tables, text: &[u8], start: u64) -> Reading
+    requires { ⌜ (length (now text) ≤ 4096) × (start < 2 ^ 32) ⌝ }
+    ensures { λ r. ⌜ LinesRead tables (now (text .entry)) start r ⌝ }
 {
     let mut q = no_query();
     let mut shown: u64 = 0;
     let mut hidden: u64 = 0;
-    let mut line: u64 = 2;
+    let mut line = start;
     let mut at = 0;
     while at < text.len() {
         let rest = &text[at..];
@@ -114,6 +114,23 @@ fn read_lines(tables: Tables, text: &[u8]) -> Reading
     }
 }
 
+// The lines of values that a reader has before it. The work is done on its two parts, since code that holds a reader is
+// proved by hand.
+fn read_rest<'a>(tables: Tables, r: Reader<'a>) -> Reading
+    requires { ⌜ (length (now (r .rest)) ≤ 4096) × (r .line < 2 ^ 32) ⌝ }
+    ensures { λ y. ⌜ LinesRead tables (now (r .entry .rest)) (r .entry .line) y ⌝ }
+{
+    read_lines(tables, r.rest, r.line)
+}
+
+// The same of a text that is lent, with the number of its first line: a reader is made of the two.
+fn read_from(tables: Tables, text: &[u8], line: u64) -> Reading
+    requires { ⌜ (length (now text) ≤ 4096) × (line < 2 ^ 32) ⌝ }
+    ensures { λ r. ⌜ LinesRead tables (now (text .entry)) line r ⌝ }
+{
+    read_rest(tables, Reader { rest: text, line })
+}
+
 // The query of a text, or the number that turns it back and the line.
 pub fn read_query(tables: Tables, text: &[u8]) -> Reading
     ensures { λ r. ⌜ ((widths : List ℕ) → tables ≡ tablesValue widths → r ≡ readingValue (read widths (now (text .entry)))) ⌝ }
@@ -129,5 +146,5 @@ pub fn read_query(tables: Tables, text: &[u8]) -> Reading
         return refused(1, 1);
     }
     let from = n + 1;
-    read_lines(tables, &text[from..])
+    read_from(tables, &text[from..], 2)
 }

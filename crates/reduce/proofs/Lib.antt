@@ -22,4 +22,4 @@ pub mod Hidden
 pub mod Seen
 pub mod Mapped
 pub mod Shown
-pub mod ShownRows
+pub mod ShownTerms

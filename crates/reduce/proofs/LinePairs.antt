@@ -18,30 +18,30 @@ use Rattle.words.proofs.Marks.{Upto, upto-more, upto-all, by-test}
 use Rattle.reduce.specs.Agree.{goes, lineAt}
 use Rattle.reduce.specs.Columns.{goesRow, SameColumns}
 use Rattle.reduce.specs.Pairs.{Going, Goings, Columns}
-use Rattle.reduce.specs.Laid.{Laid, LaidTables}
+use Rattle.reduce.specs.Laid.{Laid}
 use Rattle.reduce.proofs.Lines.{laid-few}
 use Rattle.reduce.proofs.LineValues.{goes-value}
 
 -- ---- which line could go to which
 
-module _ {Q : Query} (tables : List ℕ) {marks numbers : List ℕ} (n : ℕ) (count : length Q ≡ n) (held : LaidTables Q tables) (laid : Laid Q marks numbers) where
+module _ {Q : Query} {rows : List ℕ} (n : ℕ) (count : length Q ≡ n) (laid : Laid Q rows) where
   below-iff : (j : ℕ) → T (ltb j n) ↔ (j < length Q)
   below-iff j = true-iff (λ e. rw count (ltb-true j n e), λ h. lt-ltb j n (rw count at h))
 
-  going-iff : (p : ℕ) → p / 8 < length Q → T (ltb (p % 8) n && goesRow tables marks numbers (p / 8) (p % 8)) ↔ Going Q p
+  going-iff : (p : ℕ) → p / 8 < length Q → T (ltb (p % 8) n && goesRow rows (p / 8) (p % 8)) ↔ Going Q p
   going-iff p l =
       let A = lineAt Q (p / 8) in
       let S = lineAt Q (p % 8) in
-      let k = and-iff (ltb (p % 8) n) (goesRow tables marks numbers (p / 8) (p % 8)) in
+      let k = and-iff (ltb (p % 8) n) (goesRow rows (p / 8) (p % 8)) in
       let b = below-iff (p % 8) in
-      let v : p % 8 < length Q → goesRow tables marks numbers (p / 8) (p % 8) ≡ goes A S =
-      λ h. goes-value A S (laid-few laid (p / 8) l) (laid-few laid (p % 8) h) tables marks numbers (p / 8) (p % 8) (held (p / 8) l) (held (p % 8) h) (laid .row (p / 8) l) (laid .row (p % 8) h) in (
+      let v : p % 8 < length Q → goesRow rows (p / 8) (p % 8) ≡ goes A S =
+      λ h. goes-value A S (laid-few laid (p / 8) l) (laid-few laid (p % 8) h) rows (p / 8) (p % 8) (laid .row (p / 8) l) (laid .row (p % 8) h) in (
         λ t. let (x, y) = k .0 t in let h = b .0 x in record { line = l; target = h; goes = subst T (v h) y },
         λ g. k .1 (b .1 (g .target), subst T (sym (v (g .target))) (g .goes)),
       )
 
   pub goings-more : (p : ℕ) (on : Bool) {m : ℕ} (r : ℕ) → p < n * 8
-      → on ≡ (ltb (p % 8) n && goesRow tables marks numbers (p / 8) (p % 8)) → r ≡ cond on (setBit m p) m → Upto (Going Q) p m
+      → on ≡ (ltb (p % 8) n && goesRow rows (p / 8) (p % 8)) → r ≡ cond on (setBit m p) m → Upto (Going Q) p m
       → Upto (Going Q) (p + 1) r
   goings-more p on r h eo er k =
       rw er (upto-more on k (by-test eo (going-iff p (omega (arith, count)))))

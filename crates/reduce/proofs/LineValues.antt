@@ -2,7 +2,7 @@
 use mathlib.Core.Path.{_≡_, refl, sym, ap₂, subst, _∙_}
 use mathlib.Core.Bool.{Bool, _&&_}
 use mathlib.Core.List.{List, map, zip}
-use Prim.Native.Nat.{ℕ, _+_, _*_, _≤_, _<_}
+use Prim.Native.Nat.{ℕ, _≤_, _<_}
 use native.Mathlib.Decide.{decLt}
 use native.Mathlib.Omega.{arith}
 use lib.Dec.{T, eqb}
@@ -106,16 +106,15 @@ module _ (A S : TheLine) (few : length (A .columns) ≤ 8) (few′ : length (S .
       (rw (used A few p l, used S few′ p k, keeps-value (at A p) (at S p)) at (h p (omega arith)))
 
   -- by the rows that hold the two
-  pub goes-value : (tables marks numbers : List ℕ) (i j : ℕ) → getD tables i 0 ≡ A .table → getD tables j 0 ≡ S .table
-      → Row marks numbers i (lineValue A) → Row marks numbers j (lineValue S) → goesRow tables marks numbers i j ≡ goes A S
-  unfolding goesRow goes
-  goes-value tables marks numbers i j ti tj ri rj =
+  pub goes-value : (rows : List ℕ) (i j : ℕ) → Row rows i (lineValue A) → Row rows j (lineValue S) → goesRow rows i j ≡ goes A S
+  unfolding goesRow goes lineValue
+  goes-value rows i j ri rj =
       let t = eqb (A .table) (S .table) in
       let w = eqb (length (A .columns)) (length (S .columns)) in
       let z = all keeps (zip (A .columns) (S .columns)) in
-      let f : ℕ → Bool = λ p. keepsTerm (laidTerm marks numbers (i * 8 + p)) (laidTerm marks numbers (j * 8 + p)) in
-      let row : (p : ℕ) → p < 8 → f p ≡ keepsTerm (termAt (lineValue A) p) (termAt (lineValue S) p) = λ p l. ap₂ keepsTerm (ri p l) (rj p l) in
-      rw (ti, tj)
+      let f : ℕ → Bool = λ p. keepsTerm (laidTerm rows i p) (laidTerm rows j p) in
+      let row : (p : ℕ) → p < 8 → f p ≡ keepsTerm (termAt (lineValue A) p) (termAt (lineValue S) p) = λ p l. ap₂ keepsTerm (ri .term p l) (rj .term p l) in
+      rw (ri .table, rj .table)
       (same-test (t && allBelow 8 f) (t && (w && z))
       (λ h. let r = and-iff t (allBelow 8 f) .0 h in
       let b : (p : ℕ) → p < 8 → Keeps p = λ p l. subst T (row p l) (allBelow-iff f 8 .0 (r .1) p l) in

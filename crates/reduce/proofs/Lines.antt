@@ -31,7 +31,7 @@ module _ {q : QueryValue} {Q : Query} (held : Held q Q) where
       ∙ getD-map lineValue Q i (record { table = 0; columns = [] }) d h
 
 -- a line has at most eight columns
-pub laid-few : {Q : Query} {marks numbers : List ℕ} → Laid Q marks numbers → (i : ℕ) → i < length Q
+pub laid-few : {Q : Query} {rows : List ℕ} → Laid Q rows → (i : ℕ) → i < length Q
     → length (lineAt Q i .columns) ≤ 8
 unfolding lineAt
 laid-few {Q} laid i h = laid .columns (lineAt Q i) (getD-mem Q i (record { table = 0; columns = [] }) h)

@@ -60,7 +60,7 @@ module _ (A S B D : Line) (few : length (A .columns) ≤ 8) (few′ : length (B 
 
 -- ---- two pairs
 
-joined-iff : {Q : Query} {marks numbers : List ℕ} → Laid Q marks numbers → (columns : List ℕ) → Columns Q columns → (p b : ℕ) → Going Q p → Going Q b → T (joins columns p b) ↔ Joined Q p b
+joined-iff : {Q : Query} {rows : List ℕ} → Laid Q rows → (columns : List ℕ) → Columns Q columns → (p b : ℕ) → Going Q p → Going Q b → T (joins columns p b) ↔ Joined Q p b
 unfolding joins
 joined-iff {Q} laid columns right p b g h =
     let A = lineAt Q (p / 8) in
@@ -81,7 +81,7 @@ candidate-going {Q} {p} c =
     let S = lineAt Q (p % 8) in
     record { line = c .line; target = c .target; goes = goes-iff A S .1 (agree-iff A S A S .0 (c .goes) .0) }
 
-pub tabled : {Q : Query} {marks numbers : List ℕ} → Laid Q marks numbers → (g : ℕ) (columns : List ℕ) (m : ℕ) (words : List ℕ) → Goings Q g → Columns Q columns
+pub tabled : {Q : Query} {rows : List ℕ} → Laid Q rows → (g : ℕ) (columns : List ℕ) (m : ℕ) (words : List ℕ) → Goings Q g → Columns Q columns
     → Candidates columns g m → PairWords columns m words → Tabled Q m words
 tabled {Q} laid g columns m words goings right candidates pairs =
     let going : (p : ℕ) → bit m p ≡ 1 → Going Q p = λ p e. goings p .0 (candidates p .0 e .0) in

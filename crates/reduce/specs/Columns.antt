@@ -3,7 +3,7 @@ use mathlib.Core.Path.{_≡_}
 use mathlib.Core.Logic.{_↔_}
 use mathlib.Core.Bool.{Bool, cond, not, _&&_}
 use mathlib.Core.List.{List}
-use Prim.Native.Nat.{ℕ, _+_, _*_, _/_, _%_, _<_}
+use Prim.Native.Nat.{ℕ, _*_, _/_, _%_, _<_}
 use lib.Dec.{eqb}
 use lib.ListN.{length, getD}
 use Rattle.theory.specs.Query.{Line as TheLine}
@@ -19,11 +19,10 @@ unfolding sameTerm
 keepsTerm t u = cond (eqb (t .mark) 3) (not (eqb (u .mark) 0)) (sameTerm t u)
 
 -- the line in row a could go to the one in row s, were there no hidden variable in two columns
-unfoldable pub goesRow : List ℕ → List ℕ → List ℕ → ℕ → ℕ → Bool
+unfoldable pub goesRow : List ℕ → ℕ → ℕ → Bool
 unfolding keepsTerm laidTerm allBelow
-goesRow tables marks numbers a s =
-    eqb (getD tables a 0) (getD tables s 0)
-    && allBelow 8 (λ p. keepsTerm (laidTerm marks numbers (a * 8 + p)) (laidTerm marks numbers (s * 8 + p)))
+goesRow rows a s =
+    eqb (getD rows (a * 17) 0) (getD rows (s * 17) 0) && allBelow 8 (λ p. keepsTerm (laidTerm rows a p) (laidTerm rows s p))
 
 -- column b / 8 of line A has the term of column b % 8 of line B
 pub record SameColumn (A B : TheLine) (b : ℕ) : Type 0 where

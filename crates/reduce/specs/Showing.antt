@@ -4,7 +4,7 @@ use mathlib.Core.Logic.{_↔_}
 use mathlib.Core.Bool.{Bool, cond, _&&_}
 use mathlib.Core.List.{List, map}
 use Prim.Native.Nat.{ℕ, _*_, _<_}
-use lib.ListN.{length}
+use lib.ListN.{length, getD}
 use lib.Dec.{T, eqb, leb}
 use Rattle.theory.specs.Query.{hidden, Query, _∈_}
 use Rattle.theory.specs.Query.{Line as TheLine}
@@ -48,7 +48,8 @@ unfoldable pub showLine : ℕ → Line → Line
 unfolding showValue
 showLine w l = record { table = l .table; terms = map (showValue w) (l .terms) }
 
--- showing alters the marks of the lines' shared variables alone
-pub record ShownMarks (n : ℕ) (marks numbers : List ℕ) (w : ℕ) (marks′ : List ℕ) : Type 0 where
-  pub long : length marks′ ≡ 64
-  pub term : (k : ℕ) → k < n * 8 → laidTerm marks′ numbers k ≡ showValue w (laidTerm marks numbers k)
+-- showing alters the marks of the shared variables in the first n rows alone
+pub record ShownRows (n : ℕ) (rows : List ℕ) (w : ℕ) (rows′ : List ℕ) : Type 0 where
+  pub long : length rows′ ≡ length rows
+  pub table : (i : ℕ) → i < n → getD rows′ (i * 17) 0 ≡ getD rows (i * 17) 0
+  pub term : (i p : ℕ) → i < n → p < 8 → laidTerm rows′ i p ≡ showValue w (laidTerm rows i p)

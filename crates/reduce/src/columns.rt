@@ -23,17 +23,17 @@ fn keeps_term(t: Term, u: Term) -> bool
 }
 
 // The line in row a could go to the one in row s, were there no hidden variable in two columns.
-pub fn goes_line(tables: &[u64; 8], marks: &[u64], numbers: &[u64], a: usize, s: usize) -> bool
-    requires { ⌜ (length (now tables) ≡ 8) × (length (now marks) ≡ 64) × (length (now numbers) ≡ 64) × (a < 8) × (s < 8) ⌝ }
-    ensures { λ r. ⌜ r ≡ goesRow (now (tables .entry)) (now (marks .entry)) (now (numbers .entry)) a s ⌝ }
+pub fn goes_line(lines: &[u64], a: usize, s: usize) -> bool
+    requires { ⌜ (length (now lines) ≡ 136) × (a < 8) × (s < 8) ⌝ }
+    ensures { λ r. ⌜ r ≡ goesRow (now (lines .entry)) a s ⌝ }
 {
-    if tables[a] != tables[s] {
+    if lines[a * 17] != lines[s * 17] {
         return false;
     }
     let mut p = 0;
     while p < 8 {
-        let t = model::term_at(marks, numbers, a * 8 + p);
-        let u = model::term_at(marks, numbers, s * 8 + p);
+        let t = model::term_at(lines, a, p);
+        let u = model::term_at(lines, s, p);
         if !keeps_term(t, u) {
             return false;
         }
@@ -43,9 +43,9 @@ pub fn goes_line(tables: &[u64; 8], marks: &[u64], numbers: &[u64], a: usize, s:
 }
 
 // The word with the columns of row b that have term t, which stands in column p of a line.
-fn with_column(m: u64, p: usize, t: Term, marks: &[u64], numbers: &[u64], b: usize) -> u64
-    requires { ⌜ (p < 8) × (length (now marks) ≡ 64) × (length (now numbers) ≡ 64) × (b < 8) ⌝ }
-    ensures { λ r. ⌜ ((A B : TheLine) → t ≡ termAt (lineValue A) p → Row (now (marks .entry)) (now (numbers .entry)) b (lineValue B) → length (A .columns) ≤ 8 → length (B .columns) ≤ 8 → Upto (SameColumn A B) (p * 8) m → Upto (SameColumn A B) (p * 8 + 8) r) ⌝ }
+fn with_column(m: u64, p: usize, t: Term, lines: &[u64], b: usize) -> u64
+    requires { ⌜ (p < 8) × (length (now lines) ≡ 136) × (b < 8) ⌝ }
+    ensures { λ r. ⌜ ((A B : TheLine) → t ≡ termAt (lineValue A) p → Row (now (lines .entry)) b (lineValue B) → length (A .columns) ≤ 8 → length (B .columns) ≤ 8 → Upto (SameColumn A B) (p * 8) m → Upto (SameColumn A B) (p * 8 + 8) r) ⌝ }
 {
     if t.mark == UNUSED {
         return m;
@@ -53,7 +53,7 @@ fn with_column(m: u64, p: usize, t: Term, marks: &[u64], numbers: &[u64], b: usi
     let mut r = m;
     let mut q = 0;
     while q < 8 {
-        let u = model::term_at(marks, numbers, b * 8 + q);
+        let u = model::term_at(lines, b, q);
         let same = model::same_term(t, u);
         r = words::set_bit_if(r, (p * 8 + q) as u64, same);
         q += 1;
@@ -61,16 +61,16 @@ fn with_column(m: u64, p: usize, t: Term, marks: &[u64], numbers: &[u64], b: usi
     r
 }
 
-// The columns p and q of rows a and b that have the same term, as bit p * 8 + q.
-pub fn same_columns(marks: &[u64], numbers: &[u64], a: usize, b: usize) -> u64
-    requires { ⌜ (length (now marks) ≡ 64) × (length (now numbers) ≡ 64) × (a < 8) × (b < 8) ⌝ }
-    ensures { λ r. ⌜ ((A B : TheLine) → Row (now (marks .entry)) (now (numbers .entry)) a (lineValue A) → Row (now (marks .entry)) (now (numbers .entry)) b (lineValue B) → length (A .columns) ≤ 8 → length (B .columns) ≤ 8 → SameColumns A B r) ⌝ }
+// The columns p and q of lines a and b that have the same term, as bit p * 8 + q.
+pub fn same_columns(lines: &[u64], a: usize, b: usize) -> u64
+    requires { ⌜ (length (now lines) ≡ 136) × (a < 8) × (b < 8) ⌝ }
+    ensures { λ r. ⌜ ((A B : TheLine) → Row (now (lines .entry)) a (lineValue A) → Row (now (lines .entry)) b (lineValue B) → length (A .columns) ≤ 8 → length (B .columns) ≤ 8 → SameColumns A B r) ⌝ }
 {
     let mut m = 0;
     let mut p = 0;
     while p < 8 {
-        let t = model::term_at(marks, numbers, a * 8 + p);
-        m = with_column(m, p, t, marks, numbers, b);
+        let t = model::term_at(lines, a, p);
+        m = with_column(m, p, t, lines, b);
         p += 1;
     }
     m

@@ -7,8 +7,7 @@ mod pairs;
 mod showing;
 mod taking;
 
-pub use laying::QueryRows;
 pub use laying::query_rows;
 pub use showing::shared;
-pub use showing::show_marks;
+pub use showing::show;
 pub use taking::lines_left;

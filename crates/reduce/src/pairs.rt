@@ -6,37 +6,30 @@ ghost use Prim.Native.Nat.{_≤_, _<_};
 ghost use lib.ListN.{length};
 ghost use Rattle.theory.specs.Query.{Query as TheQuery};
 ghost use Rattle.reduce.specs.Columns.{goesRow};
-ghost use Rattle.reduce.specs.Laid.{Laid, LaidTables};
+ghost use Rattle.reduce.specs.Laid.{Laid};
 ghost use Rattle.reduce.specs.Pairs.{Goings, Columns, joins, Candidates, PairWord, PairWords};
 use crate::columns::goes_line;
 use crate::columns::same_columns;
 
-fn can_go(
-    there: bool,
-    tables: &[u64; 8],
-    marks: &[u64],
-    numbers: &[u64],
-    a: usize,
-    s: usize,
-) -> bool
-    requires { ⌜ (length (now tables) ≡ 8) × (length (now marks) ≡ 64) × (length (now numbers) ≡ 64) × (a < 8) × (s < 8) ⌝ }
-    ensures { λ r. ⌜ r ≡ (there && goesRow (now (tables .entry)) (now (marks .entry)) (now (numbers .entry)) a s) ⌝ }
+fn can_go(there: bool, lines: &[u64], a: usize, s: usize) -> bool
+    requires { ⌜ (length (now lines) ≡ 136) × (a < 8) × (s < 8) ⌝ }
+    ensures { λ r. ⌜ r ≡ (there && goesRow (now (lines .entry)) a s) ⌝ }
 {
     if !there {
         return false;
     }
-    goes_line(tables, marks, numbers, a, s)
+    goes_line(lines, a, s)
 }
 
 // The pairs of a line with a line that it could go to.
-pub fn goings(n: usize, tables: &[u64; 8], marks: &[u64], numbers: &[u64]) -> u64
-    requires { ⌜ (n ≤ 8) × (length (now tables) ≡ 8) × (length (now marks) ≡ 64) × (length (now numbers) ≡ 64) ⌝ }
-    ensures { λ r. ⌜ ((Q : TheQuery) → length Q ≡ n → LaidTables Q (now (tables .entry)) → Laid Q (now (marks .entry)) (now (numbers .entry)) → Goings Q r) ⌝ }
+pub fn goings(n: usize, lines: &[u64]) -> u64
+    requires { ⌜ (n ≤ 8) × (length (now lines) ≡ 136) ⌝ }
+    ensures { λ r. ⌜ ((Q : TheQuery) → length Q ≡ n → Laid Q (now (lines .entry)) → Goings Q r) ⌝ }
 {
     let mut m = 0;
     let mut p = 0;
     while p < n * 8 {
-        let on = can_go(p % 8 < n, tables, marks, numbers, p / 8, p % 8);
+        let on = can_go(p % 8 < n, lines, p / 8, p % 8);
         m = words::set_bit_if(m, p as u64, on);
         p += 1;
     }
@@ -44,15 +37,15 @@ pub fn goings(n: usize, tables: &[u64; 8], marks: &[u64], numbers: &[u64]) -> u6
 }
 
 // For each two lines the columns that have the same term.
-pub fn columns(n: usize, marks: &[u64], numbers: &[u64]) -> [u64; 64]
-    requires { ⌜ (n ≤ 8) × (length (now marks) ≡ 64) × (length (now numbers) ≡ 64) ⌝ }
-    ensures { λ r. ⌜ ((Q : TheQuery) → length Q ≡ n → Laid Q (now (marks .entry)) (now (numbers .entry)) → Columns Q r) ⌝ }
+pub fn columns(n: usize, lines: &[u64]) -> [u64; 64]
+    requires { ⌜ (n ≤ 8) × (length (now lines) ≡ 136) ⌝ }
+    ensures { λ r. ⌜ ((Q : TheQuery) → length Q ≡ n → Laid Q (now (lines .entry)) → Columns Q r) ⌝ }
 {
     let mut table = [0; 64];
     let mut p = 0;
     while p < n * 8 {
         if p % 8 < n {
-            table[p] = same_columns(marks, numbers, p / 8, p % 8);
+            table[p] = same_columns(lines, p / 8, p % 8);
         }
         p += 1;
     }

@@ -10,7 +10,7 @@ ghost use Rattle.model.specs.Rows.{Row};
 ghost use Rattle.model.specs.declared.Line.{Line};
 ghost use Rattle.reduce.specs.Laid.{Laid};
 ghost use Rattle.reduce.specs.Left.{linesAt};
-ghost use Rattle.reduce.specs.Showing.{hiddenTerm, withHidden, HiddenWord, HiddenIf, SharedWord, showValue, ShownMarks};
+ghost use Rattle.reduce.specs.Showing.{hiddenTerm, withHidden, HiddenWord, HiddenIf, SharedWord, showValue, ShownRows};
 use model::HIDDEN;
 use model::LAST_VARIABLE;
 use model::SHOWN;
@@ -37,14 +37,14 @@ fn with_hidden(m: u64, t: Term) -> u64
 }
 
 // The hidden variables of the line in row i, as bits.
-fn hidden_word(marks: &[u64], numbers: &[u64], i: usize) -> u64
-    requires { ⌜ (length (now marks) ≡ 64) × (length (now numbers) ≡ 64) × (i < 8) ⌝ }
-    ensures { λ r. ⌜ ((l : Line) → Row (now (marks .entry)) (now (numbers .entry)) i l → HiddenWord l 8 r) ⌝ }
+fn hidden_word(lines: &[u64], i: usize) -> u64
+    requires { ⌜ (length (now lines) ≡ 136) × (i < 8) ⌝ }
+    ensures { λ r. ⌜ ((l : Line) → Row (now (lines .entry)) i l → HiddenWord l 8 r) ⌝ }
 {
     let mut m = 0;
     let mut k = 0;
     while k < 8 {
-        let t = model::term_at(marks, numbers, i * 8 + k);
+        let t = model::term_at(lines, i, k);
         m = with_hidden(m, t);
         k += 1;
     }
@@ -52,27 +52,27 @@ fn hidden_word(marks: &[u64], numbers: &[u64], i: usize) -> u64
 }
 
 // The hidden variables of a line that is there.
-fn hidden_if(there: bool, marks: &[u64], numbers: &[u64], i: usize) -> u64
-    requires { ⌜ (length (now marks) ≡ 64) × (length (now numbers) ≡ 64) × (i < 8) ⌝ }
-    ensures { λ r. ⌜ ((l : Line) → Row (now (marks .entry)) (now (numbers .entry)) i l → HiddenIf there l r) ⌝ }
+fn hidden_if(there: bool, lines: &[u64], i: usize) -> u64
+    requires { ⌜ (length (now lines) ≡ 136) × (i < 8) ⌝ }
+    ensures { λ r. ⌜ ((l : Line) → Row (now (lines .entry)) i l → HiddenIf there l r) ⌝ }
 {
     if !there {
         return 0;
     }
-    hidden_word(marks, numbers, i)
+    hidden_word(lines, i)
 }
 
 // The hidden variables that stand in two or more of the lines left of n lines, as bits.
-pub fn shared<'a>(n: usize, marks: &'a [u64], numbers: &'a [u64], left: u64) -> u64
-    requires { ⌜ (n ≤ 8) × (length (now marks) ≡ 64) × (length (now numbers) ≡ 64) ⌝ }
-    ensures { λ r. ⌜ ((Q : TheQuery) → length Q ≡ n → Laid Q (now (marks .entry)) (now (numbers .entry)) → SharedWord (linesAt left Q) r) ⌝ }
+pub fn shared(n: usize, lines: &[u64], left: u64) -> u64
+    requires { ⌜ (n ≤ 8) × (length (now lines) ≡ 136) ⌝ }
+    ensures { λ r. ⌜ ((Q : TheQuery) → length Q ≡ n → Laid Q (now (lines .entry)) → SharedWord (linesAt left Q) r) ⌝ }
 {
     let mut once = 0;
     let mut twice = 0;
     let mut i = 0;
     while i < n {
         let there = words::has_bit(left, i as u64);
-        let w = hidden_if(there, marks, numbers, i);
+        let w = hidden_if(there, lines, i);
         twice = twice | (once & w);
         once = once | w;
         i += 1;
@@ -102,21 +102,23 @@ fn show_term(shared: u64, t: Term) -> Term
     t
 }
 
-// The marks of n lines with their shared variables shown; showing alters no number.
-pub fn show_marks(n: usize, marks: [u64; 64], numbers: &[u64], shared: u64) -> [u64; 64]
-    requires { ⌜ (n ≤ 8) × (length (now numbers) ≡ 64) ⌝ }
-    ensures { λ r. ⌜ ShownMarks n marks (now (numbers .entry)) shared r ⌝ }
+// The first n rows with their shared variables shown.
+pub fn show(n: usize, lines: &mut [u64], shared: u64)
+    requires { ⌜ (n ≤ 8) × (length (now lines) ≡ 136) ⌝ }
+    ensures { λ _. ⌜ ShownRows n (now (lines .entry)) shared (now (lines .exit)) ⌝ }
 {
     if shared == 0 {
-        return marks;
+        return;
     }
-    let mut r = marks;
     let mut k = 0;
     while k < n * 8 {
-        let t = model::term_at(&marks, numbers, k);
+        let at = k / 8 * 17 + 1 + k % 8 * 2;
+        let t = Term {
+            mark: lines[at],
+            number: lines[at + 1],
+        };
         let u = show_term(shared, t);
-        r[k] = u.mark;
+        lines[at] = u.mark;
         k += 1;
     }
-    r
 }

@@ -5,7 +5,7 @@ ghost use Prim.Native.Nat.{_^_, _≤_, _<_};
 ghost use lib.ListN.{length};
 ghost use Rattle.theory.specs.Query.{Query as TheQuery};
 ghost use Rattle.theory.specs.Executable.Reduce.{reduce};
-ghost use Rattle.reduce.specs.Laid.{Laid, LaidTables};
+ghost use Rattle.reduce.specs.Laid.{Laid};
 ghost use Rattle.reduce.specs.Pairs.{Goings, Tabled};
 ghost use Rattle.reduce.specs.Left.{linesAt, Folds};
 use crate::assignment::search;
@@ -57,11 +57,11 @@ fn taken(n: usize, rows: u64, candidates: u64, table: &[u64; 64]) -> u64
 }
 
 // The lines left, where some line could go to another.
-fn searched(n: usize, marks: &[u64], numbers: &[u64], goings: u64) -> u64
-    requires { ⌜ (n ≤ 8) × (length (now marks) ≡ 64) × (length (now numbers) ≡ 64) ⌝ }
-    ensures { λ r. ⌜ ((Q : TheQuery) → length Q ≡ n → Laid Q (now (marks .entry)) (now (numbers .entry)) → Goings Q goings → linesAt r Q ≡ reduce Q) ⌝ }
+fn searched(n: usize, lines: &[u64], goings: u64) -> u64
+    requires { ⌜ (n ≤ 8) × (length (now lines) ≡ 136) ⌝ }
+    ensures { λ r. ⌜ ((Q : TheQuery) → length Q ≡ n → Laid Q (now (lines .entry)) → Goings Q goings → linesAt r Q ≡ reduce Q) ⌝ }
 {
-    let same = columns(n, marks, numbers);
+    let same = columns(n, lines);
     let c = candidates(&same, goings);
     let table = pair_words(&same, c);
     let rows = fold(n, c, &table);
@@ -69,13 +69,13 @@ fn searched(n: usize, marks: &[u64], numbers: &[u64], goings: u64) -> u64
 }
 
 // The lines left of n lines once each that may go is taken out, line i at bit i.
-pub fn lines_left<'a>(n: usize, tables: &'a [u64; 8], marks: &'a [u64], numbers: &'a [u64]) -> u64
-    requires { ⌜ (n ≤ 8) × (length (now tables) ≡ 8) × (length (now marks) ≡ 64) × (length (now numbers) ≡ 64) ⌝ }
-    ensures { λ r. ⌜ ((Q : TheQuery) → length Q ≡ n → LaidTables Q (now (tables .entry)) → Laid Q (now (marks .entry)) (now (numbers .entry)) → linesAt r Q ≡ reduce Q) ⌝ }
+pub fn lines_left(n: usize, lines: &[u64]) -> u64
+    requires { ⌜ (n ≤ 8) × (length (now lines) ≡ 136) ⌝ }
+    ensures { λ r. ⌜ ((Q : TheQuery) → length Q ≡ n → Laid Q (now (lines .entry)) → linesAt r Q ≡ reduce Q) ⌝ }
 {
-    let g = goings(n, tables, marks, numbers);
+    let g = goings(n, lines);
     if !words::meets(g, MOVING) {
         return words::low_bits(n as u64);
     }
-    searched(n, marks, numbers, g)
+    searched(n, lines, g)
 }

@@ -59,17 +59,16 @@ fn put_reply(out: &mut [u8], at: usize, query: u64, reply: Reply, left: u64) -> 
 
 // The queries, each in the session that the one before it left. There are 5,463 of them at most, and their lines take 502,596
 // bytes at most.
-fn decide_all<'a>(
+fn decide_all(
     p: Policy,
     masks: &[u64; 17],
-    marks: &'a [u64; 256],
-    numbers: &'a [u64; 256],
+    views: &[u64; 544],
     opened: Session,
     queries: &[u8],
     out: &mut [u8],
     start: usize,
 ) -> usize
-    requires { ⌜ SomePolicy p × TableMasks p (now masks) × ViewsLaid p (now marks) (now numbers) × (length (now queries) ≤ 65536) × (start + 502596 ≤ length (now out)) ⌝ }
+    requires { ⌜ SomePolicy p × TableMasks p (now masks) × ViewsLaid p (now views) × (length (now queries) ≤ 65536) × (start + 502596 ≤ length (now out)) ⌝ }
     ensures { λ r. ⌜ ((d : Declared) → LoadedTo p d → take r (now (out .exit)) ≡ take start (now (out .entry)) ++ linesFrom d (opened .mask) 1 (cut (now (queries .entry)))) ⌝ }
     ensures { λ r. ⌜ (length (now (out .exit)) ≡ length (now (out .entry))) × (r ≤ start + 502596) ⌝ }
 {
@@ -80,7 +79,7 @@ fn decide_all<'a>(
     while at < queries.len() {
         let rest = &queries[at..];
         let n = cutting::next_cut(rest);
-        let d = desk::decide_loaded(p, masks, marks, numbers, s, &rest[..n]);
+        let d = desk::decide_loaded(p, masks, views, s, &rest[..n]);
         s = d.session;
         let reply = d.reply;
         to = put_reply(out, to, query, reply, words::ones(s.mask));
@@ -103,20 +102,11 @@ pub fn run(policy: &[u8], queries: &[u8], out: &mut [u8]) -> usize
         Outcome::Accepted => {
             let p = l.policy;
             let masks = label::table_views(p);
-            let rows = label::view_rows(p);
+            let views = label::view_rows(p);
             let opened = Session {
                 mask: words::low_bits(p.partition_count as u64),
             };
-            decide_all(
-                p,
-                &masks,
-                &rows.marks,
-                &rows.numbers,
-                opened,
-                queries,
-                out,
-                at,
-            )
+            decide_all(p, &masks, &views, opened, queries, out, at)
         }
     }
 }

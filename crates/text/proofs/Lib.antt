@@ -4,3 +4,5 @@ pub mod Names
 pub mod Numerals
 pub mod Parts
 pub mod FieldsFrom
+-- A reader of a text, for the walks of code that has one.
+pub mod Readers

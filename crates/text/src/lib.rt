@@ -33,6 +33,12 @@ pub enum Numeral {
     Value(u64),
 }
 
+// The unread part of a text that is lent, and the number of its next line.
+pub struct Reader<'a> {
+    pub rest: &'a [u8],
+    pub line: u64,
+}
+
 // The place of the first byte of `s` that equals `b`, or the length of `s` where there is none.
 pub fn first(s: &[u8], b: u8) -> usize
     ensures { λ r. ⌜ r ≡ before b (now (s .entry)) ⌝ }

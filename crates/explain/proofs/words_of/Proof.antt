@@ -1,27 +1,23 @@
--- `explain::words_of`: the case that `settles` says.
+-- `explain::words_of`: the case that is handed in.
+use mathlib.Core.Path.{sym, _∙_}
 use borrow.Author.Needs.{needs}
 use Rattle.explain.specs.Explanation.{explained}
 use Rattle.explain.proofs.words_of.Statement.{statement}
 use Rattle.explain.proofs.words_of.Tie as tie
-
-settles-requires : tie.Need-settles-requires
-settles-requires c κs = search needs
 
 granted-words-requires : tie.Need-granted-words-requires
 granted-words-requires c κs = search needs
 
 returns : tie.Need-returns
 unfolding explained
-returns c = λ ws e few. rw (← c .before .before .settles .ensures ws e, c .before .if1 .taken) (c .granted-words .ensures ws e)
+returns c = λ ws e few s. rw (sym s ∙ c .before .if1 .taken) (c .granted-words .ensures ws e)
 
 lacking-words-requires : tie.Need-lacking-words-requires
 lacking-words-requires c κs = search needs
 
 returns-2 : tie.Need-returns-2
 unfolding explained
-returns-2 c = λ ws e few. rw (← c .before .before .settles .ensures ws e, c .before .if1 .left) (c .lacking-words .ensures ws e)
+returns-2 c = λ ws e few s. rw (sym s ∙ c .before .if1 .left) (c .lacking-words .ensures ws e)
 
 pub words-of-spec : {M : Type 1} → statement M
-words-of-spec =
-    tie.close
-    (tie.spec settles-requires granted-words-requires returns lacking-words-requires returns-2)
+words-of-spec = tie.close (tie.spec granted-words-requires returns lacking-words-requires returns-2)

@@ -11,36 +11,24 @@ use Rattle.label.proofs.covers.Statement.{statement}
 use Rattle.label.proofs.covers.Tie as tie
 
 abbrev Inv-loop : tie.InvT-loop
-Inv-loop width view-marks view-numbers v marks numbers a ok₀ p x y q₀ ok q =
-    (ok ≡ true) × (q ≤ width) × Passed width (Wide width view-marks view-numbers v) (Wide width marks numbers a) p q
+Inv-loop width views v lines a ok₀ p x y q₀ ok q =
+    (ok ≡ true) × (q ≤ width) × Passed width (Wide width views v) (Wide width lines a) p q
 
 abbrev μ-loop : tie.MeasureT-loop
-μ-loop width view-marks view-numbers v marks numbers a ok₀ p x y q₀ ok q = width - q
+μ-loop width views v lines a ok₀ p x y q₀ ok q = width - q
 
 abbrev Inv-columns : tie.InvT-columns
-Inv-columns width view-marks view-numbers v marks numbers a ok₀ p₀ ok p =
-    (ok ≡ true) × (p ≤ width) × Passed width (Wide width view-marks view-numbers v) (Wide width marks numbers a) p 0
+Inv-columns width views v lines a ok₀ p₀ ok p =
+    (ok ≡ true) × (p ≤ width) × Passed width (Wide width views v) (Wide width lines a) p 0
 
 abbrev μ-columns : tie.MeasureT-columns
-μ-columns width view-marks view-numbers v marks numbers a ok₀ p₀ ok p = width - p
+μ-columns width views v lines a ok₀ p₀ ok p = width - p
 
 columns-holds : tie.Need-columns-holds Inv-loop μ-loop Inv-columns μ-columns
 columns-holds c = (refl, omega arith, passed-none)
 
-mul-term-at : tie.Need-mul-term-at Inv-loop μ-loop Inv-columns μ-columns
-mul-term-at c = omega arith
-
-add-term-at : tie.Need-add-term-at Inv-loop μ-loop Inv-columns μ-columns
-add-term-at c = omega arith
-
 term-at-requires : tie.Need-term-at-requires Inv-loop μ-loop Inv-columns μ-columns
 term-at-requires c κs = (omega arith, omega arith)
-
-mul-term-at-2 : tie.Need-mul-term-at-2 Inv-loop μ-loop Inv-columns μ-columns
-mul-term-at-2 c = omega arith
-
-add-term-at-2 : tie.Need-add-term-at-2 Inv-loop μ-loop Inv-columns μ-columns
-add-term-at-2 c = omega arith
 
 term-at-requires-2 : tie.Need-term-at-requires-2 Inv-loop μ-loop Inv-columns μ-columns
 term-at-requires-2 c κs = (omega arith, omega arith)
@@ -49,20 +37,8 @@ loop-holds : tie.Need-loop-holds Inv-loop μ-loop Inv-columns μ-columns
 loop-holds c =
     let inv = c .before .before .before .columns .inv in (inv .0, omega arith, inv .2)
 
-mul-term-at-3 : tie.Need-mul-term-at-3 Inv-loop μ-loop Inv-columns μ-columns
-mul-term-at-3 c = omega arith
-
-add-term-at-3 : tie.Need-add-term-at-3 Inv-loop μ-loop Inv-columns μ-columns
-add-term-at-3 c = omega arith
-
 term-at-requires-3 : tie.Need-term-at-requires-3 Inv-loop μ-loop Inv-columns μ-columns
 term-at-requires-3 c κs = (omega arith, omega arith)
-
-mul-term-at-4 : tie.Need-mul-term-at-4 Inv-loop μ-loop Inv-columns μ-columns
-mul-term-at-4 c = omega arith
-
-add-term-at-4 : tie.Need-add-term-at-4 Inv-loop μ-loop Inv-columns μ-columns
-add-term-at-4 c = omega arith
 
 term-at-requires-4 : tie.Need-term-at-requires-4 Inv-loop μ-loop Inv-columns μ-columns
 term-at-requires-4 c κs = (omega arith, omega arith)
@@ -74,13 +50,13 @@ obeys-requires c κs = tt
 answer : (c : tie.After-obeys Inv-loop μ-loop Inv-columns μ-columns) (view line : TheLine)
     → (let inner = c .before .before .before in
     let outer = inner .before .before .before .before in
-    let r = outer .before .before .before .before .before .before .args in
-    Wide (r .width) (r .view-marks .now) (r .view-numbers .now) (r .v) view → Wide (r .width) (r .marks .now) (r .numbers .now) (r .a) line
+    let r = outer .before .before .before .before .args in
+    Wide (r .width) (r .views .now) (r .v) view → Wide (r .width) (r .lines .now) (r .a) line
     → c .obeys .result ≡ rule view line (outer .before .columns .p) (inner .before .loop .q))
 answer c view line v a =
     let inner = c .before .before .before in
     let outer = inner .before .before .before .before in
-    let few = outer .before .before .before .before .before .before .pre .0 in
+    let few = outer .before .before .before .before .pre .0 in
     let p = outer .before .columns .p in
     let q = inner .before .loop .q in
     let p-in = outer .columns-test .taken in
@@ -137,18 +113,10 @@ covers-spec =
     Inv-columns
     μ-columns
     columns-holds
-    mul-term-at
-    add-term-at
     term-at-requires
-    mul-term-at-2
-    add-term-at-2
     term-at-requires-2
     loop-holds
-    mul-term-at-3
-    add-term-at-3
     term-at-requires-3
-    mul-term-at-4
-    add-term-at-4
     term-at-requires-4
     obeys-requires
     add-q

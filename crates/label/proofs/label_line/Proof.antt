@@ -14,17 +14,16 @@ use Rattle.label.proofs.label_line.Statement.{statement}
 use Rattle.label.proofs.label_line.Tie as tie
 
 abbrev Inv-loop : tie.InvT-loop
-Inv-loop view-marks view-numbers mask width table marks numbers a word₀ left₀ word left =
+Inv-loop views mask width lines a word₀ left₀ word left =
     (left < 2 ^ 32)
     × (word < 2 ^ 32)
-    × ((views : List TheLine) (A : TheLine) → Labelled view-marks view-numbers mask width table marks numbers a views A
-    → Picked (Covering views A) mask left word)
+    × ((vs : List TheLine) (A : TheLine) → Labelled views mask width lines a vs A → Picked (Covering vs A) mask left word)
 
 abbrev μ-loop : tie.MeasureT-loop
-μ-loop view-marks view-numbers mask width table marks numbers a word₀ left₀ word left = left
+μ-loop views mask width lines a word₀ left₀ word left = left
 
 loop-holds : tie.Need-loop-holds Inv-loop μ-loop
-loop-holds c = (c .pre .4, omega arith, λ views A l. picked-none)
+loop-holds c = (c .pre .2, omega arith, λ vs A l. picked-none)
 
 least-requires : tie.Need-least-requires Inv-loop μ-loop
 least-requires c κs = omega arith
@@ -35,11 +34,10 @@ small c = bit-within 32 _ (c .before .before .loop .inv .0) (c .least .ensures .
 
 covers-requires : tie.Need-covers-requires Inv-loop μ-loop
 covers-requires c κs =
-    let k = small (c .before .before .before .before) in
-    (c .before .before .before .before .before .before .before .pre .5, omega (arith, k), omega (arith, k), omega arith, omega arith)
+    let k = small (c .before .before) in (c .before .before .before .before .before .pre .3, omega (arith, k), omega arith)
 
 set-bit-if-requires : tie.Need-set-bit-if-requires Inv-loop μ-loop
-set-bit-if-requires c κs = omega (arith, small (c .before .before .before .before .before))
+set-bit-if-requires c κs = omega (arith, small (c .before .before .before))
 
 drop-least-requires : tie.Need-drop-least-requires Inv-loop μ-loop
 drop-least-requires c κs = omega arith
@@ -49,8 +47,8 @@ loop-less c = c .drop-least .ensures .less
 
 loop-again : tie.Need-loop-again Inv-loop μ-loop
 loop-again c =
-    let at = c .before .before .before .before .before .before .before .before .before .loop in
-    let found = c .before .before .before .before .before .before .before in
+    let at = c .before .before .before .before .before .before .before .loop in
+    let found = c .before .before .before .before .before in
     let answer = c .before .before .covers in (
       omega (arith, c .drop-least .ensures .less),
       rw (c .before .set-bit-if .ensures) (set-where-below 32 (at .word) _ (answer .result) (at .inv .1) (small found)),
@@ -62,13 +60,22 @@ loop-again c =
           (c .before .set-bit-if .ensures),
     )
 
+mul-join : tie.Need-mul-join Inv-loop μ-loop
+mul-join c = omega arith
+
+mul-join-2 : tie.Need-mul-join-2 Inv-loop μ-loop
+mul-join-2 c = omega arith
+
+element-copy-out-join : tie.Need-element-copy-out-join Inv-loop μ-loop
+element-copy-out-join c = omega arith
+
 join-requires : tie.Need-join-requires Inv-loop μ-loop
-join-requires c κs = (c .before .before .pre .6, omega (arith, c .before .loop .inv .1))
+join-requires c κs = (c .before .before .before .pre .5, omega (arith, c .before .before .loop .inv .1))
 
 returns : tie.Need-returns Inv-loop μ-loop
 returns c views A l =
-    let inv = c .before .before .loop .inv in
-    c .join .ensures ∙ labelled l _ _ (c .before .loop-test .left) (inv .1) (inv .2 views A l)
+    let inv = c .before .before .before .loop .inv in
+    c .join .ensures ∙ labelled l _ _ (c .before .before .loop-test .left) (inv .1) (inv .2 views A l)
 
 pub label-line-spec : {M : Type 1} → statement M
 label-line-spec =
@@ -83,5 +90,8 @@ label-line-spec =
     drop-least-requires
     loop-less
     loop-again
+    mul-join
+    mul-join-2
+    element-copy-out-join
     join-requires
     returns)

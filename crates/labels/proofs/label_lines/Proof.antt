@@ -19,15 +19,15 @@ use Rattle.labels.proofs.label_lines.Statement.{statement}
 use Rattle.labels.proofs.label_lines.Tie as tie
 
 abbrev Inv-loop : tie.InvT-loop
-Inv-loop tables masks view-marks view-numbers n line-tables marks numbers left words₀ count₀ i₀ words count i =
+Inv-loop tables masks views n lines left words₀ count₀ i₀ words count i =
     (i ≤ n)
     × (count ≤ i)
-    × ((d : Declared) (Q : Query) (w : ℕ) → Ready d tables masks view-marks view-numbers → length Q ≡ n
-    → Rows d Q w line-tables marks numbers → SharedWord (linesAt left Q) w
+    × ((d : Declared) (Q : Query) (w : ℕ) → Ready d tables masks views → length Q ≡ n
+    → Rows d Q w lines → SharedWord (linesAt left Q) w
     → Written (λ A. label (d .views) (over (showTerm (linesAt left Q)) A)) (pick (isSet left) (take i Q)) words count)
 
 abbrev μ-loop : tie.MeasureT-loop
-μ-loop tables masks view-marks view-numbers n line-tables marks numbers left words₀ count₀ i₀ words count i = n - i
+μ-loop tables masks views n lines left words₀ count₀ i₀ words count i = n - i
 
 loop-holds : tie.Need-loop-holds Inv-loop μ-loop
 unfolding pick pad
@@ -40,28 +40,22 @@ room c = let (d, Q, w, ready, e, rows) = c .before .before .pre .0 in omega (ari
 has-bit-requires : tie.Need-has-bit-requires Inv-loop μ-loop
 has-bit-requires c κs = omega (arith, room c)
 
-mul-table : tie.Need-mul-table Inv-loop μ-loop
-mul-table c = omega (arith, room (c .before .before))
-
-element-copy-out-table : tie.Need-element-copy-out-table Inv-loop μ-loop
-element-copy-out-table c = omega (arith, room (c .before .before))
-
 label-of-requires : tie.Need-label-of-requires Inv-loop μ-loop
 label-of-requires c κs =
-    let at = c .before .before .before in
+    let at = c .before .before in
     let s = at .before .before in
     let (d, Q, w, ready, e, rows) = s .pre .0 in
     let h : at .before .loop .i < length Q = rw e (at .loop-test .taken) in
-    ((d, _, ready, some-line rows (at .before .loop .i) h), s .pre .2, s .pre .3, omega (arith, room at))
+    ((d, _, ready, some-line rows (at .before .loop .i) h), s .pre .1, omega (arith, room at))
 
 mul-words : tie.Need-mul-words Inv-loop μ-loop
-mul-words c = omega (arith, room (c .before .before .before .before))
+mul-words c = omega (arith, room (c .before .before .before))
 
 array-write-words : tie.Need-array-write-words Inv-loop μ-loop
-array-write-words c = omega (arith, room (c .before .before .before .before))
+array-write-words c = omega (arith, room (c .before .before .before))
 
 add-count : tie.Need-add-count Inv-loop μ-loop
-add-count c = omega (arith, room (c .before .before .before .before))
+add-count c = omega (arith, room (c .before .before .before))
 
 add-i : tie.Need-add-i Inv-loop μ-loop
 add-i c = omega (arith, room (c .before .before))
@@ -74,7 +68,7 @@ loop-again c =
     let at = c .before .before .before .loop in
     let args = c .before .before .before .before .args in (
       omega arith,
-      ⊎-elim (λ x. rw (x .4) (omega arith)) (λ x. rw (x .2) (omega arith)) (c .if1 .came),
+      ⊎-elim (λ x. rw (x .3) (omega arith)) (λ x. rw (x .2) (omega arith)) (c .if1 .came),
       λ d Q w ready e rows word.
           let h : at .i < length Q = rw e (c .before .before .loop-test .taken) in
           let v = at .inv .2 d Q w ready e rows word in
@@ -82,7 +76,7 @@ loop-again c =
           (λ x.
           let t : isSet (args .left) (at .i) ≡ true = sym (c .before .has-bit .ensures) ∙ x .0 .taken in
           let l = shown-line rows (at .i) h (args .left) word t in
-          rw (x .3, x .4, x .2 .ensures d _ ready l) (written-more (args .left) Q (at .i) v h t (omega (arith, room (c .before .before)))))
+          rw (x .2, x .3, x .1 .ensures d _ ready l) (written-more (args .left) Q (at .i) v h t (omega (arith, room (c .before .before)))))
           (λ x. rw (x .1, x .2) (written-same (args .left) Q (at .i) v h (sym (c .before .has-bit .ensures) ∙ x .0 .left)))
           (c .if1 .came),
     )
@@ -100,8 +94,6 @@ label-lines-spec =
     μ-loop
     loop-holds
     has-bit-requires
-    mul-table
-    element-copy-out-table
     label-of-requires
     mul-words
     array-write-words

@@ -11,7 +11,7 @@ use Rattle.theory.specs.Executable.Show.{show}
 use Rattle.model.specs.declared.Query.{Query as QueryValue}
 use Rattle.policy.specs.Text.{Declared}
 use Rattle.reduce.proofs.Lines.{held-count}
-use Rattle.labels.specs.Posed.{Posed, Rows, labelsValue}
+use Rattle.labels.specs.Posed.{Posed, labelsValue}
 use Rattle.labels.proofs.Lines.{rows-shown}
 use Rattle.labels.proofs.label_query.Statement.{statement}
 use Rattle.labels.proofs.label_query.Tie as tie
@@ -19,50 +19,56 @@ use Rattle.labels.proofs.label_query.Tie as tie
 few : {q : QueryValue} {d : Declared} {Q : Query} → Posed q d Q → q .count ≤ 8
 few g = omega (arith, held-count (g .query), g .query .lines)
 
--- how long the rows are
-long : (c : tie.After-query-rows)
-    → (length (c .query-rows .result .tables) ≡ 8) × (length (c .query-rows .result .numbers) ≡ 64)
-long c = (search needs, search needs)
-
 query-rows-requires : tie.Need-query-rows-requires
 query-rows-requires c κs = few (c .pre .3)
 
+-- how long the rows are
+long : (c : tie.After-query-rows) → length (c .query-rows .result) ≡ 136
+long c = search needs
+
+slice-aggregate-lines-left : tie.Need-slice-aggregate-lines-left
+slice-aggregate-lines-left c = search needs
+
 lines-left-requires : tie.Need-lines-left-requires
-lines-left-requires c κs = (few (c .before .before .before .before .before .before .before .pre .3), search needs, search needs, search needs)
+lines-left-requires c κs = (few (c .before .before .pre .3), long (c .before))
+
+slice-aggregate-shared : tie.Need-slice-aggregate-shared
+slice-aggregate-shared c = search needs
 
 shared-requires : tie.Need-shared-requires
-shared-requires c κs = (few (c .before .before .before .before .before .before .before .before .before .before .before .before .before .pre .3), search needs, search needs)
+shared-requires c κs = (few (c .before .before .before .before .pre .3), long (c .before .before .before))
 
-show-marks-requires : tie.Need-show-marks-requires
-show-marks-requires c κs = (few (c .before .before .before .before .before .before .before .before .before .before .before .before .before .before .before .before .before .before .pre .3), search needs)
+slice-aggregate-show : tie.Need-slice-aggregate-show
+slice-aggregate-show c = search needs
 
--- the rows that are labelled
-shown : (c : tie.After-show-marks) (d : Declared) (Q : Query)
-    → (let s = c .before .before .before .before .before .before .before .before .before .before .before .before .before .before .before .before .before .before .before in
-    let r = c .before .before .before .before .before .before .before .before .before .before .before .before .before .before .before .before .before .before .query-rows .result in
-    Posed (s .args .q) d Q → Rows d Q (c .before .before .before .before .before .shared .result) (r .tables) (c .show-marks .result) (r .numbers))
-shown c d Q g =
-    let (t, l) = c .before .before .before .before .before .before .before .before .before .before .before .before .before .before .before .before .before .before .query-rows .ensures Q (g .query) in
-    rows-shown _ _ (sym (held-count (g .query))) g t l (c .show-marks .ensures)
+show-requires : tie.Need-show-requires
+show-requires c κs = (few (c .before .before .before .before .before .before .pre .3), long (c .before .before .before .before .before))
 
 label-lines-requires : tie.Need-label-lines-requires
 label-lines-requires c κs =
-    let (d, Q, ready, g) = c .before .before .before .before .before .before .before .before .before .before .before .before .before .before .before .before .before .before .before .before .before .before .before .pre in (
-      (d, Q, _, ready, sym (held-count (g .query)), shown (c .before .before .before .before) d Q g),
-      long (c .before .before .before .before .before .before .before .before .before .before .before .before .before .before .before .before .before .before .before .before .before .before) .0,
-      c .before .before .before .before .show-marks .ensures .long,
-      long (c .before .before .before .before .before .before .before .before .before .before .before .before .before .before .before .before .before .before .before .before .before .before) .1,
-    )
+    let (d, Q, ready, g) = c .before .before .before .before .before .before .before .before .before .pre in
+    let e = sym (held-count (g .query)) in
+    let shown = c .before .before .show .ensures in
+    ((d, Q, _, ready, e, rows-shown _ _ e g (c .before .before .before .before .before .before .before .before .query-rows .ensures Q (g .query)) shown), shown .long ∙ long (c .before .before .before .before .before .before .before .before))
 
 returns : tie.Need-returns
 unfolding labels
 returns c = λ d Q ready g.
     let e = sym (held-count (g .query)) in
-    let (t, l) = c .before .before .before .before .before .before .before .before .before .before .before .before .before .before .before .before .before .before .before .before .before .before .before .query-rows .ensures Q (g .query) in
-    c .label-lines .ensures d Q _ ready e (shown (c .before .before .before .before .before) d Q g) (c .before .before .before .before .before .before .before .before .before .before .shared .ensures Q e l)
-    ∙ ap (λ (R : Query). labelsValue (map (label (d .views)) (show R))) (c .before .before .before .before .before .before .before .before .before .before .before .before .before .before .before .before .lines-left .ensures Q e t l)
+    let l = c .before .before .before .before .before .before .before .before .before .query-rows .ensures Q (g .query) in
+    c .label-lines .ensures d Q _ ready e (rows-shown _ _ e g l (c .before .before .before .show .ensures)) (c .before .before .before .before .before .shared .ensures Q e l)
+    ∙ ap (λ (R : Query). labelsValue (map (label (d .views)) (show R))) (c .before .before .before .before .before .before .before .lines-left .ensures Q e l)
 
 pub label-query-spec : {M : Type 1} → statement M
 label-query-spec =
     tie.close
-    (tie.spec query-rows-requires lines-left-requires shared-requires show-marks-requires label-lines-requires returns)
+    (tie.spec
+    query-rows-requires
+    slice-aggregate-lines-left
+    lines-left-requires
+    slice-aggregate-shared
+    shared-requires
+    slice-aggregate-show
+    show-requires
+    label-lines-requires
+    returns)

@@ -76,21 +76,21 @@ add-from c =
     let h = within (c .before .before .before .before .before .before .before .before .args .text .now) (c .before .before .before .before .before .first .result) (c .before .before .before .before .before .first .ensures) (c .before .before .before .before .if2 .left) in
     omega (arith, h, c .before .before .before .before .before .first .ensures)
 
-sub-load-lines : tie.Need-sub-load-lines
-sub-load-lines c =
+sub-load-from : tie.Need-sub-load-from
+sub-load-from c =
     let h = within (c .before .before .before .before .before .before .before .before .args .text .now) (c .before .before .before .before .before .first .result) (c .before .before .before .before .before .first .ensures) (c .before .before .before .before .if2 .left) in
     omega (arith, h, c .before .before .before .before .before .first .ensures)
 
-part-load-lines-start : tie.Need-part-load-lines-start
-part-load-lines-start c =
+part-load-from-start : tie.Need-part-load-from-start
+part-load-from-start c =
     let h = within (c .before .before .before .before .before .before .before .before .args .text .now) (c .before .before .before .before .before .first .result) (c .before .before .before .before .before .first .ensures) (c .before .before .before .before .if2 .left) in
     omega (arith, h, c .before .before .before .before .before .first .ensures)
 
-part-load-lines-end : tie.Need-part-load-lines-end
-part-load-lines-end c = search needs
+part-load-from-end : tie.Need-part-load-from-end
+part-load-from-end c = search needs
 
-load-lines-requires : tie.Need-load-lines-requires
-load-lines-requires c κs = search needs
+load-from-requires : tie.Need-load-from-requires
+load-from-requires c κs = search needs
 
 returns-4 : tie.Need-returns-4
 unfolding tableColumns
@@ -98,7 +98,7 @@ returns-4 c =
     let text = c .before .before .before .before .before .before .before .before .before .before .args .text .now in
     let n = c .before .before .before .before .before .before .before .first .result in
     let f = c .before .before .before .before .before .before .before .first .ensures in
-    c .load-lines .ensures
+    c .load-from .ensures
     ∙ ap loadingValue
     (ap (λ (t : List ℕ). loadFrom tables false nothing 2 (lines t .ended) (lines t .rest)) (behind text n f)
     ∙ names text (c .before .before .before .before .before .before .before .before .if1 .left) (within text n f (c .before .before .before .before .before .before .if2 .left))
@@ -119,8 +119,8 @@ load-spec =
     refused-requires-3
     returns-3
     add-from
-    sub-load-lines
-    part-load-lines-start
-    part-load-lines-end
-    load-lines-requires
+    sub-load-from
+    part-load-from-start
+    part-load-from-end
+    load-from-requires
     returns-4)

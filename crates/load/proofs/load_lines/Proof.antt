@@ -16,10 +16,10 @@ use Rattle.load.proofs.load_lines.Statement.{statement}
 use Rattle.load.proofs.load_lines.Tie as tie
 
 abbrev Inv-loop : tie.InvT-loop
-Inv-loop text g₀ line₀ at₀ g line at = Walked text g line at
+Inv-loop text start g₀ line₀ at₀ g line at = Walked text start g line at
 
 abbrev μ-loop : tie.MeasureT-loop
-μ-loop text g₀ line₀ at₀ g line at = length text - at
+μ-loop text start g₀ line₀ at₀ g line at = length text - at
 
 empty-policy-requires : tie.Need-empty-policy-requires Inv-loop μ-loop
 empty-policy-requires c κs = search needs
@@ -27,7 +27,7 @@ empty-policy-requires c κs = search needs
 loop-holds : tie.Need-loop-holds Inv-loop μ-loop
 unfolding progressValue blockNumber
 loop-holds c =
-    walked-none (c .before .before .args .text .now) _
+    walked-none (c .before .before .args .text .now) _ _
     (λ i. record { block = 0; started = false; policy = c .empty-policy .ensures i })
 
 sub-rest : tie.Need-sub-rest Inv-loop μ-loop
@@ -99,6 +99,7 @@ loop-less c = omega arith
 loop-again : tie.Need-loop-again Inv-loop μ-loop
 loop-again c =
     let text = c .before .before .before .before .before .before .before .before .before .before .before .before .args .text .now in
+    let start = c .before .before .before .before .before .before .before .before .before .before .before .before .args .start in
     let w = c .before .before .before .before .before .before .before .before .before .loop .inv in
     let at = c .before .before .before .before .before .before .before .before .before .loop .at in
     let n = c .before .before .before .before .before .before .first .result in
@@ -106,7 +107,7 @@ loop-again c =
     let more = found-some 10 text at n f (c .before .before .before .before .before .if1 .left) in
     let value = c .before .before .before .step .ensures (w .block) (w .begun) (w .declared) (w .held)
     ∙ ap (steppedValue (w .block) (w .begun) (w .declared)) (found-line 10 text at n f) in
-    subst (λ (k : ℕ). Walked text (c .before .before .before .step .result .progress) (c .before .before .before .before .before .before .before .before .before .loop .line + 1) (at + k + 1)) (sym (found 10 text at n f))
+    subst (λ (k : ℕ). Walked text start (c .before .before .before .step .result .progress) (c .before .before .before .before .before .before .before .before .before .loop .line + 1) (at + k + 1)) (sym (found 10 text at n f))
     (walked-more w more (c .before .before .before .step .result) value (c .before .if2 .left))
 
 refused-requires-3 : tie.Need-refused-requires-3 Inv-loop μ-loop

@@ -21,10 +21,10 @@ use Rattle.query.proofs.read_lines.Statement.{statement}
 use Rattle.query.proofs.read_lines.Tie as tie
 
 abbrev Inv-loop : tie.InvT-loop
-Inv-loop tables text q₀ shown₀ hidden₀ line₀ at₀ q shown hidden line at = Walked tables text q shown hidden line at
+Inv-loop tables text start q₀ shown₀ hidden₀ line₀ at₀ q shown hidden line at = Walked tables text start q shown hidden line at
 
 abbrev μ-loop : tie.MeasureT-loop
-μ-loop tables text q₀ shown₀ hidden₀ line₀ at₀ q shown hidden line at = length text - at
+μ-loop tables text start q₀ shown₀ hidden₀ line₀ at₀ q shown hidden line at = length text - at
 
 -- ---- the end of the line
 
@@ -92,7 +92,7 @@ no-query-requires : tie.Need-no-query-requires Inv-loop μ-loop
 no-query-requires c κs = search needs
 
 loop-holds : tie.Need-loop-holds Inv-loop μ-loop
-loop-holds c = walked-none _ _ _ (c .no-query .ensures)
+loop-holds c = walked-none _ _ _ _ (c .no-query .ensures)
 
 sub-rest : tie.Need-sub-rest Inv-loop μ-loop
 sub-rest c = omega arith
@@ -149,8 +149,8 @@ returns-3 c =
     c .refused3 .ensures
     ∙ ap readingValue (faulty (start f .loop .inv) (ends (of-fault f)) (a .0) (a .1) (f .fault .result) (c .before .if3 .taken) widths t (fault-is f widths t))
 
-mul-t15 : tie.Need-mul-t15 Inv-loop μ-loop
-mul-t15 c = omega (arith, faultless (c .before) .0)
+mul-t16 : tie.Need-mul-t16 Inv-loop μ-loop
+mul-t16 c = omega (arith, faultless (c .before) .0)
 
 element-set-from-q : tie.Need-element-set-from-q Inv-loop μ-loop
 element-set-from-q c = faultless (c .before) .0
@@ -213,7 +213,7 @@ read-lines-spec =
     fault-requires
     refused-requires-3
     returns-3
-    mul-t15
+    mul-t16
     element-set-from-q
     add-q
     add-line

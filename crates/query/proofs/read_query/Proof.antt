@@ -69,17 +69,17 @@ returns-3 c =
 add-from : tie.Need-add-from
 add-from c = omega (arith, ends (c .before .before .before .before), c .before .before .before .before .before .first .ensures)
 
-sub-read-lines : tie.Need-sub-read-lines
-sub-read-lines c = omega (arith, ends (c .before .before .before .before), c .before .before .before .before .before .first .ensures)
+sub-read-from : tie.Need-sub-read-from
+sub-read-from c = omega (arith, ends (c .before .before .before .before), c .before .before .before .before .before .first .ensures)
 
-part-read-lines-start : tie.Need-part-read-lines-start
-part-read-lines-start c = omega (arith, ends (c .before .before .before .before), c .before .before .before .before .before .first .ensures)
+part-read-from-start : tie.Need-part-read-from-start
+part-read-from-start c = omega (arith, ends (c .before .before .before .before), c .before .before .before .before .before .first .ensures)
 
-part-read-lines-end : tie.Need-part-read-lines-end
-part-read-lines-end c = search needs
+part-read-from-end : tie.Need-part-read-from-end
+part-read-from-end c = search needs
 
-read-lines-requires : tie.Need-read-lines-requires
-read-lines-requires c κs = search needs
+read-from-requires : tie.Need-read-from-requires
+read-from-requires c κs = search needs
 
 returns-4 : tie.Need-returns-4
 returns-4 c =
@@ -87,7 +87,7 @@ returns-4 c =
     let d = e .before in
     let n : d .first .result + 1 ≡ suc (before 10 (text d)) = omega (arith, d .first .ensures) in
     λ widths t.
-    c .read-lines .ensures widths t
+    c .read-from .ensures widths t
     ∙ ap (λ (l : List ℕ). readingValue (behind widths [] 2 l)) (to-end (d .first .result + 1) (text d) ∙ ap (λ (k : ℕ). drop k (text d)) n)
     ∙ ap readingValue (well-named widths (text d) (d .before .if1 .left) (ends e) (sym (same-as-names (c .before .before .before)) ∙ not-false _ (c .before .before .if3 .left)))
 
@@ -106,8 +106,8 @@ read-query-spec =
     refused-requires-3
     returns-3
     add-from
-    sub-read-lines
-    part-read-lines-start
-    part-read-lines-end
-    read-lines-requires
+    sub-read-from
+    part-read-from-start
+    part-read-from-end
+    read-from-requires
     returns-4)

@@ -13,10 +13,10 @@ use Rattle.run.proofs.decide_all.Statement.{statement}
 use Rattle.run.proofs.decide_all.Tie as tie
 
 abbrev Inv-loop : tie.InvT-loop
-Inv-loop p masks marks numbers queries out₀ start s₀ query₀ at₀ to₀ out s query at to = Told p queries out₀ start (s₀ .mask) out (s .mask) query at to
+Inv-loop p masks views queries out₀ start s₀ query₀ at₀ to₀ out s query at to = Told p queries out₀ start (s₀ .mask) out (s .mask) query at to
 
 abbrev μ-loop : tie.MeasureT-loop
-μ-loop p masks marks numbers queries out₀ start s₀ query₀ at₀ to₀ out s query at to = length queries - at
+μ-loop p masks views queries out₀ start s₀ query₀ at₀ to₀ out s query at to = length queries - at
 
 -- ---- the query text
 

@@ -59,7 +59,7 @@ low-bits-requires c κs = omega (arith, few-partitions (loaded (c .before .befor
 
 decide-all-requires : tie.Need-decide-all-requires
 decide-all-requires c κs =
-    let v = c .before .before .before .before .before .before in
+    let v = c .before .before .before .before in
     let m = v .before .before .before .before in
     let s = start m in
     let (d, e, l) = loaded m in
@@ -97,7 +97,7 @@ returns-2 : tie.Need-returns-2
 unfolding outputNames allOpen
 returns-2 c =
     let r = c .before .before in
-    let b = r .before .before .before .before .before .before in
+    let b = r .before .before .before .before in
     let m = b .before .before .before .before .before in
     let (d, e, l) = loaded m in
     let all : b .low-bits .result ≡ allOpen d = b .low-bits .ensures ∙ ap (λ (n : ℕ). 2 ^ n - 1) (partition-count l) in

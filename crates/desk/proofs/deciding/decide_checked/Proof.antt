@@ -24,12 +24,12 @@ view-rows-requires c κs = search needs
 
 decide-loaded-requires : tie.Need-decide-loaded-requires
 decide-loaded-requires c κs =
-    let l = passes (c .before .before .before .before .before .before .before .valid .ensures) (c .before .before .before .before .before .before .if1 .left) in
-    ((l .declared, loaded-to l), c .before .before .before .before .before .table-views .ensures, c .before .before .before .before .view-rows .ensures)
+    let l = passes (c .before .before .before .before .before .valid .ensures) (c .before .before .before .before .if1 .left) in
+    ((l .declared, loaded-to l), c .before .before .before .table-views .ensures, c .before .before .view-rows .ensures)
 
 returns-2 : tie.Need-returns-2
 returns-2 c = record {
-  unloaded = λ n. absurd (n (passes (c .before .before .before .before .before .before .before .before .valid .ensures) (c .before .before .before .before .before .before .before .if1 .left)));
+  unloaded = λ n. absurd (n (passes (c .before .before .before .before .before .before .valid .ensures) (c .before .before .before .before .before .if1 .left)));
   loaded = λ l. c .decide-loaded .ensures (l .declared) (loaded-to l);
 }
 

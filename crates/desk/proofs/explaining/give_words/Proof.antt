@@ -1,28 +1,41 @@
--- `desk::explaining::give_words`: 10, or the words copied; then what `settles` says.
-use mathlib.Core.Path.{refl, sym, _∙_}
+-- `desk::explaining::give_words`: 10, or the words copied and what `settles` says.
+use mathlib.Core.Path.{_≡_, refl, sym, _∙_}
+use mathlib.Core.List.{List}
+use Prim.Native.Nat.{ℕ, _≤_}
 use native.Mathlib.Omega.{arith}
 use borrow.Author.Needs.{needs}
+use lib.ListN.{length}
+use Rattle.labels.specs.Posed.{labelsValue}
+use Rattle.explain.specs.Explanation.{explained}
+use Rattle.explain.specs.Value.{wordsValue}
 use Rattle.desk.specs.Explaining.{told}
 use Rattle.desk.proofs.Asked.{labels-held}
 use Rattle.desk.proofs.Explained.{words-count, words-narrow, explains-short, explains-given}
 use Rattle.desk.proofs.explaining.give_words.Statement.{statement}
 use Rattle.desk.proofs.explaining.give_words.Tie as tie
 
+settles-requires : tie.Need-settles-requires
+settles-requires c κs = labels-held (c .before .pre .1)
+
 words-of-requires : tie.Need-words-of-requires
-words-of-requires c κs = labels-held (c .before .pre .1)
+words-of-requires c κs = labels-held (c .before .before .pre .1)
+
+-- the words, whatever labels are held
+words : (c : tie.After-words-of) (ws : List ℕ)
+    → (let l = c .before .before .before .args .l in
+    let granted = c .before .before .before .args .granted in
+    l ≡ labelsValue ws → length ws ≤ 8 → c .words-of .result ≡ wordsValue (explained granted ws))
+words c ws e few = c .words-of .ensures ws e few (c .before .settles .ensures ws e)
 
 returns : tie.Need-returns
 returns c = λ ws h.
-    explains-short (c .before .before .before .args .l) _ _ (c .before .words-of .ensures) ws h (omega arith)
+    explains-short (c .before .before .before .before .args .l) _ _ (words (c .before)) ws h (omega arith)
 
 write-words-requires : tie.Need-write-words-requires
 write-words-requires c κs =
     let w = c .before .before .before in
-    let (ws, h) = w .before .before .pre in
-    (words-count _ _ _ (w .words-of .ensures) ws h, search needs, words-narrow _ _ _ (w .words-of .ensures) ws h)
-
-settles-requires : tie.Need-settles-requires
-settles-requires c κs = labels-held (c .before .before .before .before .before .before .before .before .pre .1)
+    let (ws, h) = w .before .before .before .pre in
+    (words-count _ _ _ (words w) ws h, search needs, words-narrow _ _ _ (words w) ws h)
 
 same-length : tie.Need-same-length
 same-length c = search needs
@@ -30,9 +43,9 @@ same-length c = search needs
 returns-2 : tie.Need-returns-2
 unfolding told
 returns-2 c = λ ws h.
-    let w = c .before .before .before .before .before .before .before .before in
-    explains-given _ _ _ (w .words-of .ensures) ws h _ refl (sym (c .if2 .taken) ∙ c .before .settles .ensures ws (h .is))
-    (omega arith) (c .before .before .before .before .write-words .ensures)
+    let w = c .before .before .before .before .before .before .before in
+    explains-given _ _ _ (words w) ws h _ refl (sym (c .if2 .taken) ∙ w .before .settles .ensures ws (h .is))
+    (omega arith) (c .before .before .before .write-words .ensures)
 
 same-length-2 : tie.Need-same-length-2
 same-length-2 c = search needs
@@ -40,18 +53,18 @@ same-length-2 c = search needs
 returns-3 : tie.Need-returns-3
 unfolding told
 returns-3 c = λ ws h.
-    let w = c .before .before .before .before .before .before .before .before in
-    explains-given _ _ _ (w .words-of .ensures) ws h _ refl (sym (c .if2 .left) ∙ c .before .settles .ensures ws (h .is))
-    (omega arith) (c .before .before .before .before .write-words .ensures)
+    let w = c .before .before .before .before .before .before .before in
+    explains-given _ _ _ (words w) ws h _ refl (sym (c .if2 .left) ∙ w .before .settles .ensures ws (h .is))
+    (omega arith) (c .before .before .before .write-words .ensures)
 
 pub give-words-spec : {M : Type 1} → statement M
 give-words-spec =
     tie.close
     (tie.spec
+    settles-requires
     words-of-requires
     returns
     write-words-requires
-    settles-requires
     same-length
     returns-2
     same-length-2

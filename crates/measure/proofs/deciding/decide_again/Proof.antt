@@ -5,10 +5,10 @@ use Rattle.measure.proofs.deciding.decide_again.Statement.{statement}
 use Rattle.measure.proofs.deciding.decide_again.Tie as tie
 
 abbrev Inv-loop : tie.InvT-loop
-Inv-loop p masks marks numbers text times s sum₀ i₀ sum i = i ≤ times
+Inv-loop p masks views text times s sum₀ i₀ sum i = i ≤ times
 
 abbrev μ-loop : tie.MeasureT-loop
-μ-loop p masks marks numbers text times s sum₀ i₀ sum i = times - i
+μ-loop p masks views text times s sum₀ i₀ sum i = times - i
 
 open-session-requires : tie.Need-open-session-requires Inv-loop μ-loop
 open-session-requires c κs = search needs

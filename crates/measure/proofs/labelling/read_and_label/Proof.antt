@@ -20,10 +20,10 @@ enum-told c = search needs
 
 label-again-requires : tie.Need-label-again-requires
 label-again-requires c κs =
-    let m = c .before .before .before .before .before .before in
+    let m = c .before .before .before .before in
     let made = m .before .before .before in
     let read = m .before .read-query in
-    let (d, l) = c .before .before .before .before .before .before .before .before .before .before .before .before .pre in
+    let (d, l) = c .before .before .before .before .before .before .before .before .before .before .pre in
     let (Q, e, o, q) = read-accepted (read-text (d .widths) _) (read .result) (read .ensures (d .widths) (tables-of l)) (m .match .keys1) in
     (d, Q, ready l (made .before .table-views .ensures) (made .view-rows .ensures), posed d _ Q (l .good) e q)
 

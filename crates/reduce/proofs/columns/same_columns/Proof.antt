@@ -12,28 +12,22 @@ use Rattle.reduce.proofs.columns.same_columns.Statement.{statement}
 use Rattle.reduce.proofs.columns.same_columns.Tie as tie
 
 abbrev Inv-loop : tie.InvT-loop
-Inv-loop marks numbers a b m₀ p₀ m p =
+Inv-loop lines a b m₀ p₀ m p =
     (p ≤ 8)
-    × ((A B : TheLine) → Row marks numbers a (lineValue A) → Row marks numbers b (lineValue B) → length (A .columns) ≤ 8
+    × ((A B : TheLine) → Row lines a (lineValue A) → Row lines b (lineValue B) → length (A .columns) ≤ 8
     → length (B .columns) ≤ 8 → Upto (SameColumn A B) (p * 8) m)
 
 abbrev μ-loop : tie.MeasureT-loop
-μ-loop marks numbers a b m₀ p₀ m p = 8 - p
+μ-loop lines a b m₀ p₀ m p = 8 - p
 
 loop-holds : tie.Need-loop-holds Inv-loop μ-loop
 loop-holds c = (omega arith, λ A B ea eb few few′. upto-none 0 (λ b l h. omega arith))
-
-mul-term-at : tie.Need-mul-term-at Inv-loop μ-loop
-mul-term-at c = omega arith
-
-add-term-at : tie.Need-add-term-at Inv-loop μ-loop
-add-term-at c = omega arith
 
 term-at-requires : tie.Need-term-at-requires Inv-loop μ-loop
 term-at-requires c κs = (omega arith, omega arith)
 
 with-column-requires : tie.Need-with-column-requires Inv-loop μ-loop
-with-column-requires c κs = (omega arith, omega arith, omega arith, omega arith)
+with-column-requires c κs = (omega arith, omega arith, omega arith)
 
 add-p : tie.Need-add-p Inv-loop μ-loop
 add-p c = omega arith
@@ -48,7 +42,7 @@ loop-again c = (
       let loop = c .before .before .before .loop in
       let e : (loop .p + 1) * 8 ≡ loop .p * 8 + 8 = omega arith in
       rw e
-      (c .with-column .ensures A B (c .before .term-at .ensures ∙ ea (loop .p) (c .before .before .loop-test .taken)) eb few few′
+      (c .with-column .ensures A B (c .before .term-at .ensures ∙ ea .term (loop .p) (c .before .before .loop-test .taken)) eb few few′
       (loop .inv .1 A B ea eb few few′)),
 )
 
@@ -64,8 +58,6 @@ same-columns-spec =
     Inv-loop
     μ-loop
     loop-holds
-    mul-term-at
-    add-term-at
     term-at-requires
     with-column-requires
     add-p

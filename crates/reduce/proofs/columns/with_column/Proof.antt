@@ -13,25 +13,19 @@ use Rattle.reduce.proofs.columns.with_column.Statement.{statement}
 use Rattle.reduce.proofs.columns.with_column.Tie as tie
 
 abbrev Inv-loop : tie.InvT-loop
-Inv-loop m p t marks numbers b r₀ q₀ r q =
+Inv-loop m p t lines b r₀ q₀ r q =
     (q ≤ 8)
-    × ((A B : TheLine) → t ≡ termAt (lineValue A) p → Row marks numbers b (lineValue B) → length (A .columns) ≤ 8 → length (B .columns) ≤ 8
+    × ((A B : TheLine) → t ≡ termAt (lineValue A) p → Row lines b (lineValue B) → length (A .columns) ≤ 8 → length (B .columns) ≤ 8
     → Upto (SameColumn A B) (p * 8) m → Upto (SameColumn A B) (p * 8 + q) r)
 
 abbrev μ-loop : tie.MeasureT-loop
-μ-loop m p t marks numbers b r₀ q₀ r q = 8 - q
+μ-loop m p t lines b r₀ q₀ r q = 8 - q
 
 returns : tie.Need-returns Inv-loop μ-loop
 returns c = λ A B et eb few few′ k. column-skip A B few few′ _ _ et (c .if1 .taken) k
 
 loop-holds : tie.Need-loop-holds Inv-loop μ-loop
 loop-holds c = (omega arith, λ A B et eb few few′ k. simp add-zero k)
-
-mul-term-at : tie.Need-mul-term-at Inv-loop μ-loop
-mul-term-at c = omega arith
-
-add-term-at : tie.Need-add-term-at Inv-loop μ-loop
-add-term-at c = omega arith
 
 term-at-requires : tie.Need-term-at-requires Inv-loop μ-loop
 term-at-requires c κs = (omega arith, omega arith)
@@ -60,7 +54,7 @@ loop-again c = (
   λ A B et eb few few′ k.
       let loop = c .before .before .before .before .loop in
       column-more A B few few′ _ _ _ (c .before .before .term-at .result) (c .before .same-term .result) (c .set-bit-if .result) et
-      (c .before .before .term-at .ensures ∙ eb (loop .q) (c .before .before .before .loop-test .taken)) (c .before .before .before .loop-test .taken)
+      (c .before .before .term-at .ensures ∙ eb .term (loop .q) (c .before .before .before .loop-test .taken)) (c .before .before .before .loop-test .taken)
       (c .before .before .before .before .before .if1 .left) (c .before .same-term .ensures) (c .set-bit-if .ensures) (loop .inv .1 A B et eb few few′ k),
 )
 
@@ -77,8 +71,6 @@ with-column-spec =
     μ-loop
     returns
     loop-holds
-    mul-term-at
-    add-term-at
     term-at-requires
     same-term-requires
     mul-set-bit-if

@@ -12,10 +12,10 @@ use Rattle.reduce.proofs.pairs.columns.Statement.{statement}
 use Rattle.reduce.proofs.pairs.columns.Tie as tie
 
 abbrev Inv-loop : tie.InvT-loop
-Inv-loop n marks numbers table₀ p₀ table p = (p ≤ n * 8) × ((Q : Query) → length Q ≡ n → Laid Q marks numbers → Compared Q p table)
+Inv-loop n lines table₀ p₀ table p = (p ≤ n * 8) × ((Q : Query) → length Q ≡ n → Laid Q lines → Compared Q p table)
 
 abbrev μ-loop : tie.MeasureT-loop
-μ-loop n marks numbers table₀ p₀ table p = n * 8 - p
+μ-loop n lines table₀ p₀ table p = n * 8 - p
 
 loop-holds : tie.Need-loop-holds Inv-loop μ-loop
 loop-holds c = (omega arith, λ Q e laid. compared-none _ refl)
@@ -24,7 +24,7 @@ mul-loop : tie.Need-mul-loop Inv-loop μ-loop
 mul-loop c = omega arith
 
 same-columns-requires : tie.Need-same-columns-requires Inv-loop μ-loop
-same-columns-requires c κs = (omega arith, omega arith, omega arith, omega arith)
+same-columns-requires c κs = (omega arith, omega arith, omega arith)
 
 mul-table : tie.Need-mul-table Inv-loop μ-loop
 mul-table c = omega arith

@@ -4,27 +4,27 @@ use native.Mathlib.Omega.{arith}
 use lib.ListN.{length}
 use Rattle.theory.specs.Query.{Query}
 use Rattle.words.proofs.Marks.{Upto, upto-none}
-use Rattle.reduce.specs.Laid.{Laid, LaidTables}
+use Rattle.reduce.specs.Laid.{Laid}
 use Rattle.reduce.specs.Pairs.{Going}
 use Rattle.reduce.proofs.LinePairs.{goings-more, goings-all}
 use Rattle.reduce.proofs.pairs.goings.Statement.{statement}
 use Rattle.reduce.proofs.pairs.goings.Tie as tie
 
 abbrev Inv-loop : tie.InvT-loop
-Inv-loop n tables marks numbers m₀ p₀ m p =
-    (p ≤ n * 8) × ((Q : Query) → length Q ≡ n → LaidTables Q tables → Laid Q marks numbers → Upto (Going Q) p m)
+Inv-loop n lines m₀ p₀ m p =
+    (p ≤ n * 8) × ((Q : Query) → length Q ≡ n → Laid Q lines → Upto (Going Q) p m)
 
 abbrev μ-loop : tie.MeasureT-loop
-μ-loop n tables marks numbers m₀ p₀ m p = n * 8 - p
+μ-loop n lines m₀ p₀ m p = n * 8 - p
 
 loop-holds : tie.Need-loop-holds Inv-loop μ-loop
-loop-holds c = (omega arith, λ Q e t laid. upto-none 0 (λ b l h. omega arith))
+loop-holds c = (omega arith, λ Q e laid. upto-none 0 (λ b l h. omega arith))
 
 mul-loop : tie.Need-mul-loop Inv-loop μ-loop
 mul-loop c = omega arith
 
 can-go-requires : tie.Need-can-go-requires Inv-loop μ-loop
-can-go-requires c κs = (omega arith, omega arith, omega arith, omega arith, omega arith)
+can-go-requires c κs = (omega arith, omega arith, omega arith)
 
 set-bit-if-requires : tie.Need-set-bit-if-requires Inv-loop μ-loop
 set-bit-if-requires c κs = omega arith
@@ -38,13 +38,13 @@ loop-less c = omega arith
 loop-again : tie.Need-loop-again Inv-loop μ-loop
 loop-again c = (
   omega arith,
-  λ Q e t laid.
-      goings-more _ _ e t laid _ (c .before .can-go .result) (c .set-bit-if .result) (c .before .before .loop-test .taken) (c .before .can-go .ensures)
-      (c .set-bit-if .ensures) (c .before .before .before .loop .inv .1 Q e t laid),
+  λ Q e laid.
+      goings-more _ e laid _ (c .before .can-go .result) (c .set-bit-if .result) (c .before .before .loop-test .taken) (c .before .can-go .ensures)
+      (c .set-bit-if .ensures) (c .before .before .before .loop .inv .1 Q e laid),
 )
 
 returns : tie.Need-returns Inv-loop μ-loop
-returns c = λ Q e t laid. goings-all (c .before .before .before .before .args .tables .now) _ e t laid _ (c .loop-test .left) (c .before .loop .inv .1 Q e t laid)
+returns c = λ Q e laid. goings-all _ e laid _ (c .loop-test .left) (c .before .loop .inv .1 Q e laid)
 
 pub goings-spec : {M : Type 1} → statement M
 goings-spec =

@@ -9,19 +9,13 @@ use Rattle.reduce.proofs.showing.hidden_word.Statement.{statement}
 use Rattle.reduce.proofs.showing.hidden_word.Tie as tie
 
 abbrev Inv-loop : tie.InvT-loop
-Inv-loop marks numbers i m₀ k₀ m k = (k ≤ 8) × ((l : Line) → Row marks numbers i l → HiddenWord l k m)
+Inv-loop lines i m₀ k₀ m k = (k ≤ 8) × ((l : Line) → Row lines i l → HiddenWord l k m)
 
 abbrev μ-loop : tie.MeasureT-loop
-μ-loop marks numbers i m₀ k₀ m k = 8 - k
+μ-loop lines i m₀ k₀ m k = 8 - k
 
 loop-holds : tie.Need-loop-holds Inv-loop μ-loop
 loop-holds c = (omega arith, λ l row. hidden-none l)
-
-mul-term-at : tie.Need-mul-term-at Inv-loop μ-loop
-mul-term-at c = omega arith
-
-add-term-at : tie.Need-add-term-at Inv-loop μ-loop
-add-term-at c = omega arith
 
 term-at-requires : tie.Need-term-at-requires Inv-loop μ-loop
 term-at-requires c κs = (omega arith, omega arith)
@@ -41,7 +35,7 @@ loop-again c =
       omega arith,
       λ l row.
           hidden-more l (at .k) (at .m) _ (at .inv .1 l row)
-          (c .with-hidden .ensures ∙ ap (withHidden (at .m)) (c .before .term-at .ensures ∙ row (at .k) (c .before .before .loop-test .taken))),
+          (c .with-hidden .ensures ∙ ap (withHidden (at .m)) (c .before .term-at .ensures ∙ row .term (at .k) (c .before .before .loop-test .taken))),
     )
 
 returns : tie.Need-returns Inv-loop μ-loop
@@ -56,8 +50,6 @@ hidden-word-spec =
     Inv-loop
     μ-loop
     loop-holds
-    mul-term-at
-    add-term-at
     term-at-requires
     with-hidden-requires
     add-k

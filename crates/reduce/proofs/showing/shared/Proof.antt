@@ -16,11 +16,11 @@ use Rattle.reduce.proofs.showing.shared.Statement.{statement}
 use Rattle.reduce.proofs.showing.shared.Tie as tie
 
 abbrev Inv-loop : tie.InvT-loop
-Inv-loop n marks numbers left once₀ twice₀ i₀ once twice i =
-    (i ≤ n) × ((Q : Query) → length Q ≡ n → Laid Q marks numbers → Seen (pick (isSet left) (take i Q)) once twice)
+Inv-loop n lines left once₀ twice₀ i₀ once twice i =
+    (i ≤ n) × ((Q : Query) → length Q ≡ n → Laid Q lines → Seen (pick (isSet left) (take i Q)) once twice)
 
 abbrev μ-loop : tie.MeasureT-loop
-μ-loop n marks numbers left once₀ twice₀ i₀ once twice i = n - i
+μ-loop n lines left once₀ twice₀ i₀ once twice i = n - i
 
 loop-holds : tie.Need-loop-holds Inv-loop μ-loop
 unfolding pick
@@ -30,7 +30,7 @@ has-bit-requires : tie.Need-has-bit-requires Inv-loop μ-loop
 has-bit-requires c κs = omega arith
 
 hidden-if-requires : tie.Need-hidden-if-requires Inv-loop μ-loop
-hidden-if-requires c κs = (omega arith, omega arith, omega arith)
+hidden-if-requires c κs = (omega arith, omega arith)
 
 add-i : tie.Need-add-i Inv-loop μ-loop
 add-i c = omega arith
@@ -43,7 +43,7 @@ loop-again c = (
   omega arith,
   λ Q e laid.
       let at = c .before .before .before .loop in
-      let left = c .before .before .before .before .before .before .args .left in
+      let left = c .before .before .before .before .before .args .left in
       let l : at .i < length Q = omega (arith, e, c .before .before .loop-test .taken) in
       rw (left-more left Q (at .i) l)
       (seen-more (at .inv .1 Q e laid) (isSet left (at .i)) (lineAt Q (at .i)) (laid-few laid (at .i) l) (c .hidden-if .result)

@@ -16,16 +16,16 @@ low-bits-requires : tie.Need-low-bits-requires
 low-bits-requires c κs = search needs
 
 returns : tie.Need-returns
-returns c = λ Q e t laid.
+returns c = λ Q e laid.
     rw (c .low-bits .ensures)
-    (nothing-goes Q _ (c .before .before .before .goings .ensures Q e t laid) (omega (arith, laid .lines))
+    (nothing-goes Q _ (c .before .before .before .goings .ensures Q e laid) (omega (arith, laid .lines))
     (sym (c .before .before .meets .ensures) ∙ not-true _ (c .before .if1 .taken)) _ (sym e))
 
 searched-requires : tie.Need-searched-requires
 searched-requires c κs = search needs
 
 returns-2 : tie.Need-returns-2
-returns-2 c = λ Q e t laid. c .searched .ensures Q e laid (c .before .before .before .goings .ensures Q e t laid)
+returns-2 c = λ Q e laid. c .searched .ensures Q e laid (c .before .before .before .goings .ensures Q e laid)
 
 pub lines-left-spec : {M : Type 1} → statement M
 lines-left-spec =

@@ -1,0 +1,118 @@
+-- The terms of a query's rows shown, pair of row and column by pair: showing keeps a term's number.
+use mathlib.Core.Path.{_≡_, refl, sym, ap, _∙_}
+use mathlib.Core.Bool.{Bool, true, false, cond, _&&_}
+use mathlib.Core.List.{List, map}
+use Prim.Native.Nat.{ℕ, _+_, _*_, _/_, _%_, _≤_, _<_}
+use native.Mathlib.Decide.{ℕ-discrete, decLt}
+use native.Mathlib.Omega.{arith}
+use lib.ListN.{length, getD, set, length-set, length-map}
+use lib.Seq.{getD-set-same, getD-set-other}
+use Rattle.words.specs.Bits.{isSet}
+use Rattle.theory.specs.Query.{Line as TheLine}
+use Rattle.theory.proofs.Tuples.{getD-map}
+use Rattle.model.specs.Rows.{termAt, laidTerm}
+use Rattle.model.specs.Value.{unusedTerm, termValue, termsValue, lineValue}
+use Rattle.model.proofs.LaidTerms.{same-term}
+use Rattle.model.proofs.Pad.{pad-length}
+use Rattle.model.proofs.Terms.{terms-few}
+use Rattle.model.specs.declared.Term.{Term}
+use Rattle.reduce.specs.Showing.{hiddenTerm, showValue, showLine, ShownRows}
+use Rattle.reduce.proofs.Shown.{none-shown}
+
+same-number : (w : ℕ) (t : Term) → showValue w t .number ≡ t .number
+unfolding showValue
+same-number w t = go (hiddenTerm t && isSet w (t .number))
+  where
+    go : (b : Bool) → cond b (record { mark = 2; number = t .number }) t .number ≡ t .number
+    go true = refl
+    go false = refl
+
+-- no mark stands where a table does
+no-table : (a b r : ℕ) → r < 8 → a * 17 ≡ b * 17 + 1 + r * 2 → ⊥
+no-table a b r h e = go (decLt b a)
+  where
+    go : Dec (b < a) → ⊥
+    go (yes l) = omega arith
+    go (no n) = omega arith
+
+-- the term of pair k: row k / 8, column k % 8
+abbrev pub pairTerm : List ℕ → ℕ → Term
+pairTerm rows k = laidTerm rows (k / 8) (k % 8)
+
+-- the terms of the pairs before k are shown
+pub record ShownTo (k : ℕ) (rows : List ℕ) (w : ℕ) (rows′ : List ℕ) : Type 0 where
+  pub long : length rows′ ≡ length rows
+  pub table : (i : ℕ) → getD rows′ (i * 17) 0 ≡ getD rows (i * 17) 0
+  pub done : (j : ℕ) → j < k → pairTerm rows′ j ≡ showValue w (pairTerm rows j)
+  pub rest : (j : ℕ) → k ≤ j → pairTerm rows′ j ≡ pairTerm rows j
+
+pub none-done : (rows : List ℕ) (w : ℕ) → ShownTo 0 rows w rows
+none-done rows w = record { long = refl; table = λ i. refl; done = λ j h. absurd (omega arith); rest = λ j h. refl }
+
+module _ (rows : List ℕ) (k m : ℕ) where
+  -- a mark set leaves the terms of the other pairs
+  other-pair : (j : ℕ) → (j ≡ k → ⊥) → pairTerm (set rows (k / 8 * 17 + 1 + k % 8 * 2) m) j ≡ pairTerm rows j
+  other-pair j f =
+      let at = k / 8 * 17 + 1 + k % 8 * 2 in
+      same-term rows (set rows at m) (j / 8) (j % 8)
+      (getD-set-other rows at (j / 8 * 17 + 1 + j % 8 * 2) m 0 (λ x. f (omega arith)))
+      (getD-set-other rows at (j / 8 * 17 + 1 + j % 8 * 2 + 1) m 0 (λ x. omega arith))
+
+  this-pair : k / 8 * 17 + 1 + k % 8 * 2 < length rows
+      → pairTerm (set rows (k / 8 * 17 + 1 + k % 8 * 2) m) k ≡ record { mark = m; number = pairTerm rows k .number }
+  unfolding laidTerm
+  this-pair h =
+      let at = k / 8 * 17 + 1 + k % 8 * 2 in
+      λ i. record { mark = getD-set-same rows at m 0 h i; number = getD-set-other rows at (at + 1) m 0 (λ x. omega arith) i }
+
+pub one-done : {k : ℕ} {rows : List ℕ} {w : ℕ} {rows′ : List ℕ} (u : Term) → ShownTo k rows w rows′
+    → k / 8 * 17 + 1 + k % 8 * 2 < length rows → u ≡ showValue w (pairTerm rows′ k)
+    → ShownTo (k + 1) rows w (set rows′ (k / 8 * 17 + 1 + k % 8 * 2) (u .mark))
+one-done {k} {rows} {w} {rows′} u s h e = record {
+  long = length-set rows′ at (u .mark) ∙ s .long;
+  table = λ i. getD-set-other rows′ at (i * 17) (u .mark) 0 (no-table i (k / 8) (k % 8) (omega arith)) ∙ s .table i;
+  done = λ j b. go j b (ℕ-discrete j k);
+  rest = λ j b. other-pair rows′ k (u .mark) j (λ x. omega arith) ∙ s .rest j (omega arith);
+}
+  where
+    at : ℕ
+    at = k / 8 * 17 + 1 + k % 8 * 2
+
+    shown : u ≡ showValue w (pairTerm rows k)
+    shown = e ∙ ap (showValue w) (s .rest k (omega arith))
+
+    here : pairTerm (set rows′ at (u .mark)) k ≡ showValue w (pairTerm rows k)
+    here =
+        this-pair rows′ k (u .mark) (omega (arith, h, s .long))
+        ∙ (λ i. record {
+          mark = shown i .mark;
+          number = (ap (λ (t : Term). t .number) (s .rest k (omega arith)) ∙ sym (same-number w (pairTerm rows k))) i;
+        })
+
+    go : (j : ℕ) → j < k + 1 → Dec (j ≡ k) → pairTerm (set rows′ at (u .mark)) j ≡ showValue w (pairTerm rows j)
+    go j b (yes x) = rw x here
+    go j b (no f) = other-pair rows′ k (u .mark) j f ∙ s .done j (omega arith)
+
+pub none-shared : (n : ℕ) (rows : List ℕ) → ShownRows n rows 0 rows
+none-shared n rows =
+    record { long = refl; table = λ i h. refl; term = λ i p h b. sym (none-shown (laidTerm rows i p)) }
+
+pub all-done : {k n : ℕ} {rows : List ℕ} {w : ℕ} {rows′ : List ℕ} → ShownTo k rows w rows′ → n * 8 ≤ k → ShownRows n rows w rows′
+all-done s h = record {
+  long = s .long;
+  table = λ i b. s .table i;
+  term = λ i p b c.
+      let d : (i * 8 + p) / 8 ≡ i = omega arith in
+      let m : (i * 8 + p) % 8 ≡ p = omega arith in
+      rw (d, m) at (s .done (i * 8 + p) (omega arith));
+}
+
+-- ---- a line shown
+
+-- showing a line shows each of its terms
+pub shown-term : (w : ℕ) (A : TheLine) → length (A .columns) ≤ 8 → (p : ℕ) → p < 8
+    → termAt (showLine w (lineValue A)) p ≡ showValue w (termAt (lineValue A) p)
+unfolding termAt showLine lineValue
+shown-term w A few p h =
+    getD-map (showValue w) (termsValue (A .columns)) p unusedTerm unusedTerm
+    (rw (terms-few (A .columns) few, pad-length 8 unusedTerm (map termValue (A .columns)) (rw (length-map (A .columns) termValue) few)) h)
