@@ -18,7 +18,7 @@ use Rattle.theory.proofs.Lists.{none≢some, at-place, place-below}
 use Rattle.theory.proofs.Executable.Cover.{covers-iff}
 use Rattle.theory.proofs.Executable.Label.{viewBits-bit, viewBits-below}
 use Rattle.model.specs.Value.{pad, unusedLine, lineValue}
-use Rattle.model.specs.Rows.{Row}
+use Rattle.model.specs.Rows.{laidTable, Row}
 use Rattle.model.specs.declared.Line.{Line}
 use Rattle.model.specs.declared.Policy.{Policy}
 use Rattle.label.specs.Labelled.{Holds, OfTable, Labelled}
@@ -108,7 +108,8 @@ module _ {rows : List ℕ} {mask width : ℕ} {lines : List ℕ} {a : ℕ} {view
       (λ k.
       let v = viewBits-bit views A k in (λ e. v .1 (covered k .0 e), λ e. covered k .1 (v .0 e)))
 
-  pub labelled : (left word : ℕ) → left ≡ 0 → word < 2 ^ 32 → Picked (Covering views A) mask left word
-      → getD lines (a * 17) 0 + 2 ^ 32 * word ≡ label views A
+  pub labelled : (table left word : ℕ) → table ≡ laidTable lines a → left ≡ 0 → word < 2 ^ 32
+      → Picked (Covering views A) mask left word → table + 2 ^ 32 * word ≡ label views A
   unfolding label lineValue
-  labelled left word none small w = ap₂ (λ t x. t + 2 ^ 32 * x) (l .line .table) (views-word left word none small w)
+  labelled table left word e none small w =
+      ap₂ (λ t x. t + 2 ^ 32 * x) (e ∙ l .line .table) (views-word left word none small w)

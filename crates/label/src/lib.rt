@@ -3,13 +3,13 @@
 ghost use mathlib.Core.Path.{_≡_};
 ghost use mathlib.Core.Bool.{not, _||_};
 ghost use mathlib.Core.List.{List};
-ghost use Prim.Native.Nat.{_+_, _*_, _^_, _≤_, _<_};
-ghost use lib.ListN.{length, getD};
+ghost use Prim.Native.Nat.{_+_, _^_, _≤_, _<_};
+ghost use lib.ListN.{length};
 ghost use Rattle.theory.specs.Query.{Term as TheTerm, Line as TheLine};
 ghost use Rattle.theory.specs.Executable.Cover.{obeys as obeysRules, covers as coversLine};
 ghost use Rattle.theory.specs.Executable.Label.{label};
 ghost use Rattle.model.specs.Value.{termValue, lineValue};
-ghost use Rattle.model.specs.Rows.{Row};
+ghost use Rattle.model.specs.Rows.{HasRow, laidTable, Row};
 ghost use Rattle.label.specs.Labelled.{TableMasks, ViewsLaid, Labelled};
 ghost use Rattle.label.specs.Order.{atOrBelow};
 use model::CONSTANT;
@@ -48,7 +48,7 @@ fn obeys(v: Term, w: Term, a: Term, b: Term) -> bool
 // Whether a view covers a line of its table, which has `width` columns: the view in row `v`, the line in row `a` of other rows.
 // The first broken rule ends the comparison.
 pub fn covers(width: usize, views: &[u64], v: usize, lines: &[u64], a: usize) -> bool
-    requires { ⌜ (width ≤ 8) × (v * 17 + 17 ≤ length (now views)) × (a * 17 + 17 ≤ length (now lines)) ⌝ }
+    requires { ⌜ (width ≤ 8) × HasRow (now views) v × HasRow (now lines) a ⌝ }
     ensures { λ r. ⌜ ((view line : TheLine) → Row (now (views .entry)) v (lineValue view) → Row (now (lines .entry)) a (lineValue line) → view .table ≡ line .table → length (view .columns) ≡ width → length (line .columns) ≡ width → r ≡ coversLine view line) ⌝ }
 {
     let mut ok = true;
@@ -108,7 +108,7 @@ pub fn view_rows(p: Policy) -> [u64; 544]
 
 // The label of the line in row `a`, of a table of `width` columns; `mask` has the views of its table.
 pub fn label_line(views: &[u64; 544], mask: u64, width: usize, lines: &[u64; 136], a: usize) -> u64
-    requires { ⌜ (length (now views) ≡ 544) × (length (now lines) ≡ 136) × (mask < 2 ^ 32) × (width ≤ 8) × (a < 8) × (getD (now lines) (a * 17) 0 < 2 ^ 32) ⌝ }
+    requires { ⌜ (length (now views) ≡ 544) × (length (now lines) ≡ 136) × (mask < 2 ^ 32) × (width ≤ 8) × (a < 8) × (laidTable (now lines) a < 2 ^ 32) ⌝ }
     ensures { λ r. ⌜ ((vs : List TheLine) (line : TheLine) → Labelled (now (views .entry)) mask width (now (lines .entry)) a vs line → r ≡ label vs line) ⌝ }
 {
     let mut word = 0;
@@ -119,7 +119,8 @@ pub fn label_line(views: &[u64; 544], mask: u64, width: usize, lines: &[u64; 136
         word = words::set_bit_if(word, k, on);
         left = words::drop_least(left);
     }
-    words::join(lines[a * 17], word)
+    let table = model::table_at(lines, a);
+    words::join(table, word)
 }
 
 // ---- the order of labels

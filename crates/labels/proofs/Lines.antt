@@ -2,7 +2,7 @@
 use mathlib.Core.Path.{_≡_, refl, sym, ap, _∙_, subst}
 use mathlib.Core.Bool.{true, false}
 use mathlib.Core.List.{List, [], map, map-map, map-append, append-nil, Memᴰ·of-map}
-use Prim.Native.Nat.{ℕ, _+_, _*_, _-_, _≤_, _<_}
+use Prim.Native.Nat.{ℕ, _+_, _-_, _≤_, _<_}
 use native.Mathlib.Omega.{arith}
 use lib.Dec.{eqb→eq}
 use lib.ListN.{length, take, getD, set, length-map, length-append}
@@ -18,7 +18,7 @@ use Rattle.theory.proofs.Executable.Reduce.{reduce-reduces}
 use Rattle.theory.proofs.Tuples.{getD-mem, fits-over}
 use Rattle.words.specs.Bits.{isSet}
 use Rattle.model.specs.Limits.{mostColumns, mostTables, mostViews, wide}
-use Rattle.model.specs.Rows.{Row}
+use Rattle.model.specs.Rows.{laidTable, Row}
 use Rattle.model.specs.Value.{pad, lineValue}
 use Rattle.model.specs.declared.Tables.{Tables}
 use Rattle.model.specs.declared.Query.{Query as QueryValue}
@@ -39,14 +39,12 @@ use Rattle.labels.specs.declared.Labels.{Labels}
 
 -- ---- a line
 
+-- its table, as it was read from its row
 module _ {d : Declared} {tables : Tables} {masks views : List ℕ} (ready : Ready d tables masks views) {lines : List ℕ} {i : ℕ} {A : Line}
-    (l : LineOf d lines i A) where
-  abbrev table : ℕ
-  table = getD lines (i * 17) 0
-
+    (l : LineOf d lines i A) {table : ℕ} (read : table ≡ laidTable lines i) where
   table-is : table ≡ A .table
   unfolding lineValue
-  table-is = l .line .table
+  table-is = read ∙ l .line .table
 
   pub first-table : 1 ≤ table
   first-table = rw table-is (l .fits .first)

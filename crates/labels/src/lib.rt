@@ -51,7 +51,7 @@ fn label_of(
     requires { ⌜ ((d : Declared) × (A : TheLine) × Ready d tables (now masks) (now views) × LineOf d (now lines) i A) × (length (now lines) ≡ 136) × (i < 8) ⌝ }
     ensures { λ r. ⌜ ((d : Declared) (A : TheLine) → Ready d tables (now (masks .entry)) (now (views .entry)) → LineOf d (now (lines .entry)) i A → r ≡ label (d .views) A) ⌝ }
 {
-    let table = lines[i * 17];
+    let table = model::table_at(lines, i);
     let width = width_of(tables, table);
     let mask = masks[table as usize];
     label::label_line(views, mask, width, lines, i)

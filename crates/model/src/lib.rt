@@ -13,6 +13,8 @@ pub use read::read_term;
 pub use read::read_terms;
 pub use read::up_to;
 pub use rows::lay_line;
+pub use rows::set_mark;
+pub use rows::table_at;
 pub use rows::term_at;
 
 // The marks of a term.

@@ -2,36 +2,54 @@
 // and then the mark and the number of each of eight terms.
 
 ghost use mathlib.Core.Path.{_≡_};
-ghost use Prim.Native.Nat.{_+_, _*_, _≤_, _<_};
-ghost use lib.ListN.{length};
-ghost use Rattle.model.specs.Rows.{laidTerm, LaidInto};
+ghost use Prim.Native.Nat.{_<_};
+ghost use Rattle.model.specs.Rows.{HasRow, laidTable, laidTerm, withMark, LaidInto};
 use crate::Line;
 use crate::Term;
 
+// How many numbers a row has.
+const ROW: usize = 17;
+
+// The table of row k.
+pub fn table_at(rows: &[u64], k: usize) -> u64
+    requires { ⌜ HasRow (now rows) k ⌝ }
+    ensures { λ r. ⌜ r ≡ laidTable (now (rows .entry)) k ⌝ }
+{
+    rows[k * ROW]
+}
+
 // The term in column p of row k.
 pub fn term_at(rows: &[u64], k: usize, p: usize) -> Term
-    requires { ⌜ (k * 17 + 17 ≤ length (now rows)) × (p < 8) ⌝ }
+    requires { ⌜ HasRow (now rows) k × (p < 8) ⌝ }
     ensures { λ r. ⌜ r ≡ laidTerm (now (rows .entry)) k p ⌝ }
 {
-    let at = k * 17 + 1 + p * 2;
+    let at = k * ROW + 1 + p * 2;
     Term {
         mark: rows[at],
         number: rows[at + 1],
     }
 }
 
+// Another mark for the term in column p of row k.
+pub fn set_mark(rows: &mut [u64], k: usize, p: usize, mark: u64)
+    requires { ⌜ HasRow (now rows) k × (p < 8) ⌝ }
+    ensures { λ _. ⌜ now (rows .exit) ≡ withMark (now (rows .entry)) k p mark ⌝ }
+{
+    rows[k * ROW + 1 + p * 2] = mark;
+}
+
 // The line in row k; the rows before it stay.
 pub fn lay_line(l: Line, k: usize, rows: &mut [u64])
-    requires { ⌜ k * 17 + 17 ≤ length (now rows) ⌝ }
+    requires { ⌜ HasRow (now rows) k ⌝ }
     ensures { λ _. ⌜ LaidInto l k (now (rows .entry)) (now (rows .exit)) ⌝ }
 {
     let mut p = 0;
     while p < 8 {
         let t = l.terms[p];
-        let at = k * 17 + 1 + p * 2;
+        let at = k * ROW + 1 + p * 2;
         rows[at] = t.mark;
         rows[at + 1] = t.number;
         p += 1;
     }
-    rows[k * 17] = l.table;
+    rows[k * ROW] = l.table;
 }

@@ -3,15 +3,15 @@ use mathlib.Core.Path.{_≡_}
 use mathlib.Core.Logic.{_↔_}
 use mathlib.Core.Bool.{Bool, cond, not, _&&_}
 use mathlib.Core.List.{List}
-use Prim.Native.Nat.{ℕ, _*_, _/_, _%_, _<_}
+use Prim.Native.Nat.{ℕ, _/_, _%_, _<_}
 use lib.Dec.{eqb}
-use lib.ListN.{length, getD}
+use lib.ListN.{length}
 use Rattle.theory.specs.Query.{Line as TheLine}
 use Rattle.theory.specs.Cover.{at}
 use Rattle.theory.specs.Executable.Test.{allBelow}
 use Rattle.words.specs.Bits.{bit}
 use Rattle.model.specs.Value.{sameTerm}
-use Rattle.model.specs.Rows.{laidTerm}
+use Rattle.model.specs.Rows.{laidTable, laidTerm}
 use Rattle.model.specs.declared.Term.{Term}
 
 unfoldable pub keepsTerm : Term → Term → Bool
@@ -22,7 +22,7 @@ keepsTerm t u = cond (eqb (t .mark) 3) (not (eqb (u .mark) 0)) (sameTerm t u)
 unfoldable pub goesRow : List ℕ → ℕ → ℕ → Bool
 unfolding keepsTerm laidTerm allBelow
 goesRow rows a s =
-    eqb (getD rows (a * 17) 0) (getD rows (s * 17) 0) && allBelow 8 (λ p. keepsTerm (laidTerm rows a p) (laidTerm rows s p))
+    eqb (laidTable rows a) (laidTable rows s) && allBelow 8 (λ p. keepsTerm (laidTerm rows a p) (laidTerm rows s p))
 
 -- column b / 8 of line A has the term of column b % 8 of line B
 pub record SameColumn (A B : TheLine) (b : ℕ) : Type 0 where

@@ -3,14 +3,14 @@ use mathlib.Core.Path.{_≡_}
 use mathlib.Core.Logic.{_↔_}
 use mathlib.Core.Bool.{Bool, cond, _&&_}
 use mathlib.Core.List.{List, map}
-use Prim.Native.Nat.{ℕ, _*_, _<_}
-use lib.ListN.{length, getD}
+use Prim.Native.Nat.{ℕ, _<_}
+use lib.ListN.{length}
 use lib.Dec.{T, eqb, leb}
 use Rattle.theory.specs.Query.{hidden, Query, _∈_}
 use Rattle.theory.specs.Query.{Line as TheLine}
 use Rattle.theory.specs.Executable.Show.{shared}
 use Rattle.words.specs.Bits.{bit, isSet, setBit}
-use Rattle.model.specs.Rows.{termAt, laidTerm}
+use Rattle.model.specs.Rows.{termAt, laidTable, laidTerm}
 use Rattle.model.specs.declared.Term.{Term}
 use Rattle.model.specs.declared.Line.{Line}
 
@@ -51,5 +51,5 @@ showLine w l = record { table = l .table; terms = map (showValue w) (l .terms) }
 -- showing alters the marks of the shared variables in the first n rows alone
 pub record ShownRows (n : ℕ) (rows : List ℕ) (w : ℕ) (rows′ : List ℕ) : Type 0 where
   pub long : length rows′ ≡ length rows
-  pub table : (i : ℕ) → i < n → getD rows′ (i * 17) 0 ≡ getD rows (i * 17) 0
+  pub table : (i : ℕ) → i < n → laidTable rows′ i ≡ laidTable rows i
   pub term : (i p : ℕ) → i < n → p < 8 → laidTerm rows′ i p ≡ showValue w (laidTerm rows i p)

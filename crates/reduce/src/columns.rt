@@ -27,7 +27,7 @@ pub fn goes_line(lines: &[u64], a: usize, s: usize) -> bool
     requires { ⌜ (length (now lines) ≡ 136) × (a < 8) × (s < 8) ⌝ }
     ensures { λ r. ⌜ r ≡ goesRow (now (lines .entry)) a s ⌝ }
 {
-    if lines[a * 17] != lines[s * 17] {
+    if model::table_at(lines, a) != model::table_at(lines, s) {
         return false;
     }
     let mut p = 0;

@@ -112,13 +112,9 @@ pub fn show(n: usize, lines: &mut [u64], shared: u64)
     }
     let mut k = 0;
     while k < n * 8 {
-        let at = k / 8 * 17 + 1 + k % 8 * 2;
-        let t = Term {
-            mark: lines[at],
-            number: lines[at + 1],
-        };
+        let t = model::term_at(lines, k / 8, k % 8);
         let u = show_term(shared, t);
-        lines[at] = u.mark;
+        model::set_mark(lines, k / 8, k % 8, u.mark);
         k += 1;
     }
 }

@@ -60,22 +60,16 @@ loop-again c =
           (c .before .set-bit-if .ensures),
     )
 
-mul-join : tie.Need-mul-join Inv-loop μ-loop
-mul-join c = omega arith
-
-mul-join-2 : tie.Need-mul-join-2 Inv-loop μ-loop
-mul-join-2 c = omega arith
-
-element-copy-out-join : tie.Need-element-copy-out-join Inv-loop μ-loop
-element-copy-out-join c = omega arith
+table-at-requires : tie.Need-table-at-requires Inv-loop μ-loop
+table-at-requires c κs = omega arith
 
 join-requires : tie.Need-join-requires Inv-loop μ-loop
-join-requires c κs = (c .before .before .before .pre .5, omega (arith, c .before .before .loop .inv .1))
+join-requires c κs = (rw (c .table-at .ensures) (c .before .before .before .before .pre .5), omega (arith, c .before .before .before .loop .inv .1))
 
 returns : tie.Need-returns Inv-loop μ-loop
 returns c views A l =
-    let inv = c .before .before .before .loop .inv in
-    c .join .ensures ∙ labelled l _ _ (c .before .before .loop-test .left) (inv .1) (inv .2 views A l)
+    let inv = c .before .before .before .before .loop .inv in
+    c .join .ensures ∙ labelled l _ _ _ (c .before .table-at .ensures) (c .before .before .before .loop-test .left) (inv .1) (inv .2 views A l)
 
 pub label-line-spec : {M : Type 1} → statement M
 label-line-spec =
@@ -90,8 +84,6 @@ label-line-spec =
     drop-least-requires
     loop-less
     loop-again
-    mul-join
-    mul-join-2
-    element-copy-out-join
+    table-at-requires
     join-requires
     returns)

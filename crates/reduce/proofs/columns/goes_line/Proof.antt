@@ -1,13 +1,12 @@
 use mathlib.Core.Path.{_≡_, sym, ap₂, _∙_}
 use mathlib.Core.Bool.{true}
-use Prim.Native.Nat.{ℕ, _*_, _-_, _≤_, _<_}
+use Prim.Native.Nat.{ℕ, _-_, _≤_, _<_}
 use native.Mathlib.Omega.{arith}
 use borrow.Author.Count.{below-none, below-more}
 use borrow.Author.Tests.{eq-eqb, ne-eqb}
 use lib.Dec.{eqb}
-use lib.ListN.{getD}
 use Rattle.words.proofs.Answers.{failing, passing}
-use Rattle.model.specs.Rows.{laidTerm}
+use Rattle.model.specs.Rows.{laidTable, laidTerm}
 use Rattle.reduce.specs.Columns.{keepsTerm, goesRow}
 use Rattle.reduce.proofs.Below.{and-no, below-broken, below-done}
 use Rattle.reduce.proofs.columns.goes_line.Statement.{statement}
@@ -20,27 +19,16 @@ Inv-loop lines a s p₀ p =
 abbrev μ-loop : tie.MeasureT-loop
 μ-loop lines a s p₀ p = 8 - p
 
-mul-if1 : tie.Need-mul-if1 Inv-loop μ-loop
-mul-if1 c = omega arith
+table-at-requires : tie.Need-table-at-requires Inv-loop μ-loop
+table-at-requires c κs = omega arith
 
-mul-if1-2 : tie.Need-mul-if1-2 Inv-loop μ-loop
-mul-if1-2 c = omega arith
-
-shared-slice-read-if1 : tie.Need-shared-slice-read-if1 Inv-loop μ-loop
-shared-slice-read-if1 c = omega arith
-
-mul-if1-3 : tie.Need-mul-if1-3 Inv-loop μ-loop
-mul-if1-3 c = omega arith
-
-mul-if1-4 : tie.Need-mul-if1-4 Inv-loop μ-loop
-mul-if1-4 c = omega arith
-
-shared-slice-read-if1-2 : tie.Need-shared-slice-read-if1-2 Inv-loop μ-loop
-shared-slice-read-if1-2 c = omega arith
+table-at-requires-2 : tie.Need-table-at-requires-2 Inv-loop μ-loop
+table-at-requires-2 c κs = omega arith
 
 returns : tie.Need-returns Inv-loop μ-loop
 unfolding goesRow
-returns c = simp (ne-eqb _ _ (c .if1 .taken))
+returns c =
+    simp (ne-eqb _ _ (λ e. c .if1 .taken (c .before .before .table-at .ensures ∙ e ∙ sym (c .before .table-at2 .ensures))))
 
 loop-holds : tie.Need-loop-holds Inv-loop μ-loop
 loop-holds c = (omega arith, below-none _)
@@ -73,7 +61,7 @@ returns-2 c =
     (λ k.
     keepsTerm (laidTerm (a .lines .now) (a .a) k) (laidTerm (a .lines .now) (a .s) k))
     8 (c .before .before .before .before .before .loop .p) (c .before .before .before .before .loop-test .taken)
-    (failing (answer (c .before)) (c .if2 .taken)))) (and-no (eqb (getD (a .lines .now) (a .a * 17) 0) (getD (a .lines .now) (a .s * 17) 0))))
+    (failing (answer (c .before)) (c .if2 .taken)))) (and-no (eqb (laidTable (a .lines .now) (a .a)) (laidTable (a .lines .now) (a .s)))))
 
 add-p : tie.Need-add-p Inv-loop μ-loop
 add-p c = omega arith
@@ -90,7 +78,7 @@ unfolding goesRow
 returns-3 c =
     let a = c .before .before .before .before .before .before .args in
     simp (
-      eq-eqb _ _ (c .before .before .if1 .left),
+      eq-eqb _ _ (sym (c .before .before .before .before .table-at .ensures) ∙ c .before .before .if1 .left ∙ c .before .before .before .table-at2 .ensures),
       below-done
           (λ k.
           keepsTerm (laidTerm (a .lines .now) (a .a) k) (laidTerm (a .lines .now) (a .s) k))
@@ -103,12 +91,8 @@ goes-line-spec =
     (tie.spec
     Inv-loop
     μ-loop
-    mul-if1
-    mul-if1-2
-    shared-slice-read-if1
-    mul-if1-3
-    mul-if1-4
-    shared-slice-read-if1-2
+    table-at-requires
+    table-at-requires-2
     returns
     loop-holds
     term-at-requires
