@@ -1,10 +1,9 @@
 -- Document 01, "Explaining".
 use mathlib.Core.Path.{_≡_}
 use mathlib.Core.Bool.{Bool, true, false, cond}
-use mathlib.Core.List.{List, [], _++_}
+use mathlib.Core.List.{List, []}
 use Prim.Native.Nat.{ℕ, _-_}
-use lib.Dec.{ltb}
-use lib.ListN.{length, getD, drop}
+use lib.ListN.{length, getD}
 use Rattle.theory.specs.Executable.Label.{labels}
 use Rattle.model.specs.Limits.{upTo}
 use Rattle.model.specs.declared.Policy.{Policy}
@@ -14,6 +13,7 @@ use Rattle.policy.specs.Policy.{viewsAfter}
 use Rattle.validity.specs.Loadable.{Loadable}
 use Rattle.labels.specs.Settled.{settled}
 use Rattle.explain.specs.Explanation.{explained}
+use Rattle.desk.specs.Buffer.{tooShort, headed}
 use Rattle.desk.specs.declared.explaining.Explaining.{Explaining}
 use Rattle.desk.specs.declared.explaining.Explaining.the-variants.{Settled, Unsettled, Refused}
 
@@ -40,12 +40,12 @@ unfoldable pub notExplained : List ℕ → ℕ → ℕ → Explained
 notExplained buffer number line =
     record { says = record { given = false; settles = false; count = 0; number = number; line = line }; holds = buffer }
 
--- "then 10"; "Numbers past the list stay, and the reply carries the list's length; both hold for explaining too."
+-- "then 10"; "the reply carries the list's length"
 unfoldable pub explainedBy : List ℕ → Bool → List ℕ → Explained
 unfolding notExplained
 explainedBy buffer settles ws =
-    cond (ltb (length buffer) (length ws)) (notExplained buffer 10 0)
-    (record { says = record { given = true; settles = settles; count = length ws; number = 0; line = 0 }; holds = ws ++ drop (length ws) buffer })
+    cond (tooShort buffer ws) (notExplained buffer 10 0)
+    (record { says = record { given = true; settles = settles; count = length ws; number = 0; line = 0 }; holds = headed ws buffer })
 
 -- the explanation of the text's query for partition n
 unfoldable pub explainReading : Declared → ℕ → List ℕ → Reading → Explained

@@ -4,6 +4,7 @@ pub mod Opening
 pub mod Settling
 pub mod Deciding
 pub mod Calls
+pub mod Buffer
 pub mod Listing
 pub mod Rewriting
 pub mod Held

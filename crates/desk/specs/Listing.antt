@@ -1,15 +1,15 @@
 -- Document 01, "Labels".
 use mathlib.Core.Path.{_≡_}
 use mathlib.Core.Bool.{Bool, true, false, cond}
-use mathlib.Core.List.{List, _++_}
+use mathlib.Core.List.{List}
 use Prim.Native.Nat.{ℕ}
-use lib.Dec.{ltb}
-use lib.ListN.{length, drop}
+use lib.ListN.{length}
 use Rattle.theory.specs.Executable.Label.{labels}
 use Rattle.model.specs.declared.Policy.{Policy}
 use Rattle.query.specs.Text.{Reading, refused, accepted, read}
 use Rattle.policy.specs.Text.{Declared}
 use Rattle.validity.specs.Loadable.{Loadable}
+use Rattle.desk.specs.Buffer.{tooShort, headed}
 use Rattle.desk.specs.declared.listing.Listing.{Listing}
 use Rattle.desk.specs.declared.listing.Listing.the-variants.{Given, Refused}
 
@@ -33,15 +33,15 @@ pub record Listed : Type 0 where
 unfoldable pub notListed : List ℕ → ℕ → ℕ → Listed
 notListed buffer number line = record { says = record { given = false; count = 0; number = number; line = line }; holds = buffer }
 
--- "Numbers past the list stay, and the reply carries the list's length"
+-- "the reply carries the list's length"
 unfoldable pub given : List ℕ → List ℕ → Listed
 given ws buffer =
-    record { says = record { given = true; count = length ws; number = 0; line = 0 }; holds = ws ++ drop (length ws) buffer }
+    record { says = record { given = true; count = length ws; number = 0; line = 0 }; holds = headed ws buffer }
 
--- "10: the lent buffer is shorter than the list."
+-- the list, or 10
 unfoldable pub listed : List ℕ → List ℕ → Listed
 unfolding notListed given
-listed buffer ws = cond (ltb (length buffer) (length ws)) (notListed buffer 10 0) (given ws buffer)
+listed buffer ws = cond (tooShort buffer ws) (notListed buffer 10 0) (given ws buffer)
 
 -- the labels of the text's query; which of the open orders they stand in is the definition's choice
 unfoldable pub listReading : Declared → List ℕ → Reading → Listed

@@ -71,12 +71,16 @@ unfoldable pub firstFault : List Check → ℕ
 firstFault [] = 0
 firstFault (c ∷ cs) = cond (c .broken) (c .number) (firstFault cs)
 
+-- the checks of a line against the tables and the lines before it: "4: an unknown table or view. 5: terms fewer or more than the
+-- columns. 6: one variable number both shown and hidden."
+abbrev pub fitting : List ℕ → List Line → Line → List Check
+fitting widths earlier A =
+    record { broken = not (known widths A); number = 4 }
+    ∷ record { broken = not (wide widths A); number = 5 }
+    ∷ record { broken = clashing earlier A; number = 6 }
+    ∷ []
+
 -- what turns back a line within its limits that stands behind the lines `earlier`: 4, 5, 6, or nothing
 unfoldable pub misfit : List ℕ → List Line → Line → ℕ
 unfolding firstFault known wide clashing
-misfit widths earlier A =
-    firstFault
-    (record { broken = not (known widths A); number = 4 }
-    ∷ record { broken = not (wide widths A); number = 5 }
-    ∷ record { broken = clashing earlier A; number = 6 }
-    ∷ [])
+misfit widths earlier A = firstFault (fitting widths earlier A)

@@ -10,7 +10,7 @@ use Rattle.theory.specs.Executable.Test.{all, any}
 use Rattle.text.specs.Lines.{lines}
 use Rattle.text.specs.Names.{tableColumns, viewTableTerms, partitionViews, sameBytes}
 use Rattle.model.specs.Fields.{Numbered, tableLine, viewLine, partitionLine}
-use Rattle.model.specs.Limits.{mostTables, mostColumns, mostViews, mostPartitions, upTo, lineWithin, known, wide, clashing, firstFault}
+use Rattle.model.specs.Limits.{mostTables, mostColumns, mostViews, mostPartitions, upTo, lineWithin, known, wide, clashing, firstFault, fitting}
 
 -- the text's tables (their columns), views and partitions (the numbers of their views), in file order
 pub record Declared : Type 0 where
@@ -48,17 +48,14 @@ tableFault d e =
     ∷ record { broken = not (eqb (e .number) (suc (length (d .widths)))); number = 3 }
     ∷ [])
 
--- and "4: an unknown table or view. 5: terms fewer or more than the columns. 6: one variable number both shown and hidden."
+-- and 4, 5 and 6
 unfoldable pub viewFault : Declared → Numbered Line → ℕ
 unfolding firstFault upTo mostViews lineWithin known wide clashing
 viewFault d e =
     firstFault
     (record { broken = not (upTo mostViews (e .number) && lineWithin (e .value)); number = 2 }
     ∷ record { broken = not (eqb (e .number) (suc (length (d .views)))); number = 3 }
-    ∷ record { broken = not (known (d .widths) (e .value)); number = 4 }
-    ∷ record { broken = not (wide (d .widths) (e .value)); number = 5 }
-    ∷ record { broken = clashing [] (e .value); number = 6 }
-    ∷ [])
+    ∷ fitting (d .widths) [] (e .value))
 
 -- 3 also "a partition's views that don't ascend strictly"
 unfoldable pub partitionFault : Declared → Numbered (List ℕ) → ℕ

@@ -9,7 +9,7 @@ use Rattle.theory.specs.Query.{Line, Query}
 use Rattle.text.specs.Lines.{lines}
 use Rattle.text.specs.Names.{tableTerms, sameBytes}
 use Rattle.model.specs.Fields.{queryLine}
-use Rattle.model.specs.Limits.{mostLines, lineWithin, known, wide, clashing, firstFault}
+use Rattle.model.specs.Limits.{mostLines, lineWithin, known, wide, clashing, firstFault, fitting}
 
 -- a query text's query, or the number that turns it back and the line
 pub data Reading : Type 0 where
@@ -27,10 +27,7 @@ fault widths earlier A =
     firstFault
     (record { broken = leb mostLines (length earlier); number = 7 }
     ∷ record { broken = not (lineWithin A); number = 2 }
-    ∷ record { broken = not (known widths A); number = 4 }
-    ∷ record { broken = not (wide widths A); number = 5 }
-    ∷ record { broken = clashing earlier A; number = 6 }
-    ∷ [])
+    ∷ fitting widths earlier A)
 
 -- the text stops here: with a tail that lacks its end, or before the first line of values, it is faulty at this line
 unfoldable pub ends : List Line → ℕ → List ℕ → Reading

@@ -94,11 +94,9 @@ fn read_lines(tables: Tables, text: &[u8], start: u64) -> Reading
         if f != 0 {
             return refused(f, line);
         }
+        let table = p.table;
         let terms = p.terms;
-        q.lines[count] = Line {
-            table: p.table,
-            terms,
-        };
+        q.lines[count] = Line { table, terms };
         q.count = count + 1;
         shown = shown | p.shown;
         hidden = hidden | p.hidden;
@@ -108,10 +106,8 @@ fn read_lines(tables: Tables, text: &[u8], start: u64) -> Reading
     if q.count == 0 {
         return refused(1, line);
     }
-    Reading {
-        outcome: Outcome::Accepted,
-        query: q,
-    }
+    let outcome = Outcome::Accepted;
+    Reading { outcome, query: q }
 }
 
 // The lines of values that a reader has before it. The work is done on its two parts, since code that holds a reader is

@@ -149,8 +149,8 @@ returns-3 c =
     c .refused3 .ensures
     ∙ ap readingValue (faulty (start f .loop .inv) (ends (of-fault f)) (a .0) (a .1) (f .fault .result) (c .before .if3 .taken) widths t (fault-is f widths t))
 
-mul-t16 : tie.Need-mul-t16 Inv-loop μ-loop
-mul-t16 c = omega (arith, faultless (c .before) .0)
+mul-t18 : tie.Need-mul-t18 Inv-loop μ-loop
+mul-t18 c = omega (arith, faultless (c .before) .0)
 
 element-set-from-q : tie.Need-element-set-from-q Inv-loop μ-loop
 element-set-from-q c = faultless (c .before) .0
@@ -213,7 +213,7 @@ read-lines-spec =
     fault-requires
     refused-requires-3
     returns-3
-    mul-t16
+    mul-t18
     element-set-from-q
     add-q
     add-line
