@@ -183,7 +183,7 @@ fn with_view(l: Listed, v: u64) -> Listed
 }
 
 // The views that a partition lists.
-pub fn read_views(s: &[u8]) -> Listed
+fn read_views(s: &[u8]) -> Listed
     requires { ⌜ length (now s) < 2 ^ 32 ⌝ }
     ensures { λ r. ⌜ r ≡ listedValue (every numeral (fields (now (s .entry)))) ⌝ }
 {

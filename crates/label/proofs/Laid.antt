@@ -1,36 +1,36 @@
--- The views of a policy laid out row by row.
-use mathlib.Core.Path.{_≡_, subst, _∙_}
+-- The rows of a policy's views, once each view has its row.
+use mathlib.Core.Path.{_≡_, refl, subst, _∙_}
 use mathlib.Core.List.{List, []}
-use Prim.Native.Nat.{ℕ, _+_, _≤_, _<_}
-use native.Mathlib.Decide.{ℕ-discrete}
+use Prim.Native.Nat.{ℕ, _+_, _≤_}
 use native.Mathlib.Omega.{arith}
 use lib.ListN.{length, getD}
 use Rattle.theory.specs.Query.{Line as TheLine}
 use Rattle.theory.proofs.Lists.{place-below}
 use Rattle.model.specs.Value.{pad}
 use Rattle.model.specs.Rows.{Row, LaidInto}
+use Rattle.model.specs.declared.Line.{Line}
 use Rattle.model.specs.declared.Policy.{Policy}
 use Rattle.model.proofs.Pad.{pad-length}
-use Rattle.model.proofs.LaidTerms.{row-stays}
+use Rattle.model.proofs.LaidTerms.{RowsTo, rows-none, rows-more}
 use Rattle.label.specs.Labelled.{Holds, LaidViews, ViewsLaid}
 use Rattle.label.proofs.Views.{noLine, view-value}
+
+-- the value at a view's place
+abbrev pub valueAt : Policy → ℕ → Line
+valueAt p j = getD (p .views) j noLine
 
 -- the views before k have their rows
 pub record Laid (p : Policy) (k : ℕ) (rows : List ℕ) : Type 0 where
   pub long : length rows ≡ 544
-  pub row : (j : ℕ) → j < k → Row rows j (getD (p .views) j noLine)
+  pub row : RowsTo (valueAt p) k rows
 
 module _ (p : Policy) where
   pub laid-none : Laid p 0 (pad 544 0 [])
-  laid-none = record { long = pad-length 544 0 [] (omega arith); row = λ j h. absurd (omega arith) }
+  laid-none = record { long = pad-length 544 0 [] (omega arith); row = rows-none (valueAt p) (pad 544 0 []) }
 
   module _ {k : ℕ} {rows : List ℕ} (l : Laid p k rows) where
-    pub laid-more : {rows′ : List ℕ} → LaidInto (getD (p .views) k noLine) k rows rows′ → Laid p (k + 1) rows′
-    laid-more {rows′} m = record { long = m .long ∙ l .long; row = λ j h. go j h (ℕ-discrete j k) }
-      where
-        go : (j : ℕ) → j < k + 1 → Dec (j ≡ k) → Row rows′ j (getD (p .views) j noLine)
-        go j h (yes e) = rw e (m .row)
-        go j h (no n) = row-stays (omega arith) m (l .row j (omega arith))
+    pub laid-more : {rows′ : List ℕ} → LaidInto (valueAt p k) k rows rows′ → Laid p (k + 1) rows′
+    laid-more m = record { long = m .long ∙ l .long; row = rows-more (valueAt p) (l .row) refl m }
 
     held-laid : 32 ≤ k → {views : List TheLine} → Holds p views → LaidViews rows views
     held-laid all {views} held = record {

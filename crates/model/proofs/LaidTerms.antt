@@ -1,5 +1,5 @@
 -- A line laid into a row, number by number.
-use mathlib.Core.Path.{_≡_, refl, _∙_}
+use mathlib.Core.Path.{_≡_, refl, subst, _∙_}
 use mathlib.Core.List.{List}
 use Prim.Native.Nat.{ℕ, _+_, _*_, _≤_, _<_}
 use native.Mathlib.Decide.{ℕ-discrete}
@@ -101,3 +101,20 @@ line-laid {a} {k} {p} {rows} {rows′} l h room =
                 ∙ l .terms q (omega arith);
           };
     }
+
+-- ---- rows, one by one
+
+-- the rows before k have the lines of a function
+abbrev pub RowsTo : (ℕ → Line) → ℕ → List ℕ → Type 0
+RowsTo f k rows = (j : ℕ) → j < k → Row rows j (f j)
+
+pub rows-none : (f : ℕ → Line) (rows : List ℕ) → RowsTo f 0 rows
+rows-none f rows j h = absurd (omega arith)
+
+pub rows-more : (f : ℕ → Line) {k : ℕ} {rows rows′ : List ℕ} {a : Line} → RowsTo f k rows → a ≡ f k → LaidInto a k rows rows′
+    → RowsTo f (k + 1) rows′
+rows-more f {k} {rows} {rows′} r e l j h = go (ℕ-discrete j k)
+  where
+    go : Dec (j ≡ k) → Row rows′ j (f j)
+    go (yes x) = rw x (subst (Row rows′ k) e (l .row))
+    go (no n) = row-stays (omega arith) l (r j (omega arith))

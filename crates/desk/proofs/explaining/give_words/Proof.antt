@@ -35,7 +35,7 @@ write-words-requires : tie.Need-write-words-requires
 write-words-requires c κs =
     let w = c .before .before .before in
     let (ws, h) = w .before .before .before .pre in
-    (words-count _ _ _ (words w) ws h, search needs, words-narrow _ _ _ (words w) ws h)
+    (omega (arith, words-count _ _ _ (words w) ws h), search needs, words-narrow _ _ _ (words w) ws h)
 
 same-length : tie.Need-same-length
 same-length c = search needs

@@ -3,22 +3,23 @@ use mathlib.Core.Path.{_≡_, refl, _∙_}
 use Prim.Native.Nat.{_-_, _≤_}
 use lib.ListN.{length}
 use Rattle.theory.specs.Query.{Query}
+use Rattle.model.proofs.LaidTerms.{RowsTo, rows-none, rows-more}
 use Rattle.reduce.specs.Laid.{Held}
 use Rattle.reduce.proofs.Lines.{held-count, held-line}
-use Rattle.reduce.proofs.LaidRows.{RowsTo, rows-more, rows-all}
+use Rattle.reduce.proofs.LaidRows.{valueAt, rows-all}
 use native.Mathlib.Omega.{arith}
 use borrow.Author.Needs.{needs}
 use Rattle.reduce.proofs.laying.query_rows.Statement.{statement}
 use Rattle.reduce.proofs.laying.query_rows.Tie as tie
 
 abbrev Inv-loop : tie.InvT-loop
-Inv-loop q n lines₀ i₀ lines i = (i ≤ n) × (length lines ≡ 136) × ((Q : Query) → Held q Q → RowsTo Q i lines)
+Inv-loop q n lines₀ i₀ lines i = (i ≤ n) × (length lines ≡ 136) × ((Q : Query) → Held q Q → RowsTo (valueAt Q) i lines)
 
 abbrev μ-loop : tie.MeasureT-loop
 μ-loop q n lines₀ i₀ lines i = n - i
 
 loop-holds : tie.Need-loop-holds Inv-loop μ-loop
-loop-holds c = (omega arith, refl, λ Q held j h. absurd (omega arith))
+loop-holds c = (omega arith, refl, λ Q held. rows-none _ _)
 
 mul-l : tie.Need-mul-l Inv-loop μ-loop
 mul-l c = omega arith
@@ -45,7 +46,7 @@ loop-again c =
       omega arith,
       l .long ∙ at .inv .1,
       λ Q held.
-          rows-more Q (at .inv .2 Q held)
+          rows-more (valueAt Q) (at .inv .2 Q held)
           (held-line held (at .i) _ (rw (held-count held) at (c .before .before .before .before .loop-test .taken))) l,
     )
 
