@@ -36,13 +36,13 @@ extern "C" {
 // Something done so many times with a query under POLICY: the sum of what it gives.
 type Work = fn(query: &str, times: u64) -> u64;
 
-// ---- labelling
+// What crate measure exports for a policy and a query.
+type Exported = unsafe extern "C" fn(*const u8, usize, *const u8, usize, u64) -> u64;
 
-// measure::kolbrees_label, in Rattle
-fn label_in_rattle(query: &str, times: u64) -> u64 {
+fn in_rattle(exported: Exported, query: &str, times: u64) -> u64 {
     // SAFETY: each pointer and length are those of a live string.
     unsafe {
-        kolbrees_label(
+        exported(
             POLICY.as_ptr(),
             POLICY.len(),
             query.as_ptr(),
@@ -50,6 +50,13 @@ fn label_in_rattle(query: &str, times: u64) -> u64 {
             times,
         )
     }
+}
+
+// ---- labelling
+
+// measure::kolbrees_label, in Rattle
+fn label_in_rattle(query: &str, times: u64) -> u64 {
+    in_rattle(kolbrees_label, query, times)
 }
 
 // measure::kolbrees_label
@@ -77,16 +84,7 @@ fn steps_of(query: &str) -> u64 {
 
 // measure::kolbrees_decide, in Rattle
 fn decide_in_rattle(query: &str, times: u64) -> u64 {
-    // SAFETY: each pointer and length are those of a live string.
-    unsafe {
-        kolbrees_decide(
-            POLICY.as_ptr(),
-            POLICY.len(),
-            query.as_ptr(),
-            query.len(),
-            times,
-        )
-    }
+    in_rattle(kolbrees_decide, query, times)
 }
 
 // measure::number_of
