@@ -124,7 +124,7 @@ rows-shown {Q = Q} n w e g laid s = record {
   fits = g .fits;
   row = λ i h.
       record {
-        table = s .table i (omega (arith, e)) ∙ laid .row i h .table;
+        table = s .table i ∙ laid .row i h .table;
         term = λ p b.
             s .term i p (omega (arith, e)) b ∙ ap (showValue w) (laid .row i h .term p b)
             ∙ sym (shown-term w (lineAt Q i) (laid-few laid i h) p b);

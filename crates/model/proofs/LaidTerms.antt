@@ -59,16 +59,18 @@ module _ (rows : List ℕ) (k p : ℕ) (t : Term) where
 pub record LaidTo (a : Line) (k p : ℕ) (rows rows′ : List ℕ) : Type 0 where
   pub long : length rows′ ≡ length rows
   pub before : (i : ℕ) → i < k * 17 → getD rows′ i 0 ≡ getD rows i 0
+  pub after : (i : ℕ) → k * 17 + 17 ≤ i → getD rows′ i 0 ≡ getD rows i 0
   pub terms : (q : ℕ) → q < p → laidTerm rows′ k q ≡ termAt a q
 
 pub nothing-laid : (a : Line) (k : ℕ) (rows : List ℕ) → LaidTo a k 0 rows rows
-nothing-laid a k rows = record { long = refl; before = λ i b. refl; terms = λ q b. absurd (omega arith) }
+nothing-laid a k rows = record { long = refl; before = λ i b. refl; after = λ i b. refl; terms = λ q b. absurd (omega arith) }
 
 pub term-laid : {a : Line} {k p : ℕ} {rows rows′ : List ℕ} (t : Term) → LaidTo a k p rows rows′ → k * 17 + 17 ≤ length rows → p < 8
     → t ≡ termAt a p → LaidTo a k (p + 1) rows (with-term rows′ k p t)
 term-laid {a} {k} {p} {rows} {rows′} t l h b e = record {
   long = term-length rows′ k p t ∙ l .long;
   before = λ i c. term-other rows′ k p t i (λ x. omega arith) (λ x. omega arith) ∙ l .before i c;
+  after = λ i c. term-other rows′ k p t i (λ x. omega arith) (λ x. omega arith) ∙ l .after i c;
   terms = λ q c. go q c (ℕ-discrete q p);
 }
   where
@@ -92,6 +94,7 @@ line-laid {a} {k} {p} {rows} {rows′} l h room =
     record {
       long = length-set rows′ (k * 17) t ∙ l .long;
       before = λ i b. other i (λ x. omega arith) ∙ l .before i b;
+      after = λ i b. other i (λ x. omega arith) ∙ l .after i b;
       row =
           record {
             table = getD-set-same rows′ (k * 17) t 0 (omega (arith, room, l .long));

@@ -34,8 +34,9 @@ pub record Row (rows : List ℕ) (k : ℕ) (a : Line) : Type 0 where
 abbrev pub withMark : List ℕ → ℕ → ℕ → ℕ → List ℕ
 withMark rows k p mark = set rows (k * 17 + 1 + p * 2) mark
 
--- a line laid into row k, behind what stood before it
+-- a line laid into row k; the other rows stay
 pub record LaidInto (a : Line) (k : ℕ) (rows rows′ : List ℕ) : Type 0 where
   pub long : length rows′ ≡ length rows
   pub before : (i : ℕ) → i < k * 17 → getD rows′ i 0 ≡ getD rows i 0
+  pub after : (i : ℕ) → k * 17 + 17 ≤ i → getD rows′ i 0 ≡ getD rows i 0
   pub row : Row rows′ k a

@@ -38,7 +38,7 @@ pub fn set_mark(rows: &mut [u64], k: usize, p: usize, mark: u64)
     rows[k * ROW + 1 + p * 2] = mark;
 }
 
-// The line in row k; the rows before it stay.
+// The line in row k; the other rows stay.
 pub fn lay_line(l: Line, k: usize, rows: &mut [u64])
     requires { ⌜ HasRow (now rows) k ⌝ }
     ensures { λ _. ⌜ LaidInto l k (now (rows .entry)) (now (rows .exit)) ⌝ }

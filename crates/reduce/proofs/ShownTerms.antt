@@ -94,17 +94,25 @@ one-done {k} {rows} {w} {rows′} u s h e = record {
     go j b (no f) = other-pair rows′ k (u .mark) j f ∙ s .done j (omega arith)
 
 pub none-shared : (n : ℕ) (rows : List ℕ) → ShownRows n rows 0 rows
-none-shared n rows =
-    record { long = refl; table = λ i h. refl; term = λ i p h b. sym (none-shown (laidTerm rows i p)) }
+none-shared n rows = record {
+  long = refl;
+  table = λ i. refl;
+  term = λ i p h b. sym (none-shown (laidTerm rows i p));
+  rest = λ i p h b. refl;
+}
 
-pub all-done : {k n : ℕ} {rows : List ℕ} {w : ℕ} {rows′ : List ℕ} → ShownTo k rows w rows′ → n * 8 ≤ k → ShownRows n rows w rows′
-all-done s h = record {
+pub all-done : {k n : ℕ} {rows : List ℕ} {w : ℕ} {rows′ : List ℕ} → ShownTo k rows w rows′ → k ≡ n * 8 → ShownRows n rows w rows′
+all-done s e = record {
   long = s .long;
-  table = λ i b. s .table i;
+  table = s .table;
   term = λ i p b c.
       let d : (i * 8 + p) / 8 ≡ i = omega arith in
       let m : (i * 8 + p) % 8 ≡ p = omega arith in
-      rw (d, m) at (s .done (i * 8 + p) (omega arith));
+      rw (d, m) at (s .done (i * 8 + p) (omega (arith, e)));
+  rest = λ i p b c.
+      let d : (i * 8 + p) / 8 ≡ i = omega arith in
+      let m : (i * 8 + p) % 8 ≡ p = omega arith in
+      rw (d, m) at (s .rest (i * 8 + p) (omega (arith, e)));
 }
 
 -- ---- a line shown

@@ -3,7 +3,7 @@ use mathlib.Core.Path.{_≡_}
 use mathlib.Core.Logic.{_↔_}
 use mathlib.Core.Bool.{Bool, cond, _&&_}
 use mathlib.Core.List.{List, map}
-use Prim.Native.Nat.{ℕ, _<_}
+use Prim.Native.Nat.{ℕ, _≤_, _<_}
 use lib.ListN.{length}
 use lib.Dec.{T, eqb, leb}
 use Rattle.theory.specs.Query.{hidden, Query, _∈_}
@@ -48,8 +48,9 @@ unfoldable pub showLine : ℕ → Line → Line
 unfolding showValue
 showLine w l = record { table = l .table; terms = map (showValue w) (l .terms) }
 
--- showing alters the marks of the shared variables in the first n rows alone
+-- showing alters the marks of the shared variables in the first n rows, and nothing else
 pub record ShownRows (n : ℕ) (rows : List ℕ) (w : ℕ) (rows′ : List ℕ) : Type 0 where
   pub long : length rows′ ≡ length rows
-  pub table : (i : ℕ) → i < n → laidTable rows′ i ≡ laidTable rows i
+  pub table : (i : ℕ) → laidTable rows′ i ≡ laidTable rows i
   pub term : (i p : ℕ) → i < n → p < 8 → laidTerm rows′ i p ≡ showValue w (laidTerm rows i p)
+  pub rest : (i p : ℕ) → n ≤ i → p < 8 → laidTerm rows′ i p ≡ laidTerm rows i p

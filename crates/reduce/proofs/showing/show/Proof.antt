@@ -50,7 +50,7 @@ same-length : tie.Need-same-length Inv-loop μ-loop
 same-length c = c .before .loop .inv .1 .long
 
 returns-2 : tie.Need-returns-2 Inv-loop μ-loop
-returns-2 c = all-done (c .before .loop .inv .1) (c .loop-test .left)
+returns-2 c = all-done (c .before .loop .inv .1) (omega arith)
 
 pub show-spec : {M : Type 1} → statement M
 show-spec =
