@@ -28,11 +28,11 @@ use Rattle.labels.proofs.Lines.{shown-fits}
 use Rattle.labels.proofs.Posing.{few-labels}
 use Rattle.labels.proofs.Readings.{Tag, asked-accepted, asked-refused}
 use Rattle.desk.proofs.Loaded.{loaded-to}
-use Rattle.desk.specs.Held.{Held}
+use Rattle.desk.specs.HoldsLabels.{HoldsLabels}
 
 -- ---- how many labels there are, and how large
 
-pub labels-held : {l : Labels} {ws : List ℕ} → Held l ws → l .count ≤ 8
+pub labels-held : {l : Labels} {ws : List ℕ} → HoldsLabels l ws → l .count ≤ 8
 unfolding labelsValue
 labels-held h = omega (arith, ap (λ (x : Labels). x .count) (h .is), h .few)
 
@@ -52,7 +52,7 @@ labels-narrow d good Q fits w m =
 pub record Labelled (d : Declared) (text : List ℕ) (v : Asked) : Type 0 where
   pub query : Query
   pub reads : read (d .widths) text ≡ accepted query
-  pub held : Held (v .labels) (labels (d .views) query)
+  pub held : HoldsLabels (v .labels) (labels (d .views) query)
 
 -- what labelling the text gives for each loading of the policy
 module _ {p : Policy} (text : List ℕ) (v : Asked)

@@ -12,7 +12,7 @@ use Rattle.model.specs.Limits.{upTo}
 use Rattle.model.specs.declared.Policy.{Policy}
 use Rattle.model.proofs.Pad.{pad-get, pad-take}
 use Rattle.query.specs.Text.{refused, read}
-use Rattle.policy.proofs.Value.{up-to-iff}
+use Rattle.model.proofs.Limits.{up-to-iff}
 use Rattle.validity.specs.Loadable.{Loadable}
 use Rattle.labels.specs.Posed.{labelsValue}
 use Rattle.labels.specs.Settled.{settled}
@@ -21,8 +21,8 @@ use Rattle.labels.specs.declared.Labels.{Labels}
 use Rattle.explain.specs.Explanation.{explained}
 use Rattle.explain.specs.Value.{wordsValue}
 use Rattle.explain.specs.declared.Words.{Words}
-use Rattle.desk.specs.Held.{Held}
-use Rattle.desk.specs.Explaining.{told, notExplained, explainedBy, explainReading, explainUnder, Explains, ExplanationGiven}
+use Rattle.desk.specs.HoldsLabels.{HoldsLabels}
+use Rattle.desk.specs.Explaining.{saidExplaining, notExplained, explainedBy, explainReading, explainUnder, Explains, ExplanationGiven}
 use Rattle.desk.specs.declared.explaining.Explaining.{Explaining}
 use Rattle.desk.specs.declared.explaining.Explaining.the-variants.{Refused}
 use Rattle.desk.proofs.Loaded.{loaded-to, partition-count, few-partitions, partition-word}
@@ -31,13 +31,13 @@ use Rattle.desk.proofs.Copied.{Copied}
 use Rattle.desk.proofs.Narrow.{AtMost, Narrow, each-most, most-length, most-get, explained-most}
 
 not-explains : (before : List ℕ) (n k : ℕ) → Explains (Refused n k) before (notExplained before n k)
-unfolding told notExplained
+unfolding saidExplaining notExplained
 not-explains before n k = record { reply = refl; buffer = refl }
 
 -- ---- the words and the buffer
 
 module _ (l : Labels) (granted : ℕ) (w : Words)
-    (gives : (ws : List ℕ) → l ≡ labelsValue ws → length ws ≤ 8 → w ≡ wordsValue (explained granted ws)) (ws : List ℕ) (h : Held l ws) where
+    (gives : (ws : List ℕ) → l ≡ labelsValue ws → length ws ≤ 8 → w ≡ wordsValue (explained granted ws)) (ws : List ℕ) (h : HoldsLabels l ws) where
   value : w ≡ wordsValue (explained granted ws)
   value = gives ws (h .is) (h .few)
 
@@ -66,7 +66,7 @@ module _ (l : Labels) (granted : ℕ) (w : Words)
   explains-short {before} g = rw (lt-ltb (length before) (length (explained granted ws)) (omega (arith, count-is))) (not-explains before 10 0)
 
   pub explains-given : (before : List ℕ) {after : List ℕ} {r : Explaining} {b : Bool}
-      → told r ≡ record { given = true; settles = b; count = w .count; number = 0; line = 0 } → b ≡ settled granted ws
+      → saidExplaining r ≡ record { given = true; settles = b; count = w .count; number = 0; line = 0 } → b ≡ settled granted ws
       → w .count ≤ length before → after ≡ Copied (w .words) (w .count) before
       → Explains r after (explainedBy before (settled granted ws) (explained granted ws))
   unfolding explainedBy
@@ -111,7 +111,7 @@ module _ {p : Policy} {n : ℕ} {text before : List ℕ} where
   pub text-explained : {r : Explaining} {after : List ℕ} (v : Asked) → Loadable p → upTo (p .«partition_count») n ≡ true
       → ((l : Loadable p) → Labelled (l .declared) text v) →
       let granted = getD (p .partitions) (n - 1) 0 in
-      ((ws : List ℕ) → Held (v .labels) ws → Explains r after (explainedBy before (settled granted ws) (explained granted ws)))
+      ((ws : List ℕ) → HoldsLabels (v .labels) ws → Explains r after (explainedBy before (settled granted ws) (explained granted ws)))
       → ExplanationGiven p n text before r after
   unfolding explainUnder explainReading
   text-explained v is e h given =

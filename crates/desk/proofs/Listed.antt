@@ -14,14 +14,14 @@ use Rattle.validity.specs.Loadable.{Loadable}
 use Rattle.labels.specs.Posed.{labelsValue}
 use Rattle.labels.specs.declared.Asked.{Asked}
 use Rattle.labels.specs.declared.Labels.{Labels}
-use Rattle.desk.specs.Listing.{told, notListed, given, listed, listReading, Lists, LabelsGiven}
+use Rattle.desk.specs.Listing.{saidListing, notListed, given, listed, listReading, Lists, LabelsGiven}
 use Rattle.desk.specs.declared.listing.Listing.{Listing}
 use Rattle.desk.specs.declared.listing.Listing.the-variants.{Given, Refused}
 use Rattle.desk.proofs.Asked.{Labelled}
 use Rattle.desk.proofs.Copied.{Copied}
 
 not-lists : (before : List ℕ) (n k : ℕ) → Lists (Refused n k) before (notListed before n k)
-unfolding told notListed
+unfolding saidListing notListed
 not-lists before n k = record { reply = refl; buffer = refl }
 
 -- ---- the labels and the buffer
@@ -41,7 +41,7 @@ module _ (l : Labels) (ws : List ℕ) (e : l ≡ labelsValue ws) where
 
   pub lists-given : (before : List ℕ) {after : List ℕ} → l .count ≤ length before → after ≡ Copied (l .words) (l .count) before
       → Lists (Given (l .count)) after (listed before ws)
-  unfolding told listed given
+  unfolding saidListing listed given
   lists-given before h c =
       rw (le-ltb (length before) (length ws) (omega (arith, count-is)))
       (record {

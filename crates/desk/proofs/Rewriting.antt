@@ -27,7 +27,7 @@ use Rattle.query.specs.Text.{Reading, refused, accepted, read}
 use Rattle.query.proofs.Accepted.{accepted-well-read}
 use Rattle.model.specs.declared.Policy.{Policy}
 use Rattle.desk.specs.declared.listing.Listing.{Listing}
-use Rattle.desk.specs.Listing.{Told, told, notListed, given, listed, listReading, Lists, LabelsGiven}
+use Rattle.desk.specs.Listing.{SaidListing, saidListing, notListed, given, listed, listReading, Lists, LabelsGiven}
 use Rattle.desk.specs.Rewriting.{LabelOf, LabelsOf}
 use Rattle.desk.proofs.Loaded.{loaded-to}
 
@@ -66,28 +66,28 @@ module _ (d : Declared) (good : WellFormed d) (Q : Query) (fits : AllFit (d .wid
 
 module _ (d : Declared) (good : WellFormed d) (text before after : List ℕ) (r : Listing) where
   by-room : (Q : Query) (b : Bool) → read (d .widths) text ≡ accepted Q
-      → Lists r after (cond b (notListed before 10 0) (given (labels (d .views) Q) before)) → told r .given ≡ true
-      → LabelsOf d Q (take (told r .count) after)
+      → Lists r after (cond b (notListed before 10 0) (given (labels (d .views) Q) before)) → saidListing r .given ≡ true
+      → LabelsOf d Q (take (saidListing r .count) after)
   unfolding notListed given
-  by-room Q true e o g = absurd (false≢true (sym (ap (λ (t : Told). t .given) (o .reply)) ∙ g))
+  by-room Q true e o g = absurd (false≢true (sym (ap (λ (t : SaidListing). t .given) (o .reply)) ∙ g))
   by-room Q false e o g =
       let ws = labels (d .views) Q in
       let fits = accepted-well-read (d .widths) text Q e .0 .fits in
       subst (LabelsOf d Q)
-      (sym (ap (λ (n : ℕ). take n after) (ap (λ (t : Told). t .count) (o .reply)) ∙ ap (take (length ws)) (o .buffer) ∙ take-append-seam ws (drop (length ws) before)))
+      (sym (ap (λ (n : ℕ). take n after) (ap (λ (t : SaidListing). t .count) (o .reply)) ∙ ap (take (length ws)) (o .buffer) ∙ take-append-seam ws (drop (length ws) before)))
       (labels-rewrite d good Q fits)
 
-  by-reading : (v : Reading) → read (d .widths) text ≡ v → Lists r after (listReading d before v) → told r .given ≡ true
-      → (Q : Query) × (read (d .widths) text ≡ accepted Q) × LabelsOf d Q (take (told r .count) after)
+  by-reading : (v : Reading) → read (d .widths) text ≡ v → Lists r after (listReading d before v) → saidListing r .given ≡ true
+      → (Q : Query) × (read (d .widths) text ≡ accepted Q) × LabelsOf d Q (take (saidListing r .count) after)
   unfolding listReading listed notListed
-  by-reading (refused n k) e o g = absurd (false≢true (sym (ap (λ (t : Told). t .given) (o .reply)) ∙ g))
+  by-reading (refused n k) e o g = absurd (false≢true (sym (ap (λ (t : SaidListing). t .given) (o .reply)) ∙ g))
   by-reading (accepted Q) e o g =
       (Q, e, by-room Q (ltb (length before) (length (labels (d .views) Q))) e o g)
 
 -- "A view stands in the label of a query's line exactly when …": of every call of `labels` that gives labels under a loaded
 -- policy, whatever the buffer
 pub demand-2 : (p : Policy) (l : Loadable p) (text before : List ℕ) (r : Listing) (after : List ℕ) → LabelsGiven p text before r after
-    → told r .given ≡ true
-    → (Q : Query) × (read (l .declared .widths) text ≡ accepted Q) × LabelsOf (l .declared) Q (take (told r .count) after)
+    → saidListing r .given ≡ true
+    → (Q : Query) × (read (l .declared .widths) text ≡ accepted Q) × LabelsOf (l .declared) Q (take (saidListing r .count) after)
 demand-2 p l text before r after g t =
     by-reading (l .declared) (loaded-to l .good) text before after r (read (l .declared .widths) text) refl (g .loaded l) t

@@ -22,7 +22,7 @@ use Rattle.labels.specs.Settled.{granted}
 use Rattle.desk.specs.Reply.{Word, Said, said}
 use Rattle.desk.specs.Reply.{yes as affirmed, no as denied, refused as turned}
 use Rattle.desk.specs.Session.{openCount, unfit, stillOpen}
-use Rattle.desk.specs.Deciding.{Outcome, turnedBack, answered, decideQuery, decideUnder, Gives}
+use Rattle.desk.specs.Deciding.{Verdict, turnedBack, answered, decideQuery, decideUnder, Gives}
 use Rattle.desk.specs.Calls.{Call, Says, Asks, PartitionDetermines, DeterminesAll, Answerable, Right}
 use Rattle.desk.proofs.Masks.{passing-iff, passing-below}
 
@@ -177,10 +177,10 @@ module _ (d : Declared) where
   -- ---- any call
 
   module _ (before : List Call) (c : Call) (mask : ℕ) (h : Held before mask) where
-    says : {o : Outcome} → Gives (c .gave) o → Says c (o .says .word)
+    says : {o : Verdict} → Gives (c .gave) o → Says c (o .says .word)
     says g = ap (λ (x : Said). x .word) (g .reply)
 
-    counts : {o : Outcome} → Gives (c .gave) o → said (c .gave .reply) .count ≡ o .says .count
+    counts : {o : Verdict} → Gives (c .gave) o → said (c .gave .reply) .count ≡ o .says .count
     counts g = ap (λ (x : Said). x .count) (g .reply)
 
     asked : (Q : Query) → Asks d c Q → Dec (stillOpen d Q mask ≡ 0) → Gives (c .gave) (answered mask (stillOpen d Q mask)) → Done before c

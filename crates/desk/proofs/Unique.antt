@@ -12,7 +12,7 @@ use Rattle.desk.specs.declared.deciding.Reply.the-variants.{Yes, No, Ref
 use Rattle.desk.specs.declared.deciding.Decision.{Decision}
 use Rattle.desk.specs.Reply.{Word, Said, said}
 use Rattle.desk.specs.Reply.{yes as affirmed, no as denied, refused as turned}
-use Rattle.desk.specs.Deciding.{Outcome, Gives, Decided}
+use Rattle.desk.specs.Deciding.{Verdict, Gives, Decided}
 
 -- ---- a reply by its numbers
 
@@ -59,7 +59,7 @@ said-numbers a b e = record {
   line = ap (λ (x : Said). x .line) e;
 }
 
-gives-same : (r t : Decision) (o : Outcome) → Gives r o → Gives t o → r ≡ t
+gives-same : (r t : Decision) (o : Verdict) → Gives r o → Gives t o → r ≡ t
 gives-same r t o g h =
     let reply = same-numbers (r .reply) (t .reply) (said-numbers (r .reply) (t .reply) (g .reply ∙ sym (h .reply))) in
     let mask = g .session ∙ sym (h .session) in

@@ -15,32 +15,32 @@ use Rattle.desk.specs.Reply.{refused as turned}
 use Rattle.desk.specs.Session.{openCount, unfit, stillOpen}
 
 -- what a call says, and the session that it leaves
-pub record Outcome : Type 0 where
+pub record Verdict : Type 0 where
   pub says : Said
   pub leaves : ℕ
 
 -- "On any refusal the session … stay[s] … and a count in the reply is 0."
-unfoldable pub turnedBack : ℕ → ℕ → ℕ → Outcome
+unfoldable pub turnedBack : ℕ → ℕ → ℕ → Verdict
 turnedBack mask number line = record { says = record { word = turned; count = 0; number = number; line = line }; leaves = mask }
 
 -- "keeps open only those that settle the query; if none would be left the answer is no and the session stays"
-unfoldable pub answered : ℕ → ℕ → Outcome
+unfoldable pub answered : ℕ → ℕ → Verdict
 answered mask left =
     cond (eqb left 0) (record { says = record { word = no; count = openCount mask; number = 0; line = 0 }; leaves = mask })
     (record { says = record { word = yes; count = openCount left; number = 0; line = 0 }; leaves = left })
 
-unfoldable pub decideQuery : Declared → ℕ → Reading → Outcome
+unfoldable pub decideQuery : Declared → ℕ → Reading → Verdict
 unfolding turnedBack answered stillOpen
 decideQuery d mask (refused n k) = turnedBack mask n k
 decideQuery d mask (accepted Q) = answered mask (stillOpen d Q mask)
 
 -- "Then 9 … Then the text", under what a loaded policy declares
-unfoldable pub decideUnder : Declared → ℕ → List ℕ → Outcome
+unfoldable pub decideUnder : Declared → ℕ → List ℕ → Verdict
 unfolding unfit turnedBack decideQuery read
 decideUnder d mask text = cond (unfit d mask) (turnedBack mask 9 0) (decideQuery d mask (read (d .widths) text))
 
 -- the reply and the session of a call
-pub record Gives (r : Decision) (o : Outcome) : Type 0 where
+pub record Gives (r : Decision) (o : Verdict) : Type 0 where
   pub reply : said (r .reply) ≡ o .says
   pub session : r .session .mask ≡ o .leaves
 

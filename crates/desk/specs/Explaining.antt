@@ -19,21 +19,21 @@ use Rattle.desk.specs.declared.explaining.Explaining.the-variants.{Settl
 
 -- what the reply says: whether an explanation is given, whether the partition settles the query, the list's length, the
 -- refusal's number and its line
-pub record Told : Type 0 where
+pub record SaidExplaining : Type 0 where
   pub given : Bool
   pub settles : Bool
   pub count : ℕ
   pub number : ℕ
   pub line : ℕ
 
-unfoldable pub told : Explaining → Told
-told (Settled n) = record { given = true; settles = true; count = n; number = 0; line = 0 }
-told (Unsettled n) = record { given = true; settles = false; count = n; number = 0; line = 0 }
-told (Refused n k) = record { given = false; settles = false; count = 0; number = n; line = k }
+unfoldable pub saidExplaining : Explaining → SaidExplaining
+saidExplaining (Settled n) = record { given = true; settles = true; count = n; number = 0; line = 0 }
+saidExplaining (Unsettled n) = record { given = true; settles = false; count = n; number = 0; line = 0 }
+saidExplaining (Refused n k) = record { given = false; settles = false; count = 0; number = n; line = k }
 
 -- what is said, and what the lent buffer then holds
 pub record Explained : Type 0 where
-  pub says : Told
+  pub says : SaidExplaining
   pub holds : List ℕ
 
 unfoldable pub notExplained : List ℕ → ℕ → ℕ → Explained
@@ -63,7 +63,7 @@ explainUnder d n text buffer =
 
 -- a reply and the buffer after the call
 pub record Explains (r : Explaining) (after : List ℕ) (o : Explained) : Type 0 where
-  pub reply : told r ≡ o .says
+  pub reply : saidExplaining r ≡ o .says
   pub buffer : after ≡ o .holds
 
 -- "Explaining. 8. Then 4 …"

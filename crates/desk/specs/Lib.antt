@@ -7,5 +7,5 @@ pub mod Calls
 pub mod Buffer
 pub mod Listing
 pub mod Rewriting
-pub mod Held
+pub mod HoldsLabels
 pub mod Explaining

@@ -14,19 +14,19 @@ use Rattle.desk.specs.declared.listing.Listing.{Listing}
 use Rattle.desk.specs.declared.listing.Listing.the-variants.{Given, Refused}
 
 -- what the reply says: whether labels are given, "the list's length", the refusal's number and its line
-pub record Told : Type 0 where
+pub record SaidListing : Type 0 where
   pub given : Bool
   pub count : ℕ
   pub number : ℕ
   pub line : ℕ
 
-unfoldable pub told : Listing → Told
-told (Given n) = record { given = true; count = n; number = 0; line = 0 }
-told (Refused n k) = record { given = false; count = 0; number = n; line = k }
+unfoldable pub saidListing : Listing → SaidListing
+saidListing (Given n) = record { given = true; count = n; number = 0; line = 0 }
+saidListing (Refused n k) = record { given = false; count = 0; number = n; line = k }
 
 -- what is said, and what the lent buffer then holds
 pub record Listed : Type 0 where
-  pub says : Told
+  pub says : SaidListing
   pub holds : List ℕ
 
 -- "On any refusal … lent buffers stay, no value is given, and a count in the reply is 0."
@@ -51,7 +51,7 @@ listReading d buffer (accepted Q) = listed buffer (labels (d .views) Q)
 
 -- a reply and the buffer after the call
 pub record Lists (r : Listing) (after : List ℕ) (o : Listed) : Type 0 where
-  pub reply : told r ≡ o .says
+  pub reply : saidListing r ≡ o .says
   pub buffer : after ≡ o .holds
 
 -- "Labels. 8, the text as above, then 10"

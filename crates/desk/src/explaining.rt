@@ -7,7 +7,7 @@ ghost use lib.ListN.{length, getD, take, drop};
 ghost use Rattle.model.specs.Limits.{upTo};
 ghost use Rattle.labels.specs.Settled.{settled};
 ghost use Rattle.explain.specs.Explanation.{explained};
-ghost use Rattle.desk.specs.Held.{Held, SomeLabels};
+ghost use Rattle.desk.specs.HoldsLabels.{HoldsLabels, SomeLabels};
 ghost use Rattle.desk.specs.Explaining.{ExplanationGiven, Explains, explainedBy};
 use labels::Labels;
 use model::Outcome;
@@ -52,7 +52,7 @@ fn is_among(n: u64, count: u64) -> bool
 // The words for a partition with these granted views at the head of the buffer, or 10.
 fn give_words(l: Labels, granted: u64, out: &mut [u32]) -> Explaining
     requires { ⌜ SomeLabels l ⌝ }
-    ensures { λ r. ⌜ ((ws : List ℕ) → Held l ws → Explains r (now (out .exit)) (explainedBy (now (out .entry)) (settled granted ws) (explained granted ws))) ⌝ }
+    ensures { λ r. ⌜ ((ws : List ℕ) → HoldsLabels l ws → Explains r (now (out .exit)) (explainedBy (now (out .entry)) (settled granted ws) (explained granted ws))) ⌝ }
 {
     let is_settled = labels::settles(l, granted);
     let w = explain::words_of(l, granted, is_settled);

@@ -15,18 +15,18 @@ use Rattle.text.specs.declared.Numeral.the-variants.{Malformed}
 use Rattle.model.specs.Fields.{Numbered, every, partitionLine}
 use Rattle.model.specs.Limits.{mostViews, mostPartitions, upTo}
 use Rattle.model.specs.Value.{upToValue}
-use Rattle.entries.specs.Value.{noViews, listed, listedValue, noPartition, partitionValue}
-use Rattle.entries.specs.declared.Listed.{Listed}
+use Rattle.entries.specs.Value.{noViews, viewList, viewListValue, noPartition, partitionValue}
+use Rattle.entries.specs.declared.ViewList.{ViewList}
 use Rattle.entries.proofs.Numbered.{NumberRead, number-read, unnumbered}
 use Rattle.entries.proofs.Told.{Told, malformed, past, within, entry-malformed, entry-outside, entry-past, entry-within}
 
-told-listed : (q : Option (List ℕ)) → Told (all (upTo mostViews)) q (listedValue q .ok) (listedValue q .outside)
-unfolding listedValue noViews listed
+told-listed : (q : Option (List ℕ)) → Told (all (upTo mostViews)) q (viewListValue q .ok) (viewListValue q .outside)
+unfolding viewListValue noViews viewList
 told-listed none = malformed refl refl
 told-listed (some vs) = go (all (upTo mostViews) vs) refl
   where
-    read : Bool → Listed
-    read t = cond t (listed vs) (noViews true)
+    read : Bool → ViewList
+    read t = cond t (viewList vs) (noViews true)
 
     go : (t : Bool) → all (upTo mostViews) vs ≡ t → Told (all (upTo mostViews)) (some vs) (read t .ok) (read t .outside)
     go true e = within vs refl e refl refl
@@ -41,7 +41,7 @@ module _ (s : List ℕ) {n : ℕ} {number : Numeral} (first : n ≡ before 32 s)
   unfolding partitionValue
   partition-unnumbered e = ap partitionValue (sym (unnumbered partition-read e))
 
-module _ {l : Option (Numbered (List ℕ))} {number : Numeral} {p : Listed} {q : Option (List ℕ)} (r : NumberRead l number q) (said : p ≡ listedValue q) where
+module _ {l : Option (Numbered (List ℕ))} {number : Numeral} {p : ViewList} {q : Option (List ℕ)} (r : NumberRead l number q) (said : p ≡ viewListValue q) where
   told : Told (all (upTo mostViews)) q (p .ok) (p .outside)
   told = rw said (told-listed q)
 
@@ -60,10 +60,10 @@ module _ {l : Option (Numbered (List ℕ))} {number : Numeral} {p : Listed} {q :
 
   pub partition-within : {k : ℕ} → p .ok ≡ true → p .outside ≡ false → k ≡ upToValue number 32 → (k ≡ 0 → ⊥)
       → record { ok = true; outside = false; number = k; listed = p } ≡ partitionValue l
-  unfolding partitionValue mostPartitions listedValue
+  unfolding partitionValue mostPartitions viewListValue
   partition-within {k} ok e up f =
       let w = entry-within r told 32 (lit≤ tt) ok e up f in
-      let is : p ≡ listed (w .0) = said ∙ ap listedValue (w .1) ∙ rw (w .2) in
+      let is : p ≡ viewList (w .0) = said ∙ ap viewListValue (w .1) ∙ rw (w .2) in
       sym
       (ap partitionValue (w .3)
-      ∙ rw (w .4) (ap (λ (v : Listed). record { ok = true; outside = false; number = k; listed = v }) (sym is)))
+      ∙ rw (w .4) (ap (λ (v : ViewList). record { ok = true; outside = false; number = k; listed = v }) (sym is)))

@@ -8,8 +8,8 @@ use borrow.Author.Tests.{lt-ltb}
 use Rattle.words.specs.Bits.{setBit}
 use Rattle.policy.specs.Text.{ascend}
 use Rattle.policy.specs.Policy.{viewsAfter}
-use Rattle.entries.specs.Value.{lastAfter, listed}
-use Rattle.entries.specs.declared.Listed.{Listed}
+use Rattle.entries.specs.Value.{lastAfter, viewList}
+use Rattle.entries.specs.declared.ViewList.{ViewList}
 
 pub last-more : (n : ℕ) (vs : List ℕ) (v : ℕ) → lastAfter n (vs ++ v ∷ []) ≡ v
 unfolding lastAfter
@@ -28,16 +28,16 @@ ascend-more (w ∷ []) v h = and-true (ltb w v)
 ascend-more (w ∷ x ∷ vs) v h = rw (ascend-more (x ∷ vs) v h) (sym (and-assoc (ltb w x) (ascend (x ∷ vs)) (ltb (lastAfter x vs) v)))
 
 -- the value of one view more
-pub listed-more : (l : Listed) (v m : ℕ) (a : Bool) → 1 ≤ v → a ≡ (l .ascending && ltb (l .last) v) → m ≡ setBit (l .views) (v - 1)
-    → (vs : List ℕ) → l ≡ listed vs → record { ok = l .ok; outside = l .outside; ascending = a; views = m; last = v } ≡ listed (vs ++ v ∷ [])
-unfolding listed
+pub listed-more : (l : ViewList) (v m : ℕ) (a : Bool) → 1 ≤ v → a ≡ (l .ascending && ltb (l .last) v) → m ≡ setBit (l .views) (v - 1)
+    → (vs : List ℕ) → l ≡ viewList vs → record { ok = l .ok; outside = l .outside; ascending = a; views = m; last = v } ≡ viewList (vs ++ v ∷ [])
+unfolding viewList
 listed-more l v m a h ea em vs e =
     let rises : a ≡ ascend (vs ++ v ∷ []) = ea ∙ rw (e, ascend-more vs v h) in
     let bits : m ≡ viewsAfter 0 (vs ++ v ∷ []) = em ∙ rw (e, views-more) in
     λ i.
     record {
-      ok = ap (λ (x : Listed). x .ok) e i;
-      outside = ap (λ (x : Listed). x .outside) e i;
+      ok = ap (λ (x : ViewList). x .ok) e i;
+      outside = ap (λ (x : ViewList). x .outside) e i;
       ascending = rises i;
       views = bits i;
       last = sym (last-more 0 vs v) i;

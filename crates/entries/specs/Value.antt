@@ -13,7 +13,7 @@ use Rattle.policy.specs.Text.{ascend}
 use Rattle.policy.specs.Policy.{viewsAfter}
 use Rattle.entries.specs.declared.TableLine.{TableLine}
 use Rattle.entries.specs.declared.ViewLine.{ViewLine}
-use Rattle.entries.specs.declared.Listed.{Listed}
+use Rattle.entries.specs.declared.ViewList.{ViewList}
 use Rattle.entries.specs.declared.PartitionLine.{PartitionLine}
 
 -- ---- a table
@@ -44,7 +44,7 @@ viewValue (some e) =
 
 -- ---- a partition
 
-unfoldable pub noViews : Bool → Listed
+unfoldable pub noViews : Bool → ViewList
 noViews ok = record { ok = ok; outside = ok; ascending = false; views = 0; last = 0 }
 
 -- the last of the views, n where there is none
@@ -53,22 +53,22 @@ lastAfter n [] = n
 lastAfter n (v ∷ vs) = lastAfter v vs
 
 -- whether the views ascend, as bits, and the last of them
-unfoldable pub listed : List ℕ → Listed
+unfoldable pub viewList : List ℕ → ViewList
 unfolding ascend viewsAfter lastAfter
-listed vs = record { ok = true; outside = false; ascending = ascend vs; views = viewsAfter 0 vs; last = lastAfter 0 vs }
+viewList vs = record { ok = true; outside = false; ascending = ascend vs; views = viewsAfter 0 vs; last = lastAfter 0 vs }
 
-unfoldable pub listedValue : Option (List ℕ) → Listed
-unfolding noViews all upTo mostViews listed
-listedValue none = noViews false
-listedValue (some vs) = cond (all (upTo mostViews) vs) (listed vs) (noViews true)
+unfoldable pub viewListValue : Option (List ℕ) → ViewList
+unfolding noViews all upTo mostViews viewList
+viewListValue none = noViews false
+viewListValue (some vs) = cond (all (upTo mostViews) vs) (viewList vs) (noViews true)
 
 unfoldable pub noPartition : Bool → PartitionLine
 unfolding noViews
 noPartition ok = record { ok = ok; outside = ok; number = 0; listed = noViews ok }
 
 unfoldable pub partitionValue : Option (Numbered (List ℕ)) → PartitionLine
-unfolding noPartition upTo mostPartitions all mostViews listed
+unfolding noPartition upTo mostPartitions all mostViews viewList
 partitionValue none = noPartition false
 partitionValue (some e) =
     cond (upTo mostPartitions (e .number) && all (upTo mostViews) (e .value))
-    (record { ok = true; outside = false; number = e .number; listed = listed (e .value) }) (noPartition true)
+    (record { ok = true; outside = false; number = e .number; listed = viewList (e .value) }) (noPartition true)

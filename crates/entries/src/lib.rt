@@ -7,7 +7,7 @@ ghost use lib.ListN.{length};
 ghost use Rattle.text.specs.Lines.{fields, fieldsFrom};
 ghost use Rattle.text.specs.Numeral.{numeral};
 ghost use Rattle.model.specs.Fields.{every, tableLine, viewLine, partitionLine};
-ghost use Rattle.entries.specs.Value.{noTable, tableValue, noView, viewValue, noViews, listed, listedValue, noPartition, partitionValue};
+ghost use Rattle.entries.specs.Value.{noTable, tableValue, noView, viewValue, noViews, viewList, viewListValue, noPartition, partitionValue};
 use model::Parsed;
 use text::Numeral;
 
@@ -36,7 +36,7 @@ pub struct ViewLine {
 }
 
 // The views of a partition, view n at bit n - 1, whether they ascend strictly, and the last.
-pub struct Listed {
+pub struct ViewList {
     pub ok: bool,
     pub outside: bool,
     pub ascending: bool,
@@ -49,7 +49,7 @@ pub struct PartitionLine {
     pub ok: bool,
     pub outside: bool,
     pub number: u64,
-    pub listed: Listed,
+    pub listed: ViewList,
 }
 
 fn no_table(ok: bool) -> TableLine
@@ -140,10 +140,10 @@ pub fn read_view(line: &[u8]) -> ViewLine
     }
 }
 
-fn no_views(ok: bool) -> Listed
+fn no_views(ok: bool) -> ViewList
     ensures { λ r. ⌜ r ≡ noViews ok ⌝ }
 {
-    Listed {
+    ViewList {
         ok,
         outside: ok,
         ascending: false,
@@ -152,10 +152,10 @@ fn no_views(ok: bool) -> Listed
     }
 }
 
-fn none_listed() -> Listed
-    ensures { λ r. ⌜ r ≡ listed [] ⌝ }
+fn none_listed() -> ViewList
+    ensures { λ r. ⌜ r ≡ viewList [] ⌝ }
 {
-    Listed {
+    ViewList {
         ok: true,
         outside: false,
         ascending: true,
@@ -165,15 +165,15 @@ fn none_listed() -> Listed
 }
 
 // The views with one more behind them.
-fn with_view(l: Listed, v: u64) -> Listed
+fn with_view(l: ViewList, v: u64) -> ViewList
     requires { ⌜ (1 ≤ v) × (v ≤ 32) ⌝ }
-    ensures { λ r. ⌜ ((vs : List ℕ) → l ≡ listed vs → r ≡ listed (vs ++ v ∷ [])) ⌝ }
+    ensures { λ r. ⌜ ((vs : List ℕ) → l ≡ viewList vs → r ≡ viewList (vs ++ v ∷ [])) ⌝ }
 {
     let mut ascending = l.ascending;
     if v <= l.last {
         ascending = false;
     }
-    Listed {
+    ViewList {
         ok: l.ok,
         outside: l.outside,
         ascending,
@@ -183,9 +183,9 @@ fn with_view(l: Listed, v: u64) -> Listed
 }
 
 // The views that a partition lists.
-fn read_views(s: &[u8]) -> Listed
+fn read_views(s: &[u8]) -> ViewList
     requires { ⌜ length (now s) < 2 ^ 32 ⌝ }
-    ensures { λ r. ⌜ r ≡ listedValue (every numeral (fields (now (s .entry)))) ⌝ }
+    ensures { λ r. ⌜ r ≡ viewListValue (every numeral (fields (now (s .entry)))) ⌝ }
 {
     let mut l = none_listed();
     let mut outside = false;
@@ -223,9 +223,9 @@ fn no_partition(ok: bool) -> PartitionLine
 }
 
 // The views behind a partition's number, which ends at `n`.
-fn listed_after(line: &[u8], n: usize) -> Listed
+fn listed_after(line: &[u8], n: usize) -> ViewList
     requires { ⌜ length (now line) < 2 ^ 32 ⌝ }
-    ensures { λ r. ⌜ r ≡ listedValue (every numeral (fieldsFrom (now (line .entry)) (n + 1))) ⌝ }
+    ensures { λ r. ⌜ r ≡ viewListValue (every numeral (fieldsFrom (now (line .entry)) (n + 1))) ⌝ }
 {
     if n < line.len() {
         let from = n + 1;

@@ -16,18 +16,18 @@ use Rattle.theory.specs.Executable.Cover.{obeys, covers}
 use Rattle.theory.proofs.Executable.Test.{allBelow-iff}
 use Rattle.theory.proofs.Tuples.{getD-map}
 use Rattle.model.specs.Value.{unusedTerm, termValue, lineValue}
-use Rattle.model.specs.Rows.{Row, termAt, laidTerm}
+use Rattle.model.specs.Rows.{LaidAt, termAt, laidTerm}
 use Rattle.model.proofs.Pad.{pad-get}
 use Rattle.model.proofs.Terms.{terms-few}
 use Rattle.words.proofs.Answers.{true-holds, holds-true, fails-false}
 
 -- row k holds a line of n columns
 pub record Wide (n : ℕ) (rows : List ℕ) (k : ℕ) (view : TheLine) : Type 0 where
-  pub is : Row rows k (lineValue view)
+  pub is : LaidAt rows k (lineValue view)
   pub width : length (view .columns) ≡ n
 
 module _ {n : ℕ} {rows : List ℕ} {k : ℕ} {view : TheLine} where
-  pub wide : Row rows k (lineValue view) → length (view .columns) ≡ n → Wide n rows k view
+  pub wide : LaidAt rows k (lineValue view) → length (view .columns) ≡ n → Wide n rows k view
   wide e w = record { is = e; width = w }
 
   pub column : n ≤ 8 → Wide n rows k view → (p : ℕ) → p < n → laidTerm rows k p ≡ termValue (at view p)

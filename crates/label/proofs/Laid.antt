@@ -7,7 +7,7 @@ use lib.ListN.{length, getD}
 use Rattle.theory.specs.Query.{Line as TheLine}
 use Rattle.theory.proofs.Lists.{place-below}
 use Rattle.model.specs.Value.{pad}
-use Rattle.model.specs.Rows.{Row, LaidInto}
+use Rattle.model.specs.Rows.{LaidAt, LaidInto}
 use Rattle.model.specs.declared.Line.{Line}
 use Rattle.model.specs.declared.Policy.{Policy}
 use Rattle.model.proofs.Pad.{pad-length}
@@ -35,7 +35,7 @@ module _ (p : Policy) where
     held-laid : 32 ≤ k → {views : List TheLine} → Holds p views → LaidViews rows views
     held-laid all {views} held = record {
       row = λ n v e.
-          subst (Row rows n) (view-value held n v e) (l .row n (omega (arith, place-below views n e, held .few)));
+          subst (LaidAt rows n) (view-value held n v e) (l .row n (omega (arith, place-below views n e, held .few)));
     }
 
     pub laid-all : 32 ≤ k → ViewsLaid p rows

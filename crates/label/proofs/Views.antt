@@ -18,7 +18,7 @@ use Rattle.theory.proofs.Lists.{none≢some, at-place, place-below}
 use Rattle.theory.proofs.Executable.Cover.{covers-iff}
 use Rattle.theory.proofs.Executable.Label.{viewBits-bit, viewBits-below}
 use Rattle.model.specs.Value.{pad, unusedLine, lineValue}
-use Rattle.model.specs.Rows.{laidTable, Row}
+use Rattle.model.specs.Rows.{laidTable, LaidAt}
 use Rattle.model.specs.declared.Line.{Line}
 use Rattle.model.specs.declared.Policy.{Policy}
 use Rattle.label.specs.Labelled.{Holds, OfTable, Labelled}
@@ -80,7 +80,7 @@ module _ {rows : List ℕ} {mask width : ℕ} {lines : List ℕ} {a : ℕ} {view
     (l : Labelled rows mask width lines a views A) where
   -- what the test of covering says at a place of the mask
   pub answered : (k : ℕ) (b : Bool) → bit mask k ≡ 1
-      → ((view line : TheLine) → Row rows k (lineValue view) → Row lines a (lineValue line)
+      → ((view line : TheLine) → LaidAt rows k (lineValue view) → LaidAt lines a (lineValue line)
       → view .table ≡ line .table → length (view .columns) ≡ width → length (line .columns) ≡ width → b ≡ covers view line)
       → (b ≡ true) ↔ Covering views A k
   answered k b e test =

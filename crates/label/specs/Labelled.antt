@@ -10,7 +10,7 @@ use Rattle.theory.specs.Query.{_∈_}
 use Rattle.theory.specs.Query.{Line as TheLine}
 use Rattle.words.specs.Bits.{bit}
 use Rattle.model.specs.Value.{pad, unusedLine, lineValue}
-use Rattle.model.specs.Rows.{Row}
+use Rattle.model.specs.Rows.{LaidAt}
 use Rattle.model.specs.declared.Policy.{Policy}
 
 -- the policy holds these views and no other
@@ -35,7 +35,7 @@ pub record TableMasks (p : Policy) (masks : List ℕ) : Type 0 where
 
 -- the rows of views, view n in row n - 1
 pub record LaidViews (rows : List ℕ) (views : List TheLine) : Type 0 where
-  pub row : (k : ℕ) (v : TheLine) → getElem? views k ≡ some v → Row rows k (lineValue v)
+  pub row : (k : ℕ) (v : TheLine) → getElem? views k ≡ some v → LaidAt rows k (lineValue v)
 
 -- the rows of a policy's views
 pub record ViewsLaid (p : Policy) (rows : List ℕ) : Type 0 where
@@ -47,7 +47,7 @@ pub record ViewsLaid (p : Policy) (rows : List ℕ) : Type 0 where
 pub record Labelled (rows : List ℕ) (mask width : ℕ) (lines : List ℕ) (a : ℕ) (views : List TheLine) (A : TheLine) : Type 0 where
   pub few : length views ≤ 32
   pub laid : LaidViews rows views
-  pub line : Row lines a (lineValue A)
+  pub line : LaidAt lines a (lineValue A)
   pub bits : OfTable views (A .table) mask
   pub lineWidth : length (A .columns) ≡ width
   pub viewWidths : (v : TheLine) → v ∈ views → v .table ≡ A .table → length (v .columns) ≡ width

@@ -9,7 +9,7 @@ ghost use Rattle.theory.specs.Query.{Term as TheTerm, Line as TheLine};
 ghost use Rattle.theory.specs.Executable.Cover.{obeys as obeysRules, covers as coversLine};
 ghost use Rattle.theory.specs.Executable.Label.{label};
 ghost use Rattle.model.specs.Value.{termValue, lineValue};
-ghost use Rattle.model.specs.Rows.{HasRow, laidTable, Row};
+ghost use Rattle.model.specs.Rows.{HasRow, laidTable, LaidAt};
 ghost use Rattle.label.specs.Labelled.{TableMasks, ViewsLaid, Labelled};
 ghost use Rattle.label.specs.Order.{atOrBelow};
 use model::CONSTANT;
@@ -49,7 +49,7 @@ fn obeys(v: Term, w: Term, a: Term, b: Term) -> bool
 // The first broken rule ends the comparison.
 pub fn covers(width: usize, views: &[u64], v: usize, lines: &[u64], a: usize) -> bool
     requires { ⌜ (width ≤ 8) × HasRow (now views) v × HasRow (now lines) a ⌝ }
-    ensures { λ r. ⌜ ((view line : TheLine) → Row (now (views .entry)) v (lineValue view) → Row (now (lines .entry)) a (lineValue line) → view .table ≡ line .table → length (view .columns) ≡ width → length (line .columns) ≡ width → r ≡ coversLine view line) ⌝ }
+    ensures { λ r. ⌜ ((view line : TheLine) → LaidAt (now (views .entry)) v (lineValue view) → LaidAt (now (lines .entry)) a (lineValue line) → view .table ≡ line .table → length (view .columns) ≡ width → length (line .columns) ≡ width → r ≡ coversLine view line) ⌝ }
 {
     let mut ok = true;
     let mut p = 0;

@@ -18,13 +18,13 @@ use Rattle.theory.proofs.Executable.Reduce.{reduce-reduces}
 use Rattle.theory.proofs.Tuples.{getD-mem, fits-over}
 use Rattle.words.specs.Bits.{isSet}
 use Rattle.model.specs.Limits.{mostColumns, mostTables, mostViews, wide}
-use Rattle.model.specs.Rows.{laidTable, Row}
+use Rattle.model.specs.Rows.{laidTable, LaidAt}
 use Rattle.model.specs.Value.{pad, lineValue}
 use Rattle.model.specs.declared.Tables.{Tables}
 use Rattle.model.specs.declared.Query.{Query as QueryValue}
 use Rattle.model.proofs.Pad.{pad-more}
 use Rattle.policy.specs.Text.{Declared}
-use Rattle.policy.proofs.Value.{up-to-iff}
+use Rattle.model.proofs.Limits.{up-to-iff}
 use Rattle.label.specs.Labelled.{Labelled}
 use Rattle.reduce.specs.Agree.{lineAt}
 use Rattle.reduce.specs.Left.{pick, linesAt}
@@ -92,7 +92,7 @@ module _ {d : Declared} {Q : Query} {w : ℕ} {lines : List ℕ} (r : Rows d Q w
       → LineOf d lines i (over f (lineAt Q i))
   unfolding lineAt
   line-of f e = record {
-    line = subst (Row lines i) e (r .row i h);
+    line = subst (LaidAt lines i) e (r .row i h);
     fits = fits-over f (lineAt Q i) (r .fits (lineAt Q i) (getD-mem Q i _ h));
   }
 

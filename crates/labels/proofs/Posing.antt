@@ -26,7 +26,7 @@ use Rattle.query.proofs.Accepted.{WellRead, accepted-well-read}
 use Rattle.policy.specs.Text.{Declared}
 use Rattle.policy.specs.Value.{WellFormed}
 use Rattle.policy.specs.Policy.{policyValue}
-use Rattle.policy.proofs.Value.{up-to-iff}
+use Rattle.model.proofs.Limits.{up-to-iff}
 use Rattle.label.specs.Labelled.{Holds, TableMasks, ViewsLaid}
 use Rattle.reduce.specs.Showing.{Small}
 use Rattle.labels.specs.Posed.{Ready, Posed}

@@ -6,7 +6,7 @@ use lib.ListN.{length, getD}
 use Rattle.theory.specs.Query.{Fits, _∈_}
 use Rattle.theory.specs.Query.{Line as TheLine, Query as TheQuery}
 use Rattle.theory.specs.Archive.{AllFit}
-use Rattle.model.specs.Rows.{Row}
+use Rattle.model.specs.Rows.{LaidAt}
 use Rattle.model.specs.Value.{pad, lineValue, tablesValue}
 use Rattle.model.specs.declared.Query.{Query}
 use Rattle.model.specs.declared.Tables.{Tables}
@@ -14,7 +14,7 @@ use Rattle.policy.specs.Text.{Declared}
 use Rattle.policy.specs.Value.{WellFormed}
 use Rattle.label.specs.Labelled.{OfTable, LaidViews}
 use Rattle.reduce.specs.Agree.{lineAt}
-use Rattle.reduce.specs.Laid.{Held}
+use Rattle.reduce.specs.Laid.{HoldsQuery}
 use Rattle.reduce.specs.Showing.{Small, showLine}
 use Rattle.labels.specs.declared.Labels.{Labels}
 
@@ -36,12 +36,12 @@ SomeReady tables masks rows = (d : Declared) × Ready d tables masks rows
 
 -- row i has a line of one of the policy's tables
 pub record LineOf (d : Declared) (rows : List ℕ) (i : ℕ) (A : TheLine) : Type 0 where
-  pub line : Row rows i (lineValue A)
+  pub line : LaidAt rows i (lineValue A)
   pub fits : Fits (d .widths) A
 
 -- q holds a query on the policy's tables
 pub record Posed (q : Query) (d : Declared) (Q : TheQuery) : Type 0 where
-  pub query : Held q Q
+  pub query : HoldsQuery q Q
   pub small : Small Q
   pub fits : AllFit (d .widths) Q
 
@@ -51,7 +51,7 @@ pub record Rows (d : Declared) (Q : TheQuery) (w : ℕ) (rows : List ℕ) : Type
   pub columns : (A : TheLine) → A ∈ Q → length (A .columns) ≤ 8
   pub small : Small Q
   pub fits : AllFit (d .widths) Q
-  pub row : (i : ℕ) → i < length Q → Row rows i (showLine w (lineValue (lineAt Q i)))
+  pub row : (i : ℕ) → i < length Q → LaidAt rows i (showLine w (lineValue (lineAt Q i)))
 
 -- ---- the labels
 

@@ -11,7 +11,7 @@ use Rattle.model.specs.declared.Line.{Line as LineValue}
 use Rattle.model.proofs.Pad.{pad-more}
 use Rattle.policy.specs.Text.{Declared}
 use Rattle.policy.specs.Policy.{policyValue, viewsAfter}
-use Rattle.entries.specs.Value.{listed}
+use Rattle.entries.specs.Value.{viewList}
 use Rattle.load.specs.Value.{moreTables, moreViews, morePartitions}
 
 -- an entry more behind entries that are made of a list
@@ -89,7 +89,7 @@ module _ (d : Declared) (p : Policy) (e : p ≡ policyValue d) where
         partitions = e i .partitions;
       }
 
-  pub partition-more : (vs : List ℕ) (m : ℕ) → m ≡ listed vs .views → p .«partition_count» < 32
+  pub partition-more : (vs : List ℕ) (m : ℕ) → m ≡ viewList vs .views → p .«partition_count» < 32
       → _≡_ {A = Policy}
       (record {
         tables = p .tables;
@@ -99,7 +99,7 @@ module _ (d : Declared) (p : Policy) (e : p ≡ policyValue d) where
         partitions = set (p .partitions) (p .«partition_count») m;
       })
       (policyValue (morePartitions d vs))
-  unfolding policyValue morePartitions listed
+  unfolding policyValue morePartitions viewList
   partition-more vs m g h =
       let count : p .«partition_count» + 1 ≡ length (d .partitions ++ vs ∷ []) =
       ap (λ (q : Policy). q .«partition_count» + 1) e ∙ sym (length-append (d .partitions) (vs ∷ [])) in

@@ -13,7 +13,7 @@ use Rattle.theory.specs.Executable.Test.{all, any}
 use Rattle.model.specs.Fields.{Numbered, partitionLine}
 use Rattle.model.specs.Limits.{upTo, mostViews, mostPartitions, firstFault}
 use Rattle.policy.specs.Text.{Declared, ascend, partitionFault, faulty, entered, enter, partitions as partitionBlock}
-use Rattle.entries.specs.Value.{partitionValue, noPartition, listed, lastAfter}
+use Rattle.entries.specs.Value.{partitionValue, noPartition, viewList, lastAfter}
 use Rattle.entries.specs.declared.PartitionLine.{PartitionLine}
 use Rattle.load.specs.Value.{lineFault, morePartitions}
 use Rattle.load.proofs.Lines.{Kind, Within, reading, within, malformed-fault, outside-fault, within-fault, in-turn, out-of-turn, taken, taken-entered, faulty-entered}
@@ -66,7 +66,7 @@ partitionKind =
       outside = λ t. t .outside;
       number = λ t. t .number;
       no-more = noPartition;
-      good = λ e. record { ok = true; outside = false; number = e .number; listed = listed (e .value) };
+      good = λ e. record { ok = true; outside = false; number = e .number; listed = viewList (e .value) };
       test = λ e. upTo mostPartitions (e .number) && all (upTo mostViews) (e .value);
       ok-no-more = λ b. refl;
       outside-no-more = λ b. refl;
@@ -107,7 +107,7 @@ module _ (d : Declared) (o : Option (Numbered (List ℕ))) (views partitions : �
     unfolding partitionKind
     partition-within = within partitionKind o t read ok inside
 
-    is-listed : t .listed ≡ listed (partition-within .entry .value)
+    is-listed : t .listed ≡ viewList (partition-within .entry .value)
     unfolding partitionKind
     is-listed = ap (λ (l : PartitionLine). l .listed) (partition-within .line)
 
@@ -121,7 +121,7 @@ module _ (d : Declared) (o : Option (Numbered (List ℕ))) (views partitions : �
         rw e at checked
 
     ascends : t .listed .ascending ≡ ascend (partition-within .entry .value)
-    unfolding listed
+    unfolding viewList
     ascends = ap (λ l. l .ascending) is-listed
 
     module _ (turn : t .number - 1 ≡ partitions) where
@@ -134,7 +134,7 @@ module _ (d : Declared) (o : Option (Numbered (List ℕ))) (views partitions : �
       partition-not-ascending e = rw (turned, sym ascends ∙ e) at checked
 
       last : ltb views (t .listed .last) ≡ ltb (length (d .views)) (lastAfter 0 (partition-within .entry .value))
-      unfolding listed
+      unfolding viewList
       last = ap₂ ltb view-count (ap (λ l. l .last) is-listed)
 
       pub partition-unknown : t .listed .ascending ≡ true → views < t .listed .last → 4 ≡ lineFault o (partitionFault d)
@@ -171,7 +171,7 @@ module _ (d : Declared) (l : List ℕ) (views partitions : ℕ) (t : PartitionLi
     pub new-partition : List ℕ
     new-partition = taken-partition .entry .value
 
-    pub new-partition-value : t .listed .views ≡ listed new-partition .views
+    pub new-partition-value : t .listed .views ≡ viewList new-partition .views
     unfolding new-partition partitionKind
     new-partition-value = ap (λ (k : PartitionLine). k .listed .views) (taken-partition .line)
 

@@ -52,8 +52,8 @@ morePartitions d vs = record { widths = d .widths; views = d .views; partitions 
 abbrev pub Numbering : ℕ → Bool → Bool → ℕ → Type 0
 Numbering most ok outside n = ok ≡ true → outside ≡ false → (1 ≤ n) × (n ≤ most)
 
-abbrev pub Tabled : Bool → Bool → Parsed → Type 0
-Tabled ok outside v = ok ≡ true → outside ≡ false → (1 ≤ v .table) × (v .table ≤ 16)
+abbrev pub ViewTabled : Bool → Bool → Parsed → Type 0
+ViewTabled ok outside v = ok ≡ true → outside ≡ false → (1 ≤ v .table) × (v .table ≤ 16)
 
 -- a block's number
 unfoldable pub blockNumber : Block → ℕ

@@ -10,8 +10,8 @@ ghost use Rattle.model.specs.Fields.{Numbered};
 ghost use Rattle.model.specs.Value.{tablesValue, goodValue};
 ghost use Rattle.policy.specs.Text.{Declared, enter, tables as tableBlock, views as viewBlock, partitions as partitionBlock, tableFault, viewFault, partitionFault};
 ghost use Rattle.policy.specs.Policy.{policyValue};
-ghost use Rattle.entries.specs.Value.{tableValue, viewValue, partitionValue, listed as listedValue};
-ghost use Rattle.load.specs.Value.{enteredValue, lineFault, Tabled, Numbering, moreTables, moreViews, morePartitions};
+ghost use Rattle.entries.specs.Value.{tableValue, viewValue, partitionValue, viewList};
+ghost use Rattle.load.specs.Value.{enteredValue, lineFault, ViewTabled, Numbering, moreTables, moreViews, morePartitions};
 use entries::PartitionLine;
 use entries::TableLine;
 use entries::ViewLine;
@@ -77,7 +77,7 @@ pub fn enter_table(p: Policy, line: &[u8]) -> Entered
 
 // The checks of a view's line against the tables and the number of views so far.
 fn view_fault(tables: Tables, views: usize, e: ViewLine) -> u64
-    requires { ⌜ Numbering 32 (e .ok) (e .outside) (e .number) × Tabled (e .ok) (e .outside) (e .view) ⌝ }
+    requires { ⌜ Numbering 32 (e .ok) (e .outside) (e .number) × ViewTabled (e .ok) (e .outside) (e .view) ⌝ }
     ensures { λ r. ⌜ ((d : Declared) (o : Option (Numbered TheLine)) → tables ≡ tablesValue (d .widths) → views ≡ length (d .views) → e ≡ viewValue o → r ≡ lineFault o (viewFault d)) ⌝ }
     ensures { λ r. ⌜ (r ≡ 0 → views < 32) ⌝ }
 {
@@ -154,7 +154,7 @@ fn partition_fault(views: usize, partitions: usize, e: PartitionLine) -> u64
 
 fn with_partition(p: Policy, views: u64) -> Policy
     requires { ⌜ p .«partition_count» < 32 ⌝ }
-    ensures { λ r. ⌜ ((d : Declared) (vs : List ℕ) → p ≡ policyValue d → views ≡ listedValue vs .views → r ≡ policyValue (morePartitions d vs)) ⌝ }
+    ensures { λ r. ⌜ ((d : Declared) (vs : List ℕ) → p ≡ policyValue d → views ≡ viewList vs .views → r ≡ policyValue (morePartitions d vs)) ⌝ }
 {
     let mut r = p;
     let at = p.partition_count;

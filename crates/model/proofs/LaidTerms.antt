@@ -6,7 +6,7 @@ use native.Mathlib.Decide.{ℕ-discrete}
 use native.Mathlib.Omega.{arith}
 use lib.ListN.{length, getD, set, length-set}
 use lib.Seq.{getD-set-same, getD-set-other}
-use Rattle.model.specs.Rows.{termAt, laidTerm, Row, LaidInto}
+use Rattle.model.specs.Rows.{termAt, laidTerm, LaidAt, LaidInto}
 use Rattle.model.specs.declared.Term.{Term}
 use Rattle.model.specs.declared.Line.{Line}
 
@@ -18,7 +18,7 @@ pub same-term : (rows rows′ : List ℕ) (k p : ℕ) → getD rows′ (k * 17 +
 unfolding laidTerm
 same-term rows rows′ k p e f = λ i. record { mark = e i; number = f i }
 
-pub row-stays : {a b : Line} {j k : ℕ} {rows rows′ : List ℕ} → j < k → LaidInto b k rows rows′ → Row rows j a → Row rows′ j a
+pub row-stays : {a b : Line} {j k : ℕ} {rows rows′ : List ℕ} → j < k → LaidInto b k rows rows′ → LaidAt rows j a → LaidAt rows′ j a
 row-stays {j = j} {rows = rows} {rows′} h l r = record {
   table = l .before (j * 17) (omega arith) ∙ r .table;
   term = λ p b.
@@ -109,7 +109,7 @@ line-laid {a} {k} {p} {rows} {rows′} l h room =
 
 -- the rows before k have the lines of a function
 abbrev pub RowsTo : (ℕ → Line) → ℕ → List ℕ → Type 0
-RowsTo f k rows = (j : ℕ) → j < k → Row rows j (f j)
+RowsTo f k rows = (j : ℕ) → j < k → LaidAt rows j (f j)
 
 pub rows-none : (f : ℕ → Line) (rows : List ℕ) → RowsTo f 0 rows
 rows-none f rows j h = absurd (omega arith)
@@ -118,6 +118,6 @@ pub rows-more : (f : ℕ → Line) {k : ℕ} {rows rows′ : List ℕ} {a : Line
     → RowsTo f (k + 1) rows′
 rows-more f {k} {rows} {rows′} r e l j h = go (ℕ-discrete j k)
   where
-    go : Dec (j ≡ k) → Row rows′ j (f j)
-    go (yes x) = rw x (subst (Row rows′ k) e (l .row))
+    go : Dec (j ≡ k) → LaidAt rows′ j (f j)
+    go (yes x) = rw x (subst (LaidAt rows′ k) e (l .row))
     go (no n) = row-stays (omega arith) l (r j (omega arith))

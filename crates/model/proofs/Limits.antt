@@ -1,11 +1,11 @@
 -- What the checks of a line say of it in the theory's terms.
 use mathlib.Core.Path.{_≡_, refl, subst}
-use mathlib.Core.Logic.{⊎-elim}
+use mathlib.Core.Logic.{_↔_, ⊎-elim}
 use mathlib.Core.Bool.{Bool, true, false, cond, not}
 use mathlib.Core.List.{List, [], _∷_, _++_, List·Memᴰ·head, List·Memᴰ·tail, List·Memᴰ·append-cases, List·Memᴰ·eq-of-singleton}
-use Prim.Native.Nat.{ℕ, suc}
+use Prim.Native.Nat.{ℕ, suc, _≤_}
 use native.Mathlib.Nat.{suc-ne-zero}
-use lib.Dec.{T, leb, eqb→eq, leb→le, T-not}
+use lib.Dec.{T, leb, eqb→eq, leb→le, le→leb, T-not}
 use lib.ListN.{length}
 use Rattle.theory.specs.Query.{Term, shown, hidden, Line, _∈_, NoClash, Fits}
 use Rattle.theory.specs.Executable.Test.{all, any}
@@ -20,6 +20,14 @@ no-fault false n rest e = (tt, e)
 pub not-not : (b : Bool) → T (not (not b)) → T b
 not-not true h = h
 not-not false h = h
+
+-- the test of a limit is the statement that it is kept
+pub up-to-iff : (most n : ℕ) → T (upTo most n) ↔ ((1 ≤ n) × (n ≤ most))
+unfolding upTo
+up-to-iff most n = (
+  λ h. let k = and-iff (leb 1 n) _ .0 h in (leb→le 1 n (k .0), leb→le n most (k .1)),
+  λ k. and-iff (leb 1 n) _ .1 (le→leb 1 n (k .0), le→leb n most (k .1)),
+)
 
 -- a line whose numbers are within their limits, whose table is declared and whose terms are as many as its columns fits
 pub checked-fits : (widths : List ℕ) (A : Line) → T (lineWithin A) → T (known widths A) → T (wide widths A) → Fits widths A

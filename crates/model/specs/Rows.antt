@@ -26,17 +26,17 @@ unfoldable pub laidTerm : List ℕ → ℕ → ℕ → Term
 laidTerm rows k p = record { mark = getD rows (k * 17 + 1 + p * 2) 0; number = getD rows (k * 17 + 1 + p * 2 + 1) 0 }
 
 -- row k has the table and the terms of a line
-pub record Row (rows : List ℕ) (k : ℕ) (a : Line) : Type 0 where
+pub record LaidAt (rows : List ℕ) (k : ℕ) (a : Line) : Type 0 where
   pub table : laidTable rows k ≡ a .table
   pub term : (p : ℕ) → p < 8 → laidTerm rows k p ≡ termAt a p
 
 -- the rows with another mark in a column of row k
-abbrev pub withMark : List ℕ → ℕ → ℕ → ℕ → List ℕ
-withMark rows k p mark = set rows (k * 17 + 1 + p * 2) mark
+abbrev pub setMark : List ℕ → ℕ → ℕ → ℕ → List ℕ
+setMark rows k p mark = set rows (k * 17 + 1 + p * 2) mark
 
 -- a line laid into row k; the other rows stay
 pub record LaidInto (a : Line) (k : ℕ) (rows rows′ : List ℕ) : Type 0 where
   pub long : length rows′ ≡ length rows
   pub before : (i : ℕ) → i < k * 17 → getD rows′ i 0 ≡ getD rows i 0
   pub after : (i : ℕ) → k * 17 + 17 ≤ i → getD rows′ i 0 ≡ getD rows i 0
-  pub row : Row rows′ k a
+  pub row : LaidAt rows′ k a

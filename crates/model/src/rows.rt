@@ -3,7 +3,7 @@
 
 ghost use mathlib.Core.Path.{_≡_};
 ghost use Prim.Native.Nat.{_<_};
-ghost use Rattle.model.specs.Rows.{HasRow, laidTable, laidTerm, withMark, LaidInto};
+ghost use Rattle.model.specs.Rows.{HasRow, laidTable, laidTerm, setMark, LaidInto};
 use crate::Line;
 use crate::Term;
 
@@ -33,7 +33,7 @@ pub fn term_at(rows: &[u64], k: usize, p: usize) -> Term
 // Another mark for the term in column p of row k.
 pub fn set_mark(rows: &mut [u64], k: usize, p: usize, mark: u64)
     requires { ⌜ HasRow (now rows) k × (p < 8) ⌝ }
-    ensures { λ _. ⌜ now (rows .exit) ≡ withMark (now (rows .entry)) k p mark ⌝ }
+    ensures { λ _. ⌜ now (rows .exit) ≡ setMark (now (rows .entry)) k p mark ⌝ }
 {
     rows[k * ROW + 1 + p * 2] = mark;
 }

@@ -9,12 +9,11 @@ use Rattle.model.specs.Value.{pad, lineValue, unusedLine, tablesValue}
 use Rattle.model.specs.Abstract.{asLine}
 use Rattle.model.proofs.Pad.{pad-take}
 use Rattle.model.proofs.Values.{few-terms, as-line}
-use Rattle.model.proofs.Limits.{checked-fits}
+use Rattle.model.proofs.Limits.{checked-fits, up-to-iff}
 use Rattle.policy.specs.Text.{Declared, load, accepted}
 use Rattle.policy.specs.Value.{WellFormed, GoodView}
 use Rattle.policy.specs.Policy.{policyValue, viewsAfter}
 use Rattle.policy.specs.Abstract.{viewsIn, declaredBy}
-use Rattle.policy.proofs.Value.{up-to-iff}
 use Rattle.policy.proofs.Loaded.{loaded-well-formed}
 use Rattle.policy.proofs.PartitionWords.{in-after}
 

@@ -16,7 +16,7 @@ use Rattle.model.specs.Fields.{Numbered}
 use Rattle.model.specs.Limits.{mostTables, mostColumns, mostViews, mostPartitions, upTo, lineWithin, known, wide, clashing, firstFault}
 use Rattle.policy.specs.Text.{Declared, ascend, tableFault, viewFault, partitionFault, entered, faulty, unless, entry}
 use Rattle.policy.specs.Value.{GoodWidth, GoodView, GoodPartition}
-use Rattle.policy.proofs.Value.{up-to-iff}
+use Rattle.model.proofs.Limits.{up-to-iff}
 
 -- a line that is taken behind that many lines of its block
 pub record Taken {X : Type 0} (most : ℕ) (Good : X → Type 0) (before : ℕ) (e : Numbered X) : Type 0 where

@@ -1,5 +1,4 @@
--- The test of a value, and which lines are taken.
-pub mod Value
+-- Which lines are taken.
 pub mod Each
 pub mod Faults
 -- What a text loads to is well formed.

@@ -13,7 +13,7 @@ use Rattle.text.specs.Names.{sameBytes, tableColumns}
 use Rattle.model.specs.Fields.{Numbered, tableLine, viewLine, partitionLine}
 use Rattle.model.specs.Limits.{mostTables, mostViews, mostPartitions}
 use Rattle.policy.specs.Text.{Declared, nothing, refused, accepted, mostBytes, Entered, faulty, entered, Block, tables, views, partitions, enter, isNext, nextBlock, ends, goOn, loadFrom, loadLines, load}
-use Rattle.policy.specs.Value.{Listed, GoodWidth, GoodView, GoodPartition, WellFormed}
+use Rattle.policy.specs.Value.{OneToMost, GoodWidth, GoodView, GoodPartition, WellFormed}
 use Rattle.policy.proofs.Each.{each-nil, each-cons, each-append}
 use Rattle.policy.proofs.Faults.{Taken, table-taken, view-taken, partition-taken, entry-only-taken}
 
@@ -37,7 +37,7 @@ module _ {X : Type 0} {most : ℕ} {Good : X → Type 0} where
         each = each-append Good l _ (s .each) (each-cons Good (e .value) [] (t .good) (each-nil Good));
       }
 
-  all-of-it : (started : Bool) (l : List X) → T started → SoFar started most Good l → Listed most Good l
+  all-of-it : (started : Bool) (l : List X) → T started → SoFar started most Good l → OneToMost most Good l
   all-of-it started l h s = record { nonempty = s .nonempty h; few = s .few; each = s .each }
 
 -- what is declared in a block that has started or not: the blocks before are complete, those behind it empty
@@ -45,10 +45,10 @@ abbrev Reached : Block → Bool → Declared → Type 0
 Reached tables started d =
     SoFar started mostTables GoodWidth (d .widths) × (d .views ≡ []) × (d .partitions ≡ [])
 Reached views started d =
-    Listed mostTables GoodWidth (d .widths) × SoFar started mostViews (GoodView (d .widths)) (d .views)
+    OneToMost mostTables GoodWidth (d .widths) × SoFar started mostViews (GoodView (d .widths)) (d .views)
     × (d .partitions ≡ [])
 Reached partitions started d =
-    Listed mostTables GoodWidth (d .widths) × Listed mostViews (GoodView (d .widths)) (d .views)
+    OneToMost mostTables GoodWidth (d .widths) × OneToMost mostViews (GoodView (d .widths)) (d .views)
     × SoFar started mostPartitions (GoodPartition (length (d .views))) (d .partitions)
 
 reached-more : (b : Block) (started : Bool) (d : Declared) (l : List ℕ) (d′ : Declared)

@@ -13,9 +13,9 @@ use Rattle.text.specs.Names.{sameBytes, tableColumns, viewTableTerms, partition
 use Rattle.model.specs.Fields.{Numbered}
 use Rattle.model.specs.Limits.{mostTables, mostColumns, mostViews, mostPartitions}
 use Rattle.policy.specs.Text.{Declared, nothing, accepted, mostBytes, entered, tables, views, partitions, enter, isNext, nextBlock, ends, loadFrom, loadLines, load}
-use Rattle.policy.specs.Value.{Listed, GoodWidth, GoodView, GoodPartition, WellFormed}
+use Rattle.policy.specs.Value.{OneToMost, GoodWidth, GoodView, GoodPartition, WellFormed}
 use Rattle.policy.specs.Print.{tableFields, viewFields, partitionFields, printLine, printBlock, printLines, print}
-use Rattle.policy.proofs.Value.{up-to-iff}
+use Rattle.model.proofs.Limits.{up-to-iff}
 use Rattle.policy.proofs.Faults.{table-taken, view-taken, partition-taken}
 use Rattle.policy.proofs.Printed.{table-printed, view-printed, partition-printed}
 use Rattle.policy.proofs.Blocks.{lines-printed}
@@ -36,7 +36,7 @@ table-enters d w h g =
     let e : Numbered ℕ = record { number = n; value = w } in
     rw (table-printed n w (omega arith) (omega arith), table-taken d e .1 (record { turn = refl; limit = h; good = g }))
 
-view-enters : (d : Declared) (A : Line) → Listed mostTables GoodWidth (d .widths)
+view-enters : (d : Declared) (A : Line) → OneToMost mostTables GoodWidth (d .widths)
     → length (d .views) < mostViews → GoodView (d .widths) A
     → enter views d (printLine (suc (length (d .views))) (viewFields A))
     ≡ entered (record { widths = d .widths; views = d .views ++ A ∷ []; partitions = d .partitions })

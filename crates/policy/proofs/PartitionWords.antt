@@ -18,7 +18,7 @@ use Rattle.policy.specs.Text.{ascend}
 use Rattle.policy.specs.Value.{GoodPartition}
 use Rattle.policy.specs.Policy.{viewsAfter}
 use Rattle.policy.specs.Abstract.{viewsIn}
-use Rattle.policy.proofs.Value.{up-to-iff}
+use Rattle.model.proofs.Limits.{up-to-iff}
 use Rattle.policy.proofs.Ascend.{ascend-append, ascend-unique}
 
 -- ---- the views in a word

@@ -12,13 +12,13 @@ use Rattle.theory.proofs.Executable.Test.{all-iff}
 use Rattle.text.specs.Numeral.{constantLimit}
 use Rattle.model.specs.Limits.{mostTables, mostColumns, mostViews, mostPartitions, lastVariable, termWithin}
 use Rattle.policy.specs.Text.{Declared}
-use Rattle.policy.specs.Value.{Listed, GoodWidth, WellFormed}
+use Rattle.policy.specs.Value.{OneToMost, GoodWidth, WellFormed}
 use Rattle.policy.specs.Print.{decimal, printTerm, tableFields, viewFields, partitionFields, joined, printLine, printBlock, endEach, printLines, print}
 use Rattle.policy.proofs.Digits.{decimal-short}
 use Rattle.policy.proofs.Each.{each-nil, each-cons, each-map}
 use Rattle.policy.proofs.Blocks.{block-line, length-block}
 use Rattle.policy.proofs.Sizes.{ViewSize, view-size, PartitionSize, partition-size}
-use Rattle.policy.proofs.Value.{up-to-iff}
+use Rattle.model.proofs.Limits.{up-to-iff}
 
 -- no longer than m
 abbrev Within : ℕ → List ℕ → Type 0
@@ -50,7 +50,7 @@ length-parts (l ∷ a) b = let r = length-parts a b in simp length-append (omega
 
 -- a block of at most `most` lines of which each is within m
 block-short : {X : Type 0} (fieldsOf : X → List (List ℕ)) (most m : ℕ) (Good : X → Type 0) (l : List X)
-    → most < 10 ^ 9 → Listed most Good l → ((n : ℕ) (x : X) → n < 10 ^ 10 → Good x → Within m (printLine n (fieldsOf x)))
+    → most < 10 ^ 9 → OneToMost most Good l → ((n : ℕ) (x : X) → n < 10 ^ 10 → Good x → Within m (printLine n (fieldsOf x)))
     → length (endEach (printBlock fieldsOf 1 l)) ≤ most * suc m
 block-short fieldsOf most m Good l small h short =
     le-trans (rw length-block at (length-ended m (printBlock fieldsOf 1 l) each)) (mul-le-mul-right (suc m) (h .few))

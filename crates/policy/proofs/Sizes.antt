@@ -11,8 +11,8 @@ use Rattle.theory.proofs.Tuples.{getD-mem}
 use Rattle.theory.proofs.Executable.Test.{and-iff, all-iff}
 use Rattle.model.specs.Limits.{mostTables, mostColumns, mostViews, upTo, termWithin, lineWithin, known, wide}
 use Rattle.policy.specs.Text.{ascend}
-use Rattle.policy.specs.Value.{Listed, GoodWidth, GoodView, GoodPartition}
-use Rattle.policy.proofs.Value.{up-to-iff}
+use Rattle.policy.specs.Value.{OneToMost, GoodWidth, GoodView, GoodPartition}
+use Rattle.model.proofs.Limits.{up-to-iff}
 
 -- a view's numbers, and its columns as many as some table's
 pub record ViewSize (A : Line) : Type 0 where
@@ -22,7 +22,7 @@ pub record ViewSize (A : Line) : Type 0 where
   pub most : length (A .columns) ≤ 8
 
 pub view-size : (widths : List ℕ) (A : Line)
-    → Listed mostTables GoodWidth widths → GoodView widths A → ViewSize A
+    → OneToMost mostTables GoodWidth widths → GoodView widths A → ViewSize A
 unfolding lineWithin known wide mostTables mostColumns
 view-size widths A tables g =
     let within = and-iff (upTo mostTables (A .table)) _ .0 (g .within) in

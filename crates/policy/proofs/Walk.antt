@@ -11,7 +11,7 @@ use lib.ListN.{length, length-append}
 use Rattle.theory.specs.Query.{_∈_}
 use Rattle.text.specs.Names.{sameBytes, viewTableTerms, partitionViews}
 use Rattle.policy.specs.Text.{Declared, accepted, entered, Block, tables, views, partitions, enter, isNext, nextBlock, goOn, loadFrom}
-use Rattle.policy.specs.Value.{Listed}
+use Rattle.policy.specs.Value.{OneToMost}
 use Rattle.policy.specs.Print.{printLine, printBlock}
 use Rattle.text.proofs.Names.{same-bytes-iff}
 use Rattle.policy.proofs.Faults.{faulty≢entered}
@@ -57,7 +57,7 @@ module _ {X : Type 0} (b : Block) (put : List X → Declared) (fieldsOf : X → 
       ∙ (rw n at (still-to-come l (done ++ x ∷ []) (omega arith) (λ y m. good y (List·Memᴰ·tail m))
       (λ j. rw append-assoc (behind j)) (suc k)))
 
-  pub block-loads : (l : List X) → Listed most Good l → ((k : ℕ) → loadFrom b true (put l) k rest tail ≡ accepted e)
+  pub block-loads : (l : List X) → OneToMost most Good l → ((k : ℕ) → loadFrom b true (put l) k rest tail ≡ accepted e)
       → (k : ℕ) → loadFrom b false (put []) k (printBlock fieldsOf 1 l ++ rest) tail ≡ accepted e
   unfolding printBlock
   block-loads [] h behind k = absurd (not-suc-le-zero (h .nonempty))

@@ -15,7 +15,7 @@ use Rattle.model.specs.Limits.{mostTables, upTo, mostLines, termWithin, lineWit
 use Rattle.model.specs.Value.{blankValue, goodValue, parsedLine}
 use Rattle.model.specs.declared.Parsed.{Parsed}
 use Rattle.query.specs.Text.{fault}
-use Rattle.query.specs.Value.{Tabled}
+use Rattle.query.specs.Value.{LineTabled}
 use Rattle.model.proofs.Variables.{true-is}
 
 -- ---- the value of a line
@@ -61,7 +61,7 @@ module _ (p : Parsed) (A : Line) (e : p ≡ parsedLine (some A)) where
   unfolding parsedLine
   is-good o = e ∙ ap (λ (b : Bool). cond b (goodValue (A .table) (A .columns)) (blankValue true true)) (is-within o)
 
-  pub is-tabled : Tabled p
+  pub is-tabled : LineTabled p
   unfolding lineWithin upTo goodValue mostTables
   is-tabled o =
       let w = and-iff (upTo mostTables (A .table)) (all termWithin (A .columns)) .0 (true-is (lineWithin A) (is-within o)) .0 in

@@ -24,5 +24,5 @@ LinesRead tables text k r =
     (widths : List ℕ) → tables ≡ tablesValue widths → r ≡ readingValue (readFrom widths [] k (lines text .ended) (lines text .rest))
 
 -- a line within its limits names a table from 1 to 16
-abbrev pub Tabled : Parsed → Type 0
-Tabled p = (p .outside ≡ false) → (1 ≤ p .table) × (p .table ≤ 16)
+abbrev pub LineTabled : Parsed → Type 0
+LineTabled p = (p .outside ≡ false) → (1 ≤ p .table) × (p .table ≤ 16)

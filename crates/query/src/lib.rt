@@ -10,7 +10,7 @@ ghost use Rattle.theory.specs.Query.{Query as TheQuery, Line as TheLine};
 ghost use Rattle.model.specs.Value.{queryValue, tablesValue, parsedLine};
 ghost use Rattle.query.specs.Text.{refused as refusedReading, fault as faultOf, read};
 ghost use Rattle.model.specs.Variables.{Marked};
-ghost use Rattle.query.specs.Value.{readingValue, LinesRead, Tabled};
+ghost use Rattle.query.specs.Value.{readingValue, LinesRead, LineTabled};
 use model::Line;
 use model::Outcome;
 use model::Parsed;
@@ -56,7 +56,7 @@ fn refused(number: u64, line: u64) -> Reading
 // What turns a line back that is well formed and stands behind `count` lines, whose shown and hidden variables are these
 // bits; or 0.
 fn fault(tables: Tables, count: usize, shown: u64, hidden: u64, p: Parsed) -> u64
-    requires { ⌜ Tabled p ⌝ }
+    requires { ⌜ LineTabled p ⌝ }
     ensures { λ r. ⌜ ((widths : List ℕ) (earlier : TheQuery) (A : TheLine) → tables ≡ tablesValue widths → count ≡ length earlier → Marked earlier shown hidden → p ≡ parsedLine (some A) → r ≡ faultOf widths earlier A) ⌝ }
     ensures { λ r. ⌜ (r ≡ 0 → (count < 8) × (p .outside ≡ false)) ⌝ }
 {

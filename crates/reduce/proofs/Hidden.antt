@@ -20,7 +20,7 @@ use Rattle.model.specs.Value.{unusedTerm, termValue, lineValue}
 use Rattle.model.specs.declared.Term.{Term}
 use Rattle.model.specs.declared.Line.{Line}
 use Rattle.model.specs.Rows.{termAt}
-use Rattle.reduce.specs.Showing.{hiddenTerm, withHidden, HiddenWord}
+use Rattle.reduce.specs.Showing.{hiddenTerm, hiddenSet, HiddenWord}
 use Rattle.reduce.proofs.LineValues.{used, unused}
 
 pub hidden-small : (t : Term) → T (hiddenTerm t) → t .number < 64
@@ -39,8 +39,8 @@ put-iff true m p n = go (ℕ-discrete n p)
 pub hidden-none : (l : Line) → HiddenWord l 0 0
 hidden-none l n = (λ e. absurd (omega (arith, bit-zero n)), λ r. absurd (omega (arith, r .1)))
 
-pub hidden-more : (l : Line) (k m r : ℕ) → HiddenWord l k m → r ≡ withHidden m (termAt l k) → HiddenWord l (k + 1) r
-unfolding withHidden
+pub hidden-more : (l : Line) (k m r : ℕ) → HiddenWord l k m → r ≡ hiddenSet m (termAt l k) → HiddenWord l (k + 1) r
+unfolding hiddenSet
 hidden-more l k m r w e n =
     let t = termAt l k in
     let p = put-iff (hiddenTerm t) m (t .number) n in (

@@ -9,11 +9,11 @@ use Rattle.model.specs.declared.Line.{Line}
 use Rattle.model.specs.declared.Query.{Query as QueryValue}
 use Rattle.model.proofs.LaidTerms.{RowsTo}
 use Rattle.reduce.specs.Agree.{lineAt}
-use Rattle.reduce.specs.Laid.{Held, Laid}
+use Rattle.reduce.specs.Laid.{HoldsQuery, Laid}
 
 -- the value of the line at a place
 abbrev pub valueAt : Query → ℕ → Line
 valueAt Q i = lineValue (lineAt Q i)
 
-pub rows-all : {q : QueryValue} {Q : Query} (i : ℕ) {rows : List ℕ} → Held q Q → length Q ≤ i → RowsTo (valueAt Q) i rows → Laid Q rows
+pub rows-all : {q : QueryValue} {Q : Query} (i : ℕ) {rows : List ℕ} → HoldsQuery q Q → length Q ≤ i → RowsTo (valueAt Q) i rows → Laid Q rows
 rows-all i held h r = record { lines = held .lines; columns = held .columns; row = λ j b. r j (omega arith) }

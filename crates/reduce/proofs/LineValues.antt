@@ -20,7 +20,7 @@ use Rattle.model.proofs.Pad.{pad-get}
 use Rattle.model.proofs.Terms.{terms-few}
 use Rattle.model.proofs.Same.{same-value}
 use Rattle.reduce.specs.Agree.{goes}
-use Rattle.model.specs.Rows.{termAt, laidTerm, Row}
+use Rattle.model.specs.Rows.{termAt, laidTerm, LaidAt}
 use Rattle.reduce.specs.Columns.{keepsTerm, goesRow}
 
 -- ---- terms and their values
@@ -106,7 +106,7 @@ module _ (A S : TheLine) (few : length (A .columns) ≤ 8) (few′ : length (S .
       (rw (used A few p l, used S few′ p k, keeps-value (at A p) (at S p)) at (h p (omega arith)))
 
   -- by the rows that hold the two
-  pub goes-value : (rows : List ℕ) (i j : ℕ) → Row rows i (lineValue A) → Row rows j (lineValue S) → goesRow rows i j ≡ goes A S
+  pub goes-value : (rows : List ℕ) (i j : ℕ) → LaidAt rows i (lineValue A) → LaidAt rows j (lineValue S) → goesRow rows i j ≡ goes A S
   unfolding goesRow goes lineValue
   goes-value rows i j ri rj =
       let t = eqb (A .table) (S .table) in

@@ -13,10 +13,10 @@ use Rattle.model.specs.declared.Query.{Query as QueryValue}
 use Rattle.words.specs.Bits.{isSet}
 use Rattle.reduce.specs.Agree.{lineAt}
 use Rattle.reduce.specs.Left.{pick}
-use Rattle.reduce.specs.Laid.{Held, Laid}
+use Rattle.reduce.specs.Laid.{HoldsQuery, Laid}
 use Rattle.reduce.proofs.Left.{pick-more}
 
-module _ {q : QueryValue} {Q : Query} (held : Held q Q) where
+module _ {q : QueryValue} {Q : Query} (held : HoldsQuery q Q) where
   pub held-count : q .count ≡ length Q
   unfolding queryValue
   held-count = ap (λ (x : QueryValue). x .count) (held .is)

@@ -13,7 +13,7 @@ use Rattle.words.proofs.Bits.{bit-within}
 use Rattle.reduce.specs.Agree.{agree, lineAt}
 use Rattle.reduce.specs.Extends.{Extends}
 use Rattle.reduce.specs.Left.{linesAt}
-use Rattle.reduce.specs.Pairs.{Candidate, Tabled}
+use Rattle.reduce.specs.Pairs.{Candidate, PairsTabled}
 use Rattle.reduce.proofs.Agree.{agree-swap}
 use Rattle.reduce.proofs.Assign.{Assigned, assigned-iff}
 use Rattle.reduce.proofs.Left.{in-lines, lines-in}
@@ -24,7 +24,7 @@ line-of i j h = omega arith
 target-of : (i j : ℕ) → j < 8 → (i * 8 + j) % 8 ≡ j
 target-of i j h = omega arith
 
-module _ {Q : Query} {c : ℕ} {words : List ℕ} (tabled : Tabled Q c words) (rows targets : ℕ) where
+module _ {Q : Query} {c : ℕ} {words : List ℕ} (tabled : PairsTabled Q c words) (rows targets : ℕ) where
   -- line i with target t and line j with target u
   abbrev Agreed : (i t j u : ℕ) → Type 0
   Agreed i t j u = T (agree (lineAt Q i) (lineAt Q t) (lineAt Q j) (lineAt Q u))

@@ -18,7 +18,7 @@ use Rattle.words.specs.Bits.{bit, clearBit}
 use Rattle.words.proofs.ClearBits.{clear-bit-le, clear-bit-other, low-bits-set, low-bits-below}
 use Rattle.reduce.specs.Extends.{Extends}
 use Rattle.reduce.specs.Left.{linesAt, Folds}
-use Rattle.reduce.specs.Pairs.{Tabled}
+use Rattle.reduce.specs.Pairs.{PairsTabled}
 use Rattle.reduce.proofs.Assign.{may-go-sends}
 use Rattle.reduce.proofs.Left.{lines-subset, lines-without, lines-all}
 use Rattle.reduce.proofs.Maps.{extends-sends, sends-extends}
@@ -38,7 +38,7 @@ in-eight {n = n} small few = lt-of-lt-of-le small (pow-mono {i = n} few)
 pub cleared : {r : ℕ} (n w k : ℕ) → r ≡ clearBit w k → w < 2 ^ n → r < 2 ^ n
 cleared n w k e small = rw e (lt-of-le-of-lt (clear-bit-le w k) small)
 
-module _ {Q : Query} {c : ℕ} {words : List ℕ} (tabled : Tabled Q c words) where
+module _ {Q : Query} {c : ℕ} {words : List ℕ} (tabled : PairsTabled Q c words) where
   -- lines that go alone are left out
   pub folds-more : (rows rest alone : ℕ) → rest < 2 ^ 8 → ((p : ℕ) → bit alone p ≡ 1 → bit c p ≡ 1) → Folds Q rows
       → Extends rows rest alone words → Folds Q rest

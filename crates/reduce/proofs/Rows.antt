@@ -15,9 +15,9 @@ use Rattle.words.proofs.Bits.{bit-zero}
 use Rattle.words.proofs.Masks.{bit-and-iff}
 use Rattle.words.proofs.Lowest.{dropped-same, dropped-other}
 use Rattle.words.proofs.Marks.{left-before}
-use Rattle.reduce.specs.Extends.{Row, EmptyRow, Extends}
+use Rattle.reduce.specs.Extends.{TargetsOf, EmptyRow, Extends}
 
-pub row-is : (c targets k : ℕ) → Row c targets k (bitAnd (c / 2 ^ (k * 8)) targets)
+pub row-is : (c targets k : ℕ) → TargetsOf c targets k (bitAnd (c / 2 ^ (k * 8)) targets)
 row-is c targets k =
     let same : (j : ℕ) → bit (c / 2 ^ (k * 8)) j ≡ bit c (k * 8 + j) = λ j. rw shr-shr in
     record {
@@ -25,7 +25,7 @@ row-is c targets k =
       all = λ j x y. bit-and-iff (c / 2 ^ (k * 8)) targets j .1 (same j ∙ y, x);
     }
 
-pub row-empty : {rows targets c k : ℕ} → bit rows k ≡ 1 → Row c targets k 0 → EmptyRow rows targets c
+pub row-empty : {rows targets c k : ℕ} → bit rows k ≡ 1 → TargetsOf c targets k 0 → EmptyRow rows targets c
 row-empty {k = k} h r = record { line = k; in-rows = h; none = λ j x y. omega (arith, r .all j x y, bit-zero j) }
 
 module _ {rows targets c : ℕ} {words : List ℕ} where
@@ -132,7 +132,7 @@ module _ (rows targets c k rest : ℕ) (words : List ℕ) (first : Least 64 rows
     pub some : (j : ℕ) → bit row j ≡ 1 → Open j
     pub nothing : (j : ℕ) → Open j → bit row j ≡ 0 → Extends rest targets (left j) words → ⊥
 
-  pub tried-none : {row : ℕ} → Row c targets k row → Tried row
+  pub tried-none : {row : ℕ} → TargetsOf c targets k row → Tried row
   tried-none r = record {
     some = r .some;
     nothing = λ j o z x. omega (arith, r .all j (o .0) (o .1));

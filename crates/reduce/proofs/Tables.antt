@@ -14,7 +14,7 @@ use Rattle.words.proofs.Answers.{true-iff}
 use Rattle.words.proofs.Tests.{include-iff}
 use Rattle.reduce.specs.Agree.{lineAt}
 use Rattle.reduce.specs.Columns.{SameColumn, SameColumns}
-use Rattle.reduce.specs.Pairs.{Going, Goings, Columns, joins, Candidates, PairWords, Joined, Candidate, Tabled}
+use Rattle.reduce.specs.Pairs.{Going, Goings, Columns, joins, Candidates, PairWords, Joined, Candidate, PairsTabled}
 use Rattle.reduce.proofs.Agree.{Goes, Joint, agrees-iff, goes-iff, agree-iff}
 use Rattle.reduce.specs.Laid.{Laid}
 use Rattle.reduce.proofs.Lines.{laid-few}
@@ -82,7 +82,7 @@ candidate-going {Q} {p} c =
     record { line = c .line; target = c .target; goes = goes-iff A S .1 (agree-iff A S A S .0 (c .goes) .0) }
 
 pub tabled : {Q : Query} {rows : List ℕ} → Laid Q rows → (g : ℕ) (columns : List ℕ) (m : ℕ) (words : List ℕ) → Goings Q g → Columns Q columns
-    → Candidates columns g m → PairWords columns m words → Tabled Q m words
+    → Candidates columns g m → PairWords columns m words → PairsTabled Q m words
 tabled {Q} laid g columns m words goings right candidates pairs =
     let going : (p : ℕ) → bit m p ≡ 1 → Going Q p = λ p e. goings p .0 (candidates p .0 e .0) in
     let joined : (p b : ℕ) → Going Q p → Going Q b → T (joins columns p b) ↔ Joined Q p b = joined-iff laid columns right in

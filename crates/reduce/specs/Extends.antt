@@ -6,7 +6,7 @@ use lib.ListN.{getD}
 use Rattle.words.specs.Bits.{bit}
 
 -- r holds the targets of line k that are among `targets`
-pub record Row (c targets k r : ℕ) : Type 0 where
+pub record TargetsOf (c targets k r : ℕ) : Type 0 where
   pub some : (j : ℕ) → bit r j ≡ 1 → (bit targets j ≡ 1) × (bit c (k * 8 + j) ≡ 1)
   pub all : (j : ℕ) → bit targets j ≡ 1 → bit c (k * 8 + j) ≡ 1 → bit r j ≡ 1
 

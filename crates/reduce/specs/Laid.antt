@@ -5,13 +5,13 @@ use Prim.Native.Nat.{ℕ, _≤_, _<_}
 use lib.ListN.{length}
 use Rattle.theory.specs.Query.{Query, _∈_}
 use Rattle.theory.specs.Query.{Line as TheLine}
-use Rattle.model.specs.Rows.{Row}
+use Rattle.model.specs.Rows.{LaidAt}
 use Rattle.model.specs.Value.{lineValue, queryValue}
 use Rattle.model.specs.declared.Query.{Query as QueryValue}
 use Rattle.reduce.specs.Agree.{lineAt}
 
 -- q holds the query Q, which is within the limits of its shape
-pub record Held (q : QueryValue) (Q : Query) : Type 0 where
+pub record HoldsQuery (q : QueryValue) (Q : Query) : Type 0 where
   pub is : q ≡ queryValue Q
   pub lines : length Q ≤ 8
   pub columns : (A : TheLine) → A ∈ Q → length (A .columns) ≤ 8
@@ -20,4 +20,4 @@ pub record Held (q : QueryValue) (Q : Query) : Type 0 where
 pub record Laid (Q : Query) (rows : List ℕ) : Type 0 where
   pub lines : length Q ≤ 8
   pub columns : (A : TheLine) → A ∈ Q → length (A .columns) ≤ 8
-  pub row : (i : ℕ) → i < length Q → Row rows i (lineValue (lineAt Q i))
+  pub row : (i : ℕ) → i < length Q → LaidAt rows i (lineValue (lineAt Q i))

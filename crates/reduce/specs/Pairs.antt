@@ -55,7 +55,7 @@ pub record Candidate (Q : Query) (p : ℕ) : Type 0 where
   pub goes : Joined Q p p
 
 -- the candidates of a query, and for each the candidates that are compatible with it
-pub record Tabled (Q : Query) (m : ℕ) (words : List ℕ) : Type 0 where
+pub record PairsTabled (Q : Query) (m : ℕ) (words : List ℕ) : Type 0 where
   pub few : length Q ≤ 8
   pub long : length words ≡ 64
   pub candidates : (p : ℕ) → (bit m p ≡ 1) ↔ Candidate Q p

@@ -22,9 +22,9 @@ Small Q = (n : ℕ) (A : TheLine) → A ∈ Q → hidden n ∈ A .columns → n 
 unfoldable pub hiddenTerm : Term → Bool
 hiddenTerm t = eqb (t .mark) 3 && leb (t .number) 63
 
-unfoldable pub withHidden : ℕ → Term → ℕ
+unfoldable pub hiddenSet : ℕ → Term → ℕ
 unfolding hiddenTerm setBit
-withHidden m t = cond (hiddenTerm t) (setBit m (t .number)) m
+hiddenSet m t = cond (hiddenTerm t) (setBit m (t .number)) m
 
 -- w has the hidden variables of the line's first k terms
 abbrev pub HiddenWord : Line → ℕ → ℕ → Type 0

@@ -5,12 +5,12 @@ ghost use mathlib.Core.Logic.{_↔_};
 ghost use mathlib.Core.Bool.{true, false};
 ghost use Prim.Native.Nat.{_^_, _<_};
 ghost use lib.ListN.{length};
-ghost use Rattle.reduce.specs.Extends.{Row, EmptyRow, Extends};
+ghost use Rattle.reduce.specs.Extends.{TargetsOf, EmptyRow, Extends};
 
 // The targets of line k that are among `targets`: bit j for target j.
 fn row_of(candidates: u64, targets: u64, k: u64) -> u64
     requires { ⌜ (k < 8) × (targets < 2 ^ 8) ⌝ }
-    ensures { λ r. ⌜ Row candidates targets k r ⌝ }
+    ensures { λ r. ⌜ TargetsOf candidates targets k r ⌝ }
 {
     (candidates >> (k * 8)) & targets
 }

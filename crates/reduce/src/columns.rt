@@ -5,7 +5,7 @@ ghost use Prim.Native.Nat.{_*_, _+_, _≤_, _<_};
 ghost use lib.ListN.{length};
 ghost use Rattle.theory.specs.Query.{Line as TheLine};
 ghost use Rattle.words.proofs.Marks.{Upto};
-ghost use Rattle.model.specs.Rows.{termAt, Row};
+ghost use Rattle.model.specs.Rows.{termAt, LaidAt};
 ghost use Rattle.model.specs.Value.{lineValue};
 ghost use Rattle.reduce.specs.Columns.{keepsTerm, goesRow, SameColumn, SameColumns};
 use model::HIDDEN;
@@ -45,7 +45,7 @@ pub fn goes_line(lines: &[u64], a: usize, s: usize) -> bool
 // The word with the columns of row b that have term t, which stands in column p of a line.
 fn with_column(m: u64, p: usize, t: Term, lines: &[u64], b: usize) -> u64
     requires { ⌜ (p < 8) × (length (now lines) ≡ 136) × (b < 8) ⌝ }
-    ensures { λ r. ⌜ ((A B : TheLine) → t ≡ termAt (lineValue A) p → Row (now (lines .entry)) b (lineValue B) → length (A .columns) ≤ 8 → length (B .columns) ≤ 8 → Upto (SameColumn A B) (p * 8) m → Upto (SameColumn A B) (p * 8 + 8) r) ⌝ }
+    ensures { λ r. ⌜ ((A B : TheLine) → t ≡ termAt (lineValue A) p → LaidAt (now (lines .entry)) b (lineValue B) → length (A .columns) ≤ 8 → length (B .columns) ≤ 8 → Upto (SameColumn A B) (p * 8) m → Upto (SameColumn A B) (p * 8 + 8) r) ⌝ }
 {
     if t.mark == UNUSED {
         return m;
@@ -64,7 +64,7 @@ fn with_column(m: u64, p: usize, t: Term, lines: &[u64], b: usize) -> u64
 // The columns p and q of lines a and b that have the same term, as bit p * 8 + q.
 pub fn same_columns(lines: &[u64], a: usize, b: usize) -> u64
     requires { ⌜ (length (now lines) ≡ 136) × (a < 8) × (b < 8) ⌝ }
-    ensures { λ r. ⌜ ((A B : TheLine) → Row (now (lines .entry)) a (lineValue A) → Row (now (lines .entry)) b (lineValue B) → length (A .columns) ≤ 8 → length (B .columns) ≤ 8 → SameColumns A B r) ⌝ }
+    ensures { λ r. ⌜ ((A B : TheLine) → LaidAt (now (lines .entry)) a (lineValue A) → LaidAt (now (lines .entry)) b (lineValue B) → length (A .columns) ≤ 8 → length (B .columns) ≤ 8 → SameColumns A B r) ⌝ }
 {
     let mut m = 0;
     let mut p = 0;

@@ -2,13 +2,13 @@
 
 ghost use Prim.Native.Nat.{_≤_};
 ghost use Rattle.theory.specs.Query.{Query as TheQuery};
-ghost use Rattle.reduce.specs.Laid.{Held, Laid};
+ghost use Rattle.reduce.specs.Laid.{HoldsQuery, Laid};
 use model::Query;
 
 // The rows of a query, line i in row i.
 pub fn query_rows(q: Query) -> [u64; 136]
     requires { ⌜ q .count ≤ 8 ⌝ }
-    ensures { λ r. ⌜ ((Q : TheQuery) → Held q Q → Laid Q r) ⌝ }
+    ensures { λ r. ⌜ ((Q : TheQuery) → HoldsQuery q Q → Laid Q r) ⌝ }
 {
     let n = q.count;
     let mut lines = [0; 136];

@@ -6,11 +6,11 @@ ghost use Prim.Native.Nat.{_≤_, _<_};
 ghost use lib.ListN.{length};
 ghost use Rattle.theory.specs.Query.{Query as TheQuery};
 ghost use Rattle.words.specs.Bits.{isSet};
-ghost use Rattle.model.specs.Rows.{Row};
+ghost use Rattle.model.specs.Rows.{LaidAt};
 ghost use Rattle.model.specs.declared.Line.{Line};
 ghost use Rattle.reduce.specs.Laid.{Laid};
 ghost use Rattle.reduce.specs.Left.{linesAt};
-ghost use Rattle.reduce.specs.Showing.{hiddenTerm, withHidden, HiddenWord, HiddenIf, SharedWord, showValue, ShownRows};
+ghost use Rattle.reduce.specs.Showing.{hiddenTerm, hiddenSet, HiddenWord, HiddenIf, SharedWord, showValue, ShownRows};
 use model::HIDDEN;
 use model::LAST_VARIABLE;
 use model::SHOWN;
@@ -28,7 +28,7 @@ fn is_hidden(t: Term) -> bool
 
 // The word with the bit of the term set, if it is a hidden variable.
 fn with_hidden(m: u64, t: Term) -> u64
-    ensures { λ r. ⌜ r ≡ withHidden m t ⌝ }
+    ensures { λ r. ⌜ r ≡ hiddenSet m t ⌝ }
 {
     if is_hidden(t) {
         return words::set_bit(m, t.number);
@@ -39,7 +39,7 @@ fn with_hidden(m: u64, t: Term) -> u64
 // The hidden variables of the line in row i, as bits.
 fn hidden_word(lines: &[u64], i: usize) -> u64
     requires { ⌜ (length (now lines) ≡ 136) × (i < 8) ⌝ }
-    ensures { λ r. ⌜ ((l : Line) → Row (now (lines .entry)) i l → HiddenWord l 8 r) ⌝ }
+    ensures { λ r. ⌜ ((l : Line) → LaidAt (now (lines .entry)) i l → HiddenWord l 8 r) ⌝ }
 {
     let mut m = 0;
     let mut k = 0;
@@ -54,7 +54,7 @@ fn hidden_word(lines: &[u64], i: usize) -> u64
 // The hidden variables of a line that is there.
 fn hidden_if(there: bool, lines: &[u64], i: usize) -> u64
     requires { ⌜ (length (now lines) ≡ 136) × (i < 8) ⌝ }
-    ensures { λ r. ⌜ ((l : Line) → Row (now (lines .entry)) i l → HiddenIf there l r) ⌝ }
+    ensures { λ r. ⌜ ((l : Line) → LaidAt (now (lines .entry)) i l → HiddenIf there l r) ⌝ }
 {
     if !there {
         return 0;

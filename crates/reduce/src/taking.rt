@@ -6,7 +6,7 @@ ghost use lib.ListN.{length};
 ghost use Rattle.theory.specs.Query.{Query as TheQuery};
 ghost use Rattle.theory.specs.Executable.Reduce.{reduce};
 ghost use Rattle.reduce.specs.Laid.{Laid};
-ghost use Rattle.reduce.specs.Pairs.{Goings, Tabled};
+ghost use Rattle.reduce.specs.Pairs.{Goings, PairsTabled};
 ghost use Rattle.reduce.specs.Left.{linesAt, Folds};
 use crate::assignment::search;
 use crate::pairs::candidates;
@@ -24,7 +24,7 @@ const MOVING: u64 = 0x7fbf_dfef_f7fb_fdfe;
 fn fold(n: usize, candidates: u64, table: &[u64; 64]) -> u64
     requires { ⌜ (n ≤ 8) × (length (now table) ≡ 64) ⌝ }
     ensures { λ r. ⌜ r < 2 ^ n ⌝ }
-    ensures { λ r. ⌜ ((Q : TheQuery) → length Q ≡ n → Tabled Q candidates (now (table .entry)) → Folds Q r) ⌝ }
+    ensures { λ r. ⌜ ((Q : TheQuery) → length Q ≡ n → PairsTabled Q candidates (now (table .entry)) → Folds Q r) ⌝ }
 {
     let mut rows = words::low_bits(n as u64);
     let mut i = n;
@@ -42,7 +42,7 @@ fn fold(n: usize, candidates: u64, table: &[u64; 64]) -> u64
 // The lines left once each that may go is taken out, the last first.
 fn taken(n: usize, rows: u64, candidates: u64, table: &[u64; 64]) -> u64
     requires { ⌜ (n ≤ 8) × (rows < 2 ^ n) × (length (now table) ≡ 64) ⌝ }
-    ensures { λ r. ⌜ ((Q : TheQuery) → length Q ≡ n → Tabled Q candidates (now (table .entry)) → Folds Q rows → linesAt r Q ≡ reduce Q) ⌝ }
+    ensures { λ r. ⌜ ((Q : TheQuery) → length Q ≡ n → PairsTabled Q candidates (now (table .entry)) → Folds Q rows → linesAt r Q ≡ reduce Q) ⌝ }
 {
     let mut left = words::low_bits(n as u64);
     let mut i = n;

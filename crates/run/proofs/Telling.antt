@@ -13,7 +13,7 @@ use Rattle.model.specs.declared.Policy.{Policy}
 use Rattle.policy.specs.Text.{Declared}
 use Rattle.labels.specs.Text.{LoadedTo}
 use Rattle.desk.specs.declared.deciding.Decision.{Decision}
-use Rattle.desk.specs.Deciding.{Outcome, decideUnder, Gives}
+use Rattle.desk.specs.Deciding.{Verdict, decideUnder, Gives}
 use Rattle.writing.specs.Wrote.{Wrote}
 use Rattle.cutting.specs.Cut.{cut}
 use Rattle.cutting.specs.NextCut.{Starts, NextCut}
@@ -46,7 +46,7 @@ told-none p queries was start opened =
     }
 
 -- the line for a query, from the decision on it
-line-of : (query left : ℕ) (r : Decision) (o : Outcome) → Gives r o → left ≡ onesBelow 64 (r .session .mask)
+line-of : (query left : ℕ) (r : Decision) (o : Verdict) → Gives r o → left ≡ onesBelow 64 (r .session .mask)
     → replyLine query (r .reply) left ≡ lineOf query o
 unfolding lineOf
 line-of query left r o g e = rw (e, g .reply, g .session)

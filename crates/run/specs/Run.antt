@@ -5,12 +5,12 @@ use Rattle.policy.specs.Text.{Declared, Loading, load}
 use Rattle.policy.specs.Text.{refused as refusedPolicy, accepted as acceptedPolicy}
 use Rattle.desk.specs.Reply.{refused}
 use Rattle.desk.specs.Session.{allOpen, openCount}
-use Rattle.desk.specs.Deciding.{Outcome, decideUnder}
+use Rattle.desk.specs.Deciding.{Verdict, decideUnder}
 use Rattle.cutting.specs.Cut.{cut}
 use Rattle.run.specs.Output.{outputNames, outputLine}
 
 -- one query, and the others in the session that it leaves
-unfoldable pub lineOf : ℕ → Outcome → List ℕ
+unfoldable pub lineOf : ℕ → Verdict → List ℕ
 unfolding outputLine
 lineOf k o = outputLine k (o .says .word) (openCount (o .leaves)) (o .says .number) (o .says .line)
 

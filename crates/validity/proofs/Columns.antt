@@ -21,7 +21,7 @@ use Rattle.words.proofs.Tests.{meet-iff}
 use Rattle.model.specs.Limits.{mostColumns, termWithin, lastVariable}
 use Rattle.model.specs.Value.{termValue, unusedTerm}
 use Rattle.model.specs.declared.Term.{Term}
-use Rattle.validity.specs.Parts.{Held, GoodTerm, TermOf, TermPlace, TermsHeld}
+use Rattle.validity.specs.Parts.{HoldsList, GoodTerm, TermOf, TermPlace, TermsHeld}
 use Rattle.validity.proofs.Held.{checked-held, held-checked, held-place, held-thing, place-unused}
 use Rattle.validity.proofs.Terms.{Marked, as-constant, as-shown, as-hidden, holds-marked}
 use Rattle.validity.proofs.Marks.{Marks, marks-none, marks-more}
@@ -81,7 +81,7 @@ pub terms-place : (w : ℕ) (ts : List Term) → TermsHeld w ts → (k : ℕ) �
 unfolding mostColumns
 terms-place w ts d k b = held-checked GoodTerm termValue unusedTerm 8 w ts (d .held) .places k b
 
-module _ (w : ℕ) (ts : List Term) (h : Held mostColumns GoodTerm termValue unusedTerm w ts) where
+module _ (w : ℕ) (ts : List Term) (h : HoldsList mostColumns GoodTerm termValue unusedTerm w ts) where
   -- a term that stands among them is held
   found-held : (u : TheTerm) (k : ℕ) → k < 8 → getD ts k unusedTerm ≡ termValue u → u ∈ h .things
   unfolding termValue unusedTerm mostColumns
@@ -100,13 +100,13 @@ not-from true f = absurd (f refl)
 not-from false f = refl
 
 module _ {w : ℕ} {ts : List Term} {s h i : ℕ} (l : Looked w ts s h i) (all : 8 ≤ i) where
-  looked-held : length ts ≡ 8 → 1 ≤ w → w ≤ 8 → Held 8 GoodTerm termValue unusedTerm w ts
+  looked-held : length ts ≡ 8 → 1 ≤ w → w ≤ 8 → HoldsList 8 GoodTerm termValue unusedTerm w ts
   looked-held long some few =
       checked-held GoodTerm termValue unusedTerm 8 w ts long
       (record { counted = (some, few); places = λ k b. l .places k (omega arith) })
 
   -- a variable that is shown and hidden is a bit that both words have
-  clash-meets : (d : Held 8 GoodTerm termValue unusedTerm w ts) (n : ℕ) → shown n ∈ d .things → hidden n ∈ d .things
+  clash-meets : (d : HoldsList 8 GoodTerm termValue unusedTerm w ts) (n : ℕ) → shown n ∈ d .things → hidden n ∈ d .things
       → meet 64 s h ≡ true
   unfolding termValue kind number termWithin lastVariable
   clash-meets d n a b =

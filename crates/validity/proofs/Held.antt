@@ -13,7 +13,7 @@ use borrow.Author.Tests.{lt-ltb, le-ltb}
 use Rattle.theory.specs.Query.{_∈_}
 use Rattle.model.specs.Value.{pad}
 use Rattle.policy.proofs.Each.{Each, each-nil, each-cons}
-use Rattle.validity.specs.Parts.{Holds, Place, Held}
+use Rattle.validity.specs.Parts.{ValueOf, Place, HoldsList}
 use Rattle.validity.proofs.Lists.{all-same, any-default}
 use Rattle.model.proofs.Pad.{pad-length, pad-get}
 
@@ -62,7 +62,7 @@ module _ {A X : Type 0} (Good : A → Type 0) (value : A → X) (unused : X) whe
     count : length things ≡ n
     is : l ≡ map value things ++ replicate (length l - n) unused
 
-  collect : (n : ℕ) (l : List X) → n ≤ length l → ((k : ℕ) → k < n → Holds Good value (getD l k unused))
+  collect : (n : ℕ) (l : List X) → n ≤ length l → ((k : ℕ) → k < n → ValueOf Good value (getD l k unused))
       → ((k : ℕ) → n ≤ k → k < length l → getD l k unused ≡ unused) → Collected n l
   collect zero l h used rest =
       record { things = []; each = each-nil Good; count = refl; is = rw sub-zero (all-same unused l (λ k. rest k zero-le)) }
@@ -79,13 +79,13 @@ module _ {A X : Type 0} (Good : A → Type 0) (value : A → X) (unused : X) whe
         is = rw suc-sub-suc (ap₂ _∷_ (first .is) (more .is));
       }
 
-  pub checked-held : (most n : ℕ) (l : List X) → length l ≡ most → Checked most (Place (Holds Good value) unused) unused n l
-      → Held most Good value unused n l
+  pub checked-held : (most n : ℕ) (l : List X) → length l ≡ most → Checked most (Place (ValueOf Good value) unused) unused n l
+      → HoldsList most Good value unused n l
   unfolding pad
   checked-held most n l long c =
       let all =
-      collect n l (omega arith) (λ k h. place-used (Holds Good value) unused k n h (c .places k (omega arith)))
-      (λ k h b. place-unused (Holds Good value) unused k n h (c .places k (omega arith)))
+      collect n l (omega arith) (λ k h. place-used (ValueOf Good value) unused k n h (c .places k (omega arith)))
+      (λ k h b. place-unused (ValueOf Good value) unused k n h (c .places k (omega arith)))
       in
       let rest : length l - n ≡ most - length (map value (all .things)) = rw (length-map, all .count, long) in
       record {
@@ -107,26 +107,26 @@ module _ {A X : Type 0} (Good : A → Type 0) (value : A → X) (unused : X) whe
   at-value (List·Memᴰ·head e) = (0, suc-le-suc zero-le, ap value (sym e))
   at-value (List·Memᴰ·tail m) = let r = at-value m in (suc (r .0), suc-le-suc (r .1), r .2)
 
-  module _ (most n : ℕ) (l : List X) (h : Held most Good value unused n l) where
+  module _ (most n : ℕ) (l : List X) (h : HoldsList most Good value unused n l) where
     held-get : (k : ℕ) → getD l k unused ≡ getD (map value (h .things)) k unused
     held-get k = ap (λ (s : List X). getD s k unused) (h .is) ∙ pad-get most unused (map value (h .things)) k
 
-    held-at : (k : ℕ) → Place (Holds Good value) unused (ltb k n) (getD l k unused)
+    held-at : (k : ℕ) → Place (ValueOf Good value) unused (ltb k n) (getD l k unused)
     held-at k =
         by-cases (decLt k n)
         (λ b.
         let r = value-at (h .things) k (rw (h .count) at b) in
-        used-place (Holds Good value) unused k n b
+        used-place (ValueOf Good value) unused k n b
         (record { thing = r .0; good = h .listed .each (r .0) (r .1); is = held-get k ∙ r .2 }))
         (λ b.
         let behind : length (map value (h .things)) ≤ k = rw (length-map, ← (h .count)) (omega arith) in
-        unused-place (Holds Good value) unused k n (omega arith)
+        unused-place (ValueOf Good value) unused k n (omega arith)
         (held-get k ∙ List·getD-eq-default (map value (h .things)) unused behind))
 
     pub held-length : length l ≡ most
     held-length = ap length (h .is) ∙ pad-length most unused (map value (h .things)) (rw length-map (h .listed .few))
 
-    pub held-checked : Checked most (Place (Holds Good value) unused) unused n l
+    pub held-checked : Checked most (Place (ValueOf Good value) unused) unused n l
     held-checked =
         record { counted = (rw (h .count) (h .listed .nonempty), rw (h .count) (h .listed .few)); places = λ k b. held-at k }
 

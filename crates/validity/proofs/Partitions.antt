@@ -21,9 +21,9 @@ use Rattle.model.specs.Limits.{mostViews, mostPartitions, upTo}
 use Rattle.policy.specs.Value.{GoodPartition}
 use Rattle.policy.specs.Policy.{viewsAfter}
 use Rattle.policy.specs.Abstract.{viewsIn}
-use Rattle.policy.proofs.Value.{up-to-iff}
+use Rattle.model.proofs.Limits.{up-to-iff}
 use Rattle.policy.proofs.PartitionWords.{in-below, in-ascend, good-below}
-use Rattle.validity.specs.Parts.{Holds, PartitionPlace, PartitionsHeld}
+use Rattle.validity.specs.Parts.{ValueOf, PartitionPlace, PartitionsHeld}
 use Rattle.validity.proofs.Held.{Checked, checked-held, held-checked}
 
 -- ---- from a word to its views
@@ -70,7 +70,7 @@ module _ (n m : ℕ) (few : n ≤ 32) where
       let b = below v (List·Memᴰ·head refl) in
       after-below (setBit k (v - 1)) vs (set-bit-below n k (v - 1) h (omega arith)) (λ w i. below w (List·Memᴰ·tail i))
 
-  pub word-iff : (m < 2 ^ n) ↔ Holds (GoodPartition n) (viewsAfter 0) m
+  pub word-iff : (m < 2 ^ n) ↔ ValueOf (GoodPartition n) (viewsAfter 0) m
   word-iff = (
     λ h. record { thing = viewsIn n m; good = of-good; is = sym (after-in n m ∙ mod-eq-of-lt h) },
     λ p. rw (p .is) (after-below 0 (p .thing) (pow-pos n) (good-below n (p .thing) (p .good))),

@@ -8,12 +8,12 @@ use Rattle.theory.proofs.Tuples.{map-self}
 use Rattle.model.specs.Limits.{mostTables, mostColumns}
 use Rattle.model.specs.Value.{pad, tablesValue}
 use Rattle.model.specs.declared.Tables.{Tables}
-use Rattle.policy.proofs.Value.{up-to-iff}
-use Rattle.validity.specs.Parts.{Holds, Held, WidthPlace, TablesOf}
+use Rattle.model.proofs.Limits.{up-to-iff}
+use Rattle.validity.specs.Parts.{ValueOf, HoldsList, WidthPlace, TablesOf}
 use Rattle.policy.specs.Value.{GoodWidth}
 use Rattle.validity.proofs.Held.{Checked, checked-held, held-checked}
 
-pub width-iff : (w : ℕ) → Holds GoodWidth (λ w. w) w ↔ ((1 ≤ w) × (w ≤ 8))
+pub width-iff : (w : ℕ) → ValueOf GoodWidth (λ w. w) w ↔ ((1 ≤ w) × (w ≤ 8))
 unfolding mostColumns
 width-iff w = (
   λ h. up-to-iff 8 w .0 (rw (h .is) (h .good)),
@@ -23,7 +23,7 @@ width-iff w = (
 -- ---- the columns and their count make the value of the tables
 
 module _ (t : Tables) where
-  tables-held : ((widths : List ℕ) × TablesOf widths t) → Held 16 GoodWidth (λ w. w) 0 (t .count) (t .columns)
+  tables-held : ((widths : List ℕ) × TablesOf widths t) → HoldsList 16 GoodWidth (λ w. w) 0 (t .count) (t .columns)
   unfolding tablesValue mostTables
   tables-held r =
       record {
@@ -33,7 +33,7 @@ module _ (t : Tables) where
         is = ap (λ (s : Tables). s .columns) (r .1 .is) ∙ rw (map-self (λ w. w) (r .0) (λ w m. refl));
       }
 
-  held-tables : Held 16 GoodWidth (λ w. w) 0 (t .count) (t .columns) → (widths : List ℕ) × TablesOf widths t
+  held-tables : HoldsList 16 GoodWidth (λ w. w) 0 (t .count) (t .columns) → (widths : List ℕ) × TablesOf widths t
   unfolding tablesValue mostTables
   held-tables h =
       let columns = h .is ∙ ap (pad 16 0) (map-self (λ w. w) (h .things) (λ w m. refl)) in

@@ -16,9 +16,9 @@ use Rattle.model.specs.declared.Line.{Line}
 use Rattle.model.specs.declared.Tables.{Tables}
 use Rattle.model.specs.declared.Term.{Term}
 use Rattle.policy.specs.Value.{GoodView}
-use Rattle.policy.proofs.Value.{up-to-iff}
+use Rattle.model.proofs.Limits.{up-to-iff}
 use Rattle.policy.specs.Value.{GoodWidth}
-use Rattle.validity.specs.Parts.{Holds, TablesOf, TermsHeld, ViewOf, ViewPlace, ViewsHeld}
+use Rattle.validity.specs.Parts.{ValueOf, TablesOf, TermsHeld, ViewOf, ViewPlace, ViewsHeld}
 use Rattle.model.proofs.Pad.{pad-get}
 use Rattle.validity.proofs.Held.{Checked, checked-default, checked-held, held-checked, held-length, place-used}
 use Rattle.validity.proofs.Tables.{width-iff, tables-checked}
@@ -44,7 +44,7 @@ module _ (widths : List ℕ) (t : Tables) (tables : TablesOf widths t) where
   width-within k h =
       let c = tables-checked t (widths, tables) in
       width-iff (getD (t .columns) k 0) .0
-      (place-used (Holds GoodWidth (λ w. w)) 0 k (t .count) h (c .places k (omega (arith, c .counted .1))))
+      (place-used (ValueOf GoodWidth (λ w. w)) 0 k (t .count) h (c .places k (omega (arith, c .counted .1))))
 
   module _ (l : Line) where
     pub view-table : ViewOf widths l → (1 ≤ l .table) × (l .table ≤ t .count)

@@ -13,13 +13,13 @@ use Rattle.model.specs.Value.{pad, unusedTerm, termValue, unusedLine, lineValue
 use Rattle.model.specs.declared.Term.{Term}
 use Rattle.model.specs.declared.Line.{Line}
 use Rattle.model.specs.declared.Tables.{Tables}
-use Rattle.policy.specs.Value.{Listed, GoodWidth, GoodView, GoodPartition}
+use Rattle.policy.specs.Value.{OneToMost, GoodWidth, GoodView, GoodPartition}
 use Rattle.policy.specs.Policy.{viewsAfter}
 
 -- ---- any part
 
 -- x is the value of something good
-pub record Holds {A X : Type 0} (Good : A → Type 0) (value : A → X) (x : X) : Type 0 where
+pub record ValueOf {A X : Type 0} (Good : A → Type 0) (value : A → X) (x : X) : Type 0 where
   pub thing : A
   pub good : Good thing
   pub is : x ≡ value thing
@@ -30,20 +30,20 @@ Place Used unused true x = Used x
 Place Used unused false x = x ≡ unused
 
 -- the values of n good things, at least one, and unused entries behind them up to the most
-pub record Held {A X : Type 0} (most : ℕ) (Good : A → Type 0) (value : A → X) (unused : X) (n : ℕ) (l : List X) : Type 0 where
+pub record HoldsList {A X : Type 0} (most : ℕ) (Good : A → Type 0) (value : A → X) (unused : X) (n : ℕ) (l : List X) : Type 0 where
   pub things : List A
-  pub listed : Listed most Good things
+  pub listed : OneToMost most Good things
   pub count : n ≡ length things
   pub is : l ≡ pad most unused (map value things)
 
 -- ---- the tables
 
 abbrev pub WidthPlace : Bool → ℕ → Type 0
-WidthPlace = Place (Holds GoodWidth (λ w. w)) 0
+WidthPlace = Place (ValueOf GoodWidth (λ w. w)) 0
 
 -- the value of the tables with those columns
 pub record TablesOf (widths : List ℕ) (t : Tables) : Type 0 where
-  pub listed : Listed mostTables GoodWidth widths
+  pub listed : OneToMost mostTables GoodWidth widths
   pub is : t ≡ tablesValue widths
 
 -- ---- the views
@@ -52,29 +52,29 @@ abbrev pub GoodTerm : TheTerm → Type 0
 GoodTerm t = T (termWithin t)
 
 abbrev pub TermOf : Term → Type 0
-TermOf = Holds GoodTerm termValue
+TermOf = ValueOf GoodTerm termValue
 
 abbrev pub TermPlace : Bool → Term → Type 0
 TermPlace = Place TermOf unusedTerm
 
 -- that many terms of a line within their limits, none of whose variables is both shown and hidden
 pub record TermsHeld (width : ℕ) (l : List Term) : Type 0 where
-  pub held : Held mostColumns GoodTerm termValue unusedTerm width l
+  pub held : HoldsList mostColumns GoodTerm termValue unusedTerm width l
   pub clear : (n : ℕ) → shown n ∈ held .things → hidden n ∈ held .things → ⊥
 
 abbrev pub ViewOf : List ℕ → Line → Type 0
-ViewOf widths = Holds (GoodView widths) lineValue
+ViewOf widths = ValueOf (GoodView widths) lineValue
 
 abbrev pub ViewPlace : List ℕ → Bool → Line → Type 0
 ViewPlace widths = Place (ViewOf widths) unusedLine
 
 abbrev pub ViewsHeld : List ℕ → ℕ → List Line → Type 0
-ViewsHeld widths = Held mostViews (GoodView widths) lineValue unusedLine
+ViewsHeld widths = HoldsList mostViews (GoodView widths) lineValue unusedLine
 
 -- ---- the partitions
 
 abbrev pub PartitionPlace : ℕ → Bool → ℕ → Type 0
-PartitionPlace views = Place (Holds (GoodPartition views) (viewsAfter 0)) 0
+PartitionPlace views = Place (ValueOf (GoodPartition views) (viewsAfter 0)) 0
 
 abbrev pub PartitionsHeld : ℕ → ℕ → List ℕ → Type 0
-PartitionsHeld views = Held mostPartitions (GoodPartition views) (viewsAfter 0) 0
+PartitionsHeld views = HoldsList mostPartitions (GoodPartition views) (viewsAfter 0) 0

@@ -5,7 +5,7 @@ use Prim.Native.Nat.{ℕ}
 use borrow.Author.Needs.{needs}
 use Rattle.text.specs.Numeral.{numeral}
 use Rattle.model.specs.Fields.{every}
-use Rattle.entries.specs.Value.{listedValue}
+use Rattle.entries.specs.Value.{viewListValue}
 use Rattle.entries.proofs.Numbered.{from-end, from-rest}
 use Rattle.entries.proofs.ViewsRead.{none-said}
 use Rattle.entries.proofs.listed_after.Statement.{statement}
@@ -29,14 +29,14 @@ read-views-requires c κs = search needs
 returns : tie.Need-returns
 returns c =
     c .read-views .ensures
-    ∙ ap (λ (fs : List (List ℕ)). listedValue (every numeral fs)) (sym (from-rest _ _ (c .before .before .if1 .taken)))
+    ∙ ap (λ (fs : List (List ℕ)). viewListValue (every numeral fs)) (sym (from-rest _ _ (c .before .before .if1 .taken)))
 
 none-listed-requires : tie.Need-none-listed-requires
 none-listed-requires c κs = search needs
 
 returns-2 : tie.Need-returns-2
 returns-2 c =
-    c .none-listed .ensures ∙ none-said ∙ ap (λ (fs : List (List ℕ)). listedValue (every numeral fs)) (sym (from-end _ _ (c .before .if1 .left)))
+    c .none-listed .ensures ∙ none-said ∙ ap (λ (fs : List (List ℕ)). viewListValue (every numeral fs)) (sym (from-end _ _ (c .before .if1 .left)))
 
 pub listed-after-spec : {M : Type 1} → statement M
 listed-after-spec =

@@ -2,7 +2,7 @@
 use mathlib.Core.Path.{ap}
 use borrow.Author.Needs.{needs}
 use Rattle.entries.specs.Value.{noPartition}
-use Rattle.entries.specs.declared.Listed.{Listed}
+use Rattle.entries.specs.declared.ViewList.{ViewList}
 use Rattle.entries.proofs.no_partition.Statement.{statement}
 use Rattle.entries.proofs.no_partition.Tie as tie
 
@@ -12,7 +12,7 @@ no-views-requires c κs = search needs
 returns : tie.Need-returns
 unfolding noPartition
 returns c =
-    ap (λ (l : Listed). record { ok = c .before .args .ok; outside = c .before .args .ok; number = 0; listed = l }) (c .no-views .ensures)
+    ap (λ (l : ViewList). record { ok = c .before .args .ok; outside = c .before .args .ok; number = 0; listed = l }) (c .no-views .ensures)
 
 pub no-partition-spec : {M : Type 1} → statement M
 no-partition-spec = tie.close (tie.spec no-views-requires returns)

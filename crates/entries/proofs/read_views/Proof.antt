@@ -10,7 +10,7 @@ use Rattle.model.proofs.Tags.{tag-formed}
 use Rattle.text.specs.Numeral.{numeral}
 use Rattle.model.specs.Limits.{mostViews, upTo}
 use Rattle.model.proofs.FieldsRead.{read-none, next-field, next-room}
-use Rattle.entries.specs.Value.{listed}
+use Rattle.entries.specs.Value.{viewList}
 use Rattle.entries.proofs.ViewsRead.{ViewsRead, NextView, next-malformed, next-outside, next-bounds, next-within, all-outside, all-within}
 use Rattle.entries.proofs.read_views.Statement.{statement}
 use Rattle.entries.proofs.read_views.Tie as tie
@@ -25,7 +25,7 @@ none-listed-requires : tie.Need-none-listed-requires Inv-loop μ-loop
 none-listed-requires c κs = search needs
 
 loop-holds : tie.Need-loop-holds Inv-loop μ-loop
-loop-holds c = read-none numeral (upTo mostViews) listed _ _ (c .none-listed .ensures)
+loop-holds c = read-none numeral (upTo mostViews) viewList _ _ (c .none-listed .ensures)
 
 sub-part : tie.Need-sub-part Inv-loop μ-loop
 sub-part c = search needs
@@ -58,7 +58,7 @@ next : (c : tie.After-first Inv-loop μ-loop) →
     NextView s (l .loop .l) (l .loop .outside) (l .loop .at) n (take n (take (length s - l .loop .at) (drop (l .loop .at) s)))
 next c =
     let t = c .before .before in
-    next-field numeral (upTo mostViews) listed (t .before .loop .inv) (omega (arith, t .loop-test .taken)) (c .first .ensures)
+    next-field numeral (upTo mostViews) viewList (t .before .loop .inv) (omega (arith, t .loop-test .taken)) (c .first .ensures)
 
 returns : tie.Need-returns Inv-loop μ-loop
 returns c =
@@ -72,13 +72,13 @@ with-view-requires : tie.Need-with-view-requires Inv-loop μ-loop
 with-view-requires c κs = next-bounds _ (c .before .up-to .ensures) (c .if1 .left)
 
 add-at : tie.Need-add-at Inv-loop μ-loop
-add-at c = omega (arith, next-room numeral (upTo mostViews) listed (next (c .before .before .before .before .before)))
+add-at c = omega (arith, next-room numeral (upTo mostViews) viewList (next (c .before .before .before .before .before)))
 
 add-at-2 : tie.Need-add-at-2 Inv-loop μ-loop
-add-at-2 c = omega (arith, next-room numeral (upTo mostViews) listed (next (c .before .before .before .before .before)))
+add-at-2 c = omega (arith, next-room numeral (upTo mostViews) viewList (next (c .before .before .before .before .before)))
 
 loop-less : tie.Need-loop-less Inv-loop μ-loop
-loop-less c = omega (arith, next-room numeral (upTo mostViews) listed (next (c .before .before .before .before .before)))
+loop-less c = omega (arith, next-room numeral (upTo mostViews) viewList (next (c .before .before .before .before .before)))
 
 loop-again : tie.Need-loop-again Inv-loop μ-loop
 loop-again c =

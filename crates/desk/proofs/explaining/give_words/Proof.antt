@@ -8,7 +8,7 @@ use lib.ListN.{length}
 use Rattle.labels.specs.Posed.{labelsValue}
 use Rattle.explain.specs.Explanation.{explained}
 use Rattle.explain.specs.Value.{wordsValue}
-use Rattle.desk.specs.Explaining.{told}
+use Rattle.desk.specs.Explaining.{saidExplaining}
 use Rattle.desk.proofs.Asked.{labels-held}
 use Rattle.desk.proofs.Explained.{words-count, words-narrow, explains-short, explains-given}
 use Rattle.desk.proofs.explaining.give_words.Statement.{statement}
@@ -41,7 +41,7 @@ same-length : tie.Need-same-length
 same-length c = search needs
 
 returns-2 : tie.Need-returns-2
-unfolding told
+unfolding saidExplaining
 returns-2 c = λ ws h.
     let w = c .before .before .before .before .before .before .before in
     explains-given _ _ _ (words w) ws h _ refl (sym (c .if2 .taken) ∙ w .before .settles .ensures ws (h .is))
@@ -51,7 +51,7 @@ same-length-2 : tie.Need-same-length-2
 same-length-2 c = search needs
 
 returns-3 : tie.Need-returns-3
-unfolding told
+unfolding saidExplaining
 returns-3 c = λ ws h.
     let w = c .before .before .before .before .before .before .before in
     explains-given _ _ _ (words w) ws h _ refl (sym (c .if2 .left) ∙ w .before .settles .ensures ws (h .is))

@@ -5,7 +5,7 @@ use native.Mathlib.Omega.{arith}
 use Rattle.words.specs.Bits.{bit}
 use Rattle.words.proofs.Bits.{bit-within}
 use Rattle.words.proofs.Marks.{left-before}
-use Rattle.reduce.specs.Extends.{Row}
+use Rattle.reduce.specs.Extends.{TargetsOf}
 use Rattle.reduce.proofs.Rows.{row-empty}
 use Rattle.reduce.proofs.assignment.rows_left.Statement.{statement}
 use Rattle.reduce.proofs.assignment.rows_left.Tie as tie
@@ -30,7 +30,7 @@ row-of-requires : tie.Need-row-of-requires Inv-loop μ-loop
 row-of-requires c κs = (bit-within 8 _ (c .before .before .before .pre .0) (row c), c .before .before .before .pre .1)
 
 returns : tie.Need-returns Inv-loop μ-loop
-returns c e = row-empty (row (c .before .before)) (subst (Row _ _ _) (c .if1 .taken) (c .before .row-of .ensures))
+returns c e = row-empty (row (c .before .before)) (subst (TargetsOf _ _ _) (c .if1 .taken) (c .before .row-of .ensures))
 
 drop-least-requires : tie.Need-drop-least-requires Inv-loop μ-loop
 drop-least-requires c κs = omega arith

@@ -4,7 +4,7 @@ use native.Mathlib.Omega.{arith}
 use lib.ListN.{length}
 use Rattle.theory.specs.Query.{Line as TheLine}
 use Rattle.words.proofs.Marks.{Upto, upto-none}
-use Rattle.model.specs.Rows.{Row}
+use Rattle.model.specs.Rows.{LaidAt}
 use Rattle.model.specs.Value.{lineValue}
 use Rattle.reduce.specs.Columns.{SameColumn}
 use Rattle.reduce.proofs.EqualColumns.{columns-all}
@@ -14,7 +14,7 @@ use Rattle.reduce.proofs.columns.same_columns.Tie as tie
 abbrev Inv-loop : tie.InvT-loop
 Inv-loop lines a b m₀ p₀ m p =
     (p ≤ 8)
-    × ((A B : TheLine) → Row lines a (lineValue A) → Row lines b (lineValue B) → length (A .columns) ≤ 8
+    × ((A B : TheLine) → LaidAt lines a (lineValue A) → LaidAt lines b (lineValue B) → length (A .columns) ≤ 8
     → length (B .columns) ≤ 8 → Upto (SameColumn A B) (p * 8) m)
 
 abbrev μ-loop : tie.MeasureT-loop

@@ -5,7 +5,7 @@ use native.Mathlib.Omega.{arith}
 use lib.ListN.{length}
 use Rattle.theory.specs.Query.{Line as TheLine}
 use Rattle.words.proofs.Marks.{Upto}
-use Rattle.model.specs.Rows.{termAt, Row}
+use Rattle.model.specs.Rows.{termAt, LaidAt}
 use Rattle.model.specs.Value.{lineValue}
 use Rattle.reduce.specs.Columns.{SameColumn}
 use Rattle.reduce.proofs.EqualColumns.{column-more, column-skip}
@@ -15,7 +15,7 @@ use Rattle.reduce.proofs.columns.with_column.Tie as tie
 abbrev Inv-loop : tie.InvT-loop
 Inv-loop m p t lines b r₀ q₀ r q =
     (q ≤ 8)
-    × ((A B : TheLine) → t ≡ termAt (lineValue A) p → Row lines b (lineValue B) → length (A .columns) ≤ 8 → length (B .columns) ≤ 8
+    × ((A B : TheLine) → t ≡ termAt (lineValue A) p → LaidAt lines b (lineValue B) → length (A .columns) ≤ 8 → length (B .columns) ≤ 8
     → Upto (SameColumn A B) (p * 8) m → Upto (SameColumn A B) (p * 8 + q) r)
 
 abbrev μ-loop : tie.MeasureT-loop

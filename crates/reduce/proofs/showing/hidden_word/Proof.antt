@@ -1,15 +1,15 @@
 use mathlib.Core.Path.{_≡_, ap, _∙_}
 use Prim.Native.Nat.{_-_, _≤_}
 use native.Mathlib.Omega.{arith}
-use Rattle.model.specs.Rows.{Row}
+use Rattle.model.specs.Rows.{LaidAt}
 use Rattle.model.specs.declared.Line.{Line}
-use Rattle.reduce.specs.Showing.{withHidden, HiddenWord}
+use Rattle.reduce.specs.Showing.{hiddenSet, HiddenWord}
 use Rattle.reduce.proofs.Hidden.{hidden-none, hidden-more}
 use Rattle.reduce.proofs.showing.hidden_word.Statement.{statement}
 use Rattle.reduce.proofs.showing.hidden_word.Tie as tie
 
 abbrev Inv-loop : tie.InvT-loop
-Inv-loop lines i m₀ k₀ m k = (k ≤ 8) × ((l : Line) → Row lines i l → HiddenWord l k m)
+Inv-loop lines i m₀ k₀ m k = (k ≤ 8) × ((l : Line) → LaidAt lines i l → HiddenWord l k m)
 
 abbrev μ-loop : tie.MeasureT-loop
 μ-loop lines i m₀ k₀ m k = 8 - k
@@ -35,7 +35,7 @@ loop-again c =
       omega arith,
       λ l row.
           hidden-more l (at .k) (at .m) _ (at .inv .1 l row)
-          (c .with-hidden .ensures ∙ ap (withHidden (at .m)) (c .before .term-at .ensures ∙ row .term (at .k) (c .before .before .loop-test .taken))),
+          (c .with-hidden .ensures ∙ ap (hiddenSet (at .m)) (c .before .term-at .ensures ∙ row .term (at .k) (c .before .before .loop-test .taken))),
     )
 
 returns : tie.Need-returns Inv-loop μ-loop

@@ -1,6 +1,6 @@
 use mathlib.Core.Path.{subst}
 use lib.Dec.{T}
-use Rattle.reduce.specs.Showing.{withHidden}
+use Rattle.reduce.specs.Showing.{hiddenSet}
 use Rattle.reduce.proofs.Hidden.{hidden-small}
 use borrow.Author.Needs.{needs}
 use Rattle.reduce.proofs.showing.with_hidden.Statement.{statement}
@@ -13,11 +13,11 @@ set-bit-requires : tie.Need-set-bit-requires
 set-bit-requires c κs = hidden-small _ (subst T (c .before .is-hidden .ensures) (rw (c .if1 .taken) tt))
 
 returns : tie.Need-returns
-unfolding withHidden
+unfolding hiddenSet
 returns c = simp (← c .before .before .is-hidden .ensures, c .before .if1 .taken, c .set-bit .ensures)
 
 returns-2 : tie.Need-returns-2
-unfolding withHidden
+unfolding hiddenSet
 returns-2 c = simp (← c .before .is-hidden .ensures, c .if1 .left)
 
 pub with-hidden-spec : {M : Type 1} → statement M

@@ -6,14 +6,14 @@ use Rattle.theory.specs.Query.{Query}
 use Rattle.words.proofs.ClearBits.{low-bits-below}
 use Rattle.words.proofs.Masks.{bit-and-iff}
 use Rattle.reduce.specs.Left.{Folds}
-use Rattle.reduce.specs.Pairs.{Tabled}
+use Rattle.reduce.specs.Pairs.{PairsTabled}
 use Rattle.reduce.proofs.Passes.{folds-all, in-eight, cleared, folds-more}
 use Rattle.reduce.proofs.taking.fold.Statement.{statement}
 use Rattle.reduce.proofs.taking.fold.Tie as tie
 
 abbrev Inv-loop : tie.InvT-loop
 Inv-loop n candidates table rows₀ i₀ rows i =
-    (i ≤ n) × (rows < 2 ^ n) × ((Q : Query) → length Q ≡ n → Tabled Q candidates table → Folds Q rows)
+    (i ≤ n) × (rows < 2 ^ n) × ((Q : Query) → length Q ≡ n → PairsTabled Q candidates table → Folds Q rows)
 
 abbrev μ-loop : tie.MeasureT-loop
 μ-loop n candidates table rows₀ i₀ rows i = i

@@ -8,7 +8,7 @@ use Rattle.words.specs.Bits.{bit}
 use Rattle.words.proofs.Bits.{bit-within}
 use Rattle.words.proofs.ClearBits.{low-bits-below}
 use Rattle.reduce.specs.Left.{Folds}
-use Rattle.reduce.specs.Pairs.{Tabled}
+use Rattle.reduce.specs.Pairs.{PairsTabled}
 use Rattle.reduce.proofs.Passes.{in-eight, cleared, Taking, taking-none, taking-out, taking-kept, taking-all}
 use Rattle.reduce.proofs.taking.taken.Statement.{statement}
 use Rattle.reduce.proofs.taking.taken.Tie as tie
@@ -17,7 +17,7 @@ abbrev Inv-loop : tie.InvT-loop
 Inv-loop n rows candidates table left₀ i₀ left i =
     (i ≤ n)
     × (left < 2 ^ 8)
-    × ((Q : Query) (e : length Q ≡ n) (t : Tabled Q candidates table) (there : (j : ℕ) → bit rows j ≡ 1 → j < length Q) (f : Folds Q rows) → Taking t rows there f i left)
+    × ((Q : Query) (e : length Q ≡ n) (t : PairsTabled Q candidates table) (there : (j : ℕ) → bit rows j ≡ 1 → j < length Q) (f : Folds Q rows) → Taking t rows there f i left)
 
 abbrev μ-loop : tie.MeasureT-loop
 μ-loop n rows candidates table left₀ i₀ left i = i

@@ -8,10 +8,10 @@ use Rattle.labels.specs.Posed.{labelsValue}
 use Rattle.labels.specs.declared.Labels.{Labels}
 
 -- at most eight labels, each with its views in 32 bits
-pub record Held (l : Labels) (ws : List ℕ) : Type 0 where
+pub record HoldsLabels (l : Labels) (ws : List ℕ) : Type 0 where
   pub is : l ≡ labelsValue ws
   pub few : length ws ≤ 8
   pub narrow : (w : ℕ) → w ∈ ws → w / 2 ^ 32 < 2 ^ 32
 
 abbrev pub SomeLabels : Labels → Type 0
-SomeLabels l = (ws : List ℕ) × Held l ws
+SomeLabels l = (ws : List ℕ) × HoldsLabels l ws
