@@ -8,9 +8,11 @@ pub mod Steps
 -- A session lent to a call.
 pub mod MachineValues
 -- Lists of calls.
-pub mod Demand
+pub mod Calls
 pub mod Exists
+-- What a contract leaves open: nothing.
 pub mod Unique
+pub mod Stays
 -- A text asked, and words written to a lent buffer.
 pub mod Asked
 pub mod Copied
@@ -20,3 +22,6 @@ pub mod Rewriting
 -- Explanations.
 pub mod Narrow
 pub mod Explained
+pub mod SettledExactly
+-- The demands.
+pub mod Demands

@@ -1,7 +1,7 @@
--- Demand 2: what `labels` gives are labels that mean rewriting.
-use mathlib.Core.Path.{_≡_, subst}
-use mathlib.Core.List.{List, map, Memᴰ·of-map}
-use Prim.Native.Nat.{ℕ, _^_, _<_}
+-- The labels of a query, as the definition gives them, mean rewriting, and are those of every reduced form.
+use mathlib.Core.Path.{subst}
+use mathlib.Core.List.{map, Memᴰ·of-map}
+use Prim.Native.Nat.{_^_, _<_}
 use native.Mathlib.Omega.{arith}
 use Rattle.theory.specs.Query.{over, Line, Query, NoClash, Fits}
 use Rattle.theory.specs.Archive.{AllFit}
@@ -20,15 +20,7 @@ use Rattle.theory.proofs.Executable.Label.{label-table, label-below}
 use Rattle.model.specs.Limits.{mostTables}
 use Rattle.policy.specs.Text.{Declared}
 use Rattle.policy.specs.Value.{WellFormed}
-use Rattle.validity.specs.Loadable.{Loadable}
-use Rattle.query.specs.Text.{Reading, accepted, read}
-use Rattle.query.proofs.Accepted.{accepted-well-read}
-use Rattle.model.specs.declared.Policy.{Policy}
-use Rattle.desk.specs.declared.listing.Listing.{Listing}
-use Rattle.desk.specs.Listing.{listReading, Lists}
 use Rattle.desk.specs.Rewriting.{LabelOf, LabelsOfForm, LabelsOf}
-use Rattle.desk.specs.Demands.{Demand2}
-use Rattle.desk.proofs.Loaded.{loaded-to}
 
 module _ (d : Declared) (good : WellFormed d) where
   label-of : (A : Line) → Fits (d .widths) A → LabelOf d A (label (d .views) A)
@@ -64,13 +56,3 @@ module _ (d : Declared) (good : WellFormed d) where
         answers = λ R r. reduced-answers r;
         none-goes = λ R r. reduced-reduced r;
       }
-
-pub demand-2 : Demand2
-unfolding listReading
-demand-2 p l text before r after g Q e =
-    let d = l .declared in
-    let w = accepted-well-read (d .widths) text Q e .0 in (
-      labels (d .views) Q,
-      labels-rewrite d (loaded-to l .good) Q (w .clear) (w .fits),
-      subst (λ (v : Reading). Lists r after (listReading d before v)) e (g .loaded l),
-    )

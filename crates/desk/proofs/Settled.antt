@@ -15,8 +15,8 @@ use Rattle.theory.specs.Archive.{AllFit}
 use Rattle.theory.specs.Executable.Label.{labels, settles}
 use Rattle.theory.proofs.Tuples.{getD-mem}
 use Rattle.theory.proofs.Executable.Test.{and-iff}
-use Rattle.words.specs.Bits.{isSet, setBit}
-use Rattle.words.proofs.Marks.{Upto, upto-more}
+use Rattle.words.specs.Bits.{isSet, setBit, Upto}
+use Rattle.words.proofs.Marks.{upto-more}
 use Rattle.model.specs.declared.Policy.{Policy}
 use Rattle.policy.specs.Text.{Declared}
 use Rattle.words.proofs.Bits.{same-bits}

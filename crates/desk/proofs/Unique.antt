@@ -1,99 +1,165 @@
--- What is said of a deciding call determines its reply and its session.
+-- What is said of a call determines its outcome, the reply, the session and every cell of a lent buffer, whether or not some text
+-- loads to the policy value.
 use mathlib.Core.Path.{_≡_, refl, sym, ap, _∙_}
-use mathlib.Core.List.{List}
+use mathlib.Core.Bool.{cond}
+use mathlib.Core.List.{List, [], _∷_, nil≢cons, List-discrete}
 use Prim.Native.Nat.{ℕ}
 use native.Mathlib.Decide.{ℕ-discrete, map-dec}
 use native.Mathlib.Omega.{arith}
 use Rattle.model.specs.declared.Policy.{Policy}
+use Rattle.model.specs.declared.Outcome.{Outcome}
+use Rattle.model.specs.declared.Outcome.the-variants.{Accepted, Refused as TurnedBack}
 use Rattle.validity.specs.Loadable.{Loadable}
 use Rattle.desk.specs.declared.opening.Session.{Session}
+use Rattle.desk.specs.declared.opening.Opening.{Opening}
 use Rattle.desk.specs.declared.deciding.Reply.{Reply}
 use Rattle.desk.specs.declared.deciding.Reply.the-variants.{Yes, No, Refused}
 use Rattle.desk.specs.declared.deciding.Decision.{Decision}
+use Rattle.desk.specs.declared.listing.Listing.{Listing}
+use Rattle.desk.specs.declared.listing.Listing.the-variants.{Given, Refused as NotListed}
+use Rattle.desk.specs.declared.explaining.Explaining.{Explaining}
+use Rattle.desk.specs.declared.explaining.Explaining.the-variants.{Settled, Unsettled, Refused as NotExplained}
 use Rattle.desk.specs.Reply.{Word, Said, said}
 use Rattle.desk.specs.Reply.{yes as affirmed, no as denied, refused as turned}
-use Rattle.desk.specs.Deciding.{Verdict, Gives, Decided}
+use Rattle.desk.specs.Opening.{Opened}
+use Rattle.desk.specs.Deciding.{Decided}
+use Rattle.desk.specs.Listing.{SaidListing, saidListing, LabelsGiven}
+use Rattle.desk.specs.Explaining.{SaidExplaining, saidExplaining, ExplanationGiven}
 
--- ---- a reply by its numbers
+-- ---- values that a list of numbers tells apart
 
-code : Reply → ℕ
-code (Yes n) = 0
-code (No n) = 1
-code (Refused n k) = 2
+record Code (X : Type 0) : Type 0 where
+  code : X → List ℕ
+  apart : (a b : X) → code a ≡ code b → a ≡ b
 
-record Numbers (a b : Reply) : Type 0 where
-  kind : code a ≡ code b
-  count : said a .count ≡ said b .count
-  number : said a .number ≡ said b .number
-  line : said a .line ≡ said b .line
+same? : {X : Type 0} → Code X → (a b : X) → Dec (a ≡ b)
+same? c a b = map-dec (c .apart a b) (ap (c .code)) (List-discrete ℕ-discrete (c .code a) (c .code b))
 
-same-numbers : (a b : Reply) → Numbers a b → a ≡ b
-unfolding code said
-same-numbers (Yes n) (Yes m) e = ap Yes (e .count)
-same-numbers (Yes n) (No m) e = absurd (omega (arith, e .kind))
-same-numbers (Yes n) (Refused m k) e = absurd (omega (arith, e .kind))
-same-numbers (No n) (Yes m) e = absurd (omega (arith, e .kind))
-same-numbers (No n) (No m) e = ap No (e .count)
-same-numbers (No n) (Refused m k) e = absurd (omega (arith, e .kind))
-same-numbers (Refused n j) (Yes m) e = absurd (omega (arith, e .kind))
-same-numbers (Refused n j) (No m) e = absurd (omega (arith, e .kind))
-same-numbers (Refused n j) (Refused m k) e = λ i. Refused (e .number i) (e .line i)
+-- what holds where a text loads to the value, and where none does, holds
+pub either-way : {L A : Type 0} → Dec A → (L → A) → ((L → ⊥) → A) → A
+either-way (yes a) f g = a
+either-way (no n) f g = g (λ l. n (f l))
 
--- the code of a reply is that of its word
+-- ---- what a reply says tells it from every other
+
 word-code : Word → ℕ
 word-code affirmed = 0
 word-code denied = 1
 word-code turned = 2
 
-code-word : (a : Reply) → code a ≡ word-code (said a .word)
-unfolding code said word-code
-code-word (Yes n) = refl
-code-word (No n) = refl
-code-word (Refused n k) = refl
+said-code : Said → List ℕ
+said-code s = word-code (s .word) ∷ s .count ∷ s .number ∷ s .line ∷ []
 
-said-numbers : (a b : Reply) → said a ≡ said b → Numbers a b
-said-numbers a b e = record {
-  kind = code-word a ∙ ap (λ (x : Said). word-code (x .word)) e ∙ sym (code-word b);
-  count = ap (λ (x : Said). x .count) e;
-  number = ap (λ (x : Said). x .number) e;
-  line = ap (λ (x : Said). x .line) e;
-}
+replies : Code Reply
+unfolding said said-code word-code
+replies = record { code = λ a. said-code (said a); apart = go }
+  where
+    go : (a b : Reply) → said-code (said a) ≡ said-code (said b) → a ≡ b
+    go (Yes n) (Yes m) e = cc
+    go (Yes n) (No m) e = absurd (let z : _≡_ {A = ℕ} 0 1 = cc in omega arith)
+    go (Yes n) (Refused m k) e = absurd (let z : _≡_ {A = ℕ} 0 2 = cc in omega arith)
+    go (No n) (Yes m) e = absurd (let z : _≡_ {A = ℕ} 1 0 = cc in omega arith)
+    go (No n) (No m) e = cc
+    go (No n) (Refused m k) e = absurd (let z : _≡_ {A = ℕ} 1 2 = cc in omega arith)
+    go (Refused n j) (Yes m) e = absurd (let z : _≡_ {A = ℕ} 2 0 = cc in omega arith)
+    go (Refused n j) (No m) e = absurd (let z : _≡_ {A = ℕ} 2 1 = cc in omega arith)
+    go (Refused n j) (Refused m k) e = cc
 
-gives-same : (r t : Decision) (o : Verdict) → Gives r o → Gives t o → r ≡ t
-gives-same r t o g h =
-    let reply = same-numbers (r .reply) (t .reply) (said-numbers (r .reply) (t .reply) (g .reply ∙ sym (h .reply))) in
-    let mask = g .session ∙ sym (h .session) in
+listing-code : SaidListing → List ℕ
+listing-code s = cond (s .given) 1 0 ∷ s .count ∷ s .number ∷ s .line ∷ []
+
+listings : Code Listing
+unfolding saidListing listing-code
+listings = record { code = λ a. listing-code (saidListing a); apart = go }
+  where
+    go : (a b : Listing) → listing-code (saidListing a) ≡ listing-code (saidListing b) → a ≡ b
+    go (Given n) (Given m) e = cc
+    go (Given n) (NotListed m k) e = absurd (let z : _≡_ {A = ℕ} 1 0 = cc in omega arith)
+    go (NotListed n j) (Given m) e = absurd (let z : _≡_ {A = ℕ} 0 1 = cc in omega arith)
+    go (NotListed n j) (NotListed m k) e = cc
+
+explaining-code : SaidExplaining → List ℕ
+explaining-code s = cond (s .given) 1 0 ∷ cond (s .settles) 1 0 ∷ s .count ∷ s .number ∷ s .line ∷ []
+
+explanations : Code Explaining
+unfolding saidExplaining explaining-code
+explanations = record { code = λ a. explaining-code (saidExplaining a); apart = go }
+  where
+    go : (a b : Explaining) → explaining-code (saidExplaining a) ≡ explaining-code (saidExplaining b) → a ≡ b
+    go (Settled n) (Settled m) e = cc
+    go (Settled n) (Unsettled m) e = absurd (let z : _≡_ {A = ℕ} 1 0 = cc in omega arith)
+    go (Settled n) (NotExplained m k) e = absurd (let z : _≡_ {A = ℕ} 1 0 = cc in omega arith)
+    go (Unsettled n) (Settled m) e = absurd (let z : _≡_ {A = ℕ} 0 1 = cc in omega arith)
+    go (Unsettled n) (Unsettled m) e = cc
+    go (Unsettled n) (NotExplained m k) e = absurd (let z : _≡_ {A = ℕ} 1 0 = cc in omega arith)
+    go (NotExplained n j) (Settled m) e = absurd (let z : _≡_ {A = ℕ} 0 1 = cc in omega arith)
+    go (NotExplained n j) (Unsettled m) e = absurd (let z : _≡_ {A = ℕ} 0 1 = cc in omega arith)
+    go (NotExplained n j) (NotExplained m k) e = cc
+
+pub said-apart : (a b : Reply) → said a ≡ said b → a ≡ b
+unfolding replies said-code
+said-apart a b e = replies .apart a b (ap said-code e)
+
+pub said-listing-apart : (a b : Listing) → saidListing a ≡ saidListing b → a ≡ b
+unfolding listings listing-code
+said-listing-apart a b e = listings .apart a b (ap listing-code e)
+
+pub said-explaining-apart : (a b : Explaining) → saidExplaining a ≡ saidExplaining b → a ≡ b
+unfolding explanations explaining-code
+said-explaining-apart a b e = explanations .apart a b (ap explaining-code e)
+
+outcome-code : Outcome → List ℕ
+outcome-code Accepted = []
+outcome-code (TurnedBack n k) = n ∷ k ∷ []
+
+outcomes : Code Outcome
+unfolding outcome-code
+outcomes = record { code = outcome-code; apart = go }
+  where
+    go : (a b : Outcome) → outcome-code a ≡ outcome-code b → a ≡ b
+    go Accepted Accepted e = refl
+    go Accepted (TurnedBack n k) e = absurd (nil≢cons e)
+    go (TurnedBack n k) Accepted e = absurd (nil≢cons (sym e))
+    go (TurnedBack n j) (TurnedBack m k) e = cc
+
+-- ---- "the contract determines the reply, the session and each buffer cell, refusals too"
+
+pub opened-unique : (p : Policy) (r t : Opening) → Opened p r → Opened p t → r ≡ t
+opened-unique p r t x y =
+    let outcome : r .outcome ≡ t .outcome =
+    either-way {L = Loadable p} (same? outcomes (r .outcome) (t .outcome)) (λ l. ap (λ (o : Opening). o .outcome) (x .opened l ∙ sym (y .opened l)))
+    (λ f. ap (λ (o : Opening). o .outcome) (x .turned f ∙ sym (y .turned f))) in
+    let mask : r .session .mask ≡ t .session .mask =
+    either-way {L = Loadable p} (ℕ-discrete (r .session .mask) (t .session .mask))
+    (λ l. ap (λ (o : Opening). o .session .mask) (x .opened l ∙ sym (y .opened l)))
+    (λ f. ap (λ (o : Opening). o .session .mask) (x .turned f ∙ sym (y .turned f))) in
+    λ i. record { outcome = outcome i; session = record { mask = mask i } }
+
+pub decided-unique : (p : Policy) (s : Session) (text : List ℕ) (r t : Decision) → Decided p s text r → Decided p s text t → r ≡ t
+decided-unique p s text r t x y =
+    let reply : r .reply ≡ t .reply =
+    either-way {L = Loadable p} (same? replies (r .reply) (t .reply))
+    (λ l. said-apart (r .reply) (t .reply) (x .loaded l .reply ∙ sym (y .loaded l .reply)))
+    (λ f. said-apart (r .reply) (t .reply) (x .unloaded f .reply ∙ sym (y .unloaded f .reply))) in
+    let mask : r .session .mask ≡ t .session .mask =
+    either-way {L = Loadable p} (ℕ-discrete (r .session .mask) (t .session .mask)) (λ l. x .loaded l .session ∙ sym (y .loaded l .session))
+    (λ f. x .unloaded f .session ∙ sym (y .unloaded f .session)) in
     λ i. record { reply = reply i; session = record { mask = mask i } }
 
--- ---- two decisions are the same or not
+pub labels-unique : (p : Policy) (text before : List ℕ) (r t : Listing) (after then : List ℕ)
+    → LabelsGiven p text before r after → LabelsGiven p text before t then → (r ≡ t) × (after ≡ then)
+labels-unique p text before r t after then x y = (
+  either-way {L = Loadable p} (same? listings r t) (λ l. said-listing-apart r t (x .loaded l .reply ∙ sym (y .loaded l .reply)))
+      (λ f. said-listing-apart r t (x .unloaded f .reply ∙ sym (y .unloaded f .reply))),
+  either-way {L = Loadable p} (List-discrete ℕ-discrete after then) (λ l. x .loaded l .buffer ∙ sym (y .loaded l .buffer))
+      (λ f. x .unloaded f .buffer ∙ sym (y .unloaded f .buffer)),
+)
 
-both : {A B : Type 0} → Dec A → Dec B → Dec (A × B)
-both (yes a) (yes b) = yes (a, b)
-both (yes a) (no f) = no (λ r. f (r .1))
-both (no f) d = no (λ r. f (r .0))
-
-decision-discrete : (r t : Decision) → Dec (r ≡ t)
-decision-discrete r t =
-    let a = r .reply in
-    let b = t .reply in
-    map-dec
-    (λ e.
-    let same = same-numbers a b (record { kind = e .0; count = e .1 .0; number = e .1 .1 .0; line = e .1 .1 .1 .0 }) in
-    λ i. record { reply = same i; session = record { mask = e .1 .1 .1 .1 i } })
-    (λ e. let n = said-numbers a b (ap (λ (x : Decision). said (x .reply)) e) in
-    (n .kind, (n .count, (n .number, (n .line, ap (λ (x : Decision). x .session .mask) e)))))
-    (both (ℕ-discrete (code a) (code b))
-    (both (ℕ-discrete (said a .count) (said b .count))
-    (both (ℕ-discrete (said a .number) (said b .number))
-    (both (ℕ-discrete (said a .line) (said b .line)) (ℕ-discrete (r .session .mask) (t .session .mask))))))
-
--- "the contract determines the reply, the session …": whether or not some text loads to the policy value
-pub decided-unique : (p : Policy) (s : Session) (text : List ℕ) (r t : Decision) → Decided p s text r → Decided p s text t → r ≡ t
-decided-unique p s text r t x y = go (decision-discrete r t)
-  where
-    loaded : Loadable p → r ≡ t
-    loaded l = gives-same r t _ (x .loaded l) (y .loaded l)
-
-    go : Dec (r ≡ t) → r ≡ t
-    go (yes e) = e
-    go (no f) = let none : Loadable p → ⊥ = λ l. f (loaded l) in gives-same r t _ (x .unloaded none) (y .unloaded none)
+pub explanation-unique : (p : Policy) (n : ℕ) (text before : List ℕ) (r t : Explaining) (after then : List ℕ)
+    → ExplanationGiven p n text before r after → ExplanationGiven p n text before t then → (r ≡ t) × (after ≡ then)
+explanation-unique p n text before r t after then x y = (
+  either-way {L = Loadable p} (same? explanations r t) (λ l. said-explaining-apart r t (x .loaded l .reply ∙ sym (y .loaded l .reply)))
+      (λ f. said-explaining-apart r t (x .unloaded f .reply ∙ sym (y .unloaded f .reply))),
+  either-way {L = Loadable p} (List-discrete ℕ-discrete after then) (λ l. x .loaded l .buffer ∙ sym (y .loaded l .buffer))
+      (λ f. x .unloaded f .buffer ∙ sym (y .unloaded f .buffer)),
+)

@@ -7,8 +7,8 @@ use native.Mathlib.Decide.{ℕ-discrete}
 use native.Mathlib.Omega.{arith}
 use lib.ListN.{length, getD, set, length-set}
 use lib.Seq.{getD-set-same, getD-set-other}
-use Rattle.words.specs.Bits.{setBit}
-use Rattle.words.proofs.Marks.{Upto, upto-none, upto-more}
+use Rattle.words.specs.Bits.{setBit, Upto}
+use Rattle.words.proofs.Marks.{upto-none, upto-more}
 use Rattle.words.proofs.SetBits.{set-bit-below}
 use Rattle.model.specs.Value.{pad}
 use Rattle.model.specs.declared.Policy.{Policy}

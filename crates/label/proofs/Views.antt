@@ -9,7 +9,7 @@ use native.Mathlib.Nat.{lt-of-lt-of-le}
 use native.Mathlib.Omega.{arith}
 use lib.ListN.{length, getD, getElem?, replicate}
 use lib.Pow.{pow-mono}
-use Rattle.words.specs.Bits.{bit}
+use Rattle.words.specs.Bits.{bit, Upto}
 use Rattle.theory.specs.Query.{Line as TheLine}
 use Rattle.theory.specs.Cover.{Covers}
 use Rattle.theory.specs.Executable.Cover.{covers}
@@ -23,7 +23,7 @@ use Rattle.model.specs.declared.Line.{Line}
 use Rattle.model.specs.declared.Policy.{Policy}
 use Rattle.label.specs.Labelled.{Holds, OfTable, Labelled}
 use Rattle.words.proofs.Answers.{true-holds, holds-true}
-use Rattle.words.proofs.Marks.{Upto, upto-set, Picked, picked-all}
+use Rattle.words.proofs.Marks.{upto-set, Picked, picked-all}
 use Rattle.words.proofs.Bits.{same-bits}
 
 -- what the code reads behind the views' end

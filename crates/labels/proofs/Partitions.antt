@@ -4,7 +4,7 @@ use mathlib.Core.Logic.{_↔_, inr, ⊎-elim}
 use mathlib.Core.Bool.{Bool, _&&_}
 use mathlib.Core.List.{List, [], _∷_, map, List·Memᴰ·head, List·Memᴰ·tail, Memᴰ·map, Memᴰ·of-map}
 use mathlib.Core.Option.{some, Option·some-injective}
-use Prim.Native.Nat.{ℕ, zero, suc, _+_, _-_, _/_, _^_, _≤_, _<_}
+use Prim.Native.Nat.{ℕ, _+_, _-_, _/_, _^_, _≤_, _<_}
 use native.Mathlib.Omega.{arith}
 use lib.Dec.{T}
 use lib.ListN.{length, getElem?}
@@ -20,12 +20,14 @@ use Rattle.theory.proofs.Lists.{at-place, below-place, there}
 use Rattle.theory.proofs.Executable.Test.{same-test, any-iff}
 use Rattle.theory.proofs.Executable.Cover.{covers-iff}
 use Rattle.theory.proofs.Executable.Label.{viewBits-bit}
-use Rattle.theory.proofs.Determine.{settles-iff-determines}
+use Rattle.theory.proofs.Determine.{settles-iff-determines, no-view-determines}
 use Rattle.words.specs.Bits.{bit, meet}
 use Rattle.words.proofs.Bits.{bit-zero}
 use Rattle.words.proofs.Parts.{high-part}
 use Rattle.words.proofs.Tests.{meet-iff}
 use Rattle.model.specs.Limits.{mostTables, mostViews}
+use Rattle.query.specs.Text.{accepted, read}
+use Rattle.query.proofs.Accepted.{accepted-well-read}
 use Rattle.policy.specs.Text.{Declared}
 use Rattle.policy.specs.Determining.{Grants, PartitionDetermines}
 use Rattle.policy.specs.Value.{WellFormed, GoodPartition}
@@ -157,3 +159,12 @@ module _ (d : Declared) (good : WellFormed d) (n : ℕ) (vs : List ℕ) (at : ge
     settled-iff-partition =
         let e = settled-settles d good vs partition-good Q fits in
         let k = settles-iff-partition in (λ t. k .0 (subst T e t), λ p. subst T (sym e) (k .1 p))
+
+-- "A partition may list no view": it determines no query
+pub no-views-no-query : (d : Declared) → WellFormed d → (n : ℕ) → getElem? (d .partitions) n ≡ some [] → (text : List ℕ) (Q : Query)
+    → read (d .widths) text ≡ accepted Q → PartitionDetermines d n Q → ⊥
+unfolding granted
+no-views-no-query d good n at text Q reads p =
+    let (w, some-line) = accepted-well-read (d .widths) text Q reads in
+    let (A, first) = below-place Q 0 some-line in
+    no-view-determines (d .widths) Q A (w .clear) (w .fits) (at-place Q 0 first) (determines-granted d good n [] at Q .0 p)

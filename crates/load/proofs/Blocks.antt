@@ -8,7 +8,7 @@ use Rattle.text.specs.Names.{viewTableTerms, partitionViews, sameBytes}
 use Rattle.policy.specs.Text.{Declared, Block, tables, views, partitions, isNext, nextBlock, enter, faulty, entered}
 use Rattle.policy.specs.Text.{Entered as TheEntered}
 use Rattle.policy.specs.Policy.{policyValue}
-use Rattle.load.specs.Value.{blockNumber, enteredValue, progressValue, afterEntry, steppedValue}
+use Rattle.load.specs.Steps.{blockNumber, enteredValue, progressValue, afterEntry, steppedValue}
 use Rattle.model.specs.declared.Policy.{Policy}
 use Rattle.load.specs.declared.Progress.{Progress}
 use Rattle.load.specs.declared.Stepped.{Stepped}

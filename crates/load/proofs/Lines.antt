@@ -10,7 +10,7 @@ use lib.Dec.{eqb}
 use borrow.Author.Tests.{eq-eqb, ne-eqb}
 use Rattle.model.specs.Fields.{Numbered}
 use Rattle.policy.specs.Text.{Declared, faulty, entered, unless, entry}
-use Rattle.load.specs.Value.{lineFault}
+use Rattle.load.specs.Steps.{lineFault}
 
 -- a kind of line: its flags and number, the line that says no more, and the line of an entry within its limits
 pub record Kind (X L : Type 0) : Type 0 where

@@ -12,7 +12,7 @@ use Rattle.model.proofs.Pad.{pad-more}
 use Rattle.policy.specs.Text.{Declared}
 use Rattle.policy.specs.Policy.{policyValue, viewsAfter}
 use Rattle.entries.specs.Value.{viewList}
-use Rattle.load.specs.Value.{moreTables, moreViews, morePartitions}
+use Rattle.load.specs.Steps.{moreTables, moreViews, morePartitions}
 
 -- an entry more behind entries that are made of a list
 entry-more : {X Y : Type 0} (n : ℕ) (none : Y) (f : X → Y) (l : List X) (x : X) → length l < n

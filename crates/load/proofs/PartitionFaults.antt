@@ -15,7 +15,7 @@ use Rattle.model.specs.Limits.{upTo, mostViews, mostPartitions, firstFault}
 use Rattle.policy.specs.Text.{Declared, ascend, partitionFault, faulty, entered, enter, partitions as partitionBlock}
 use Rattle.entries.specs.Value.{partitionValue, noPartition, viewList, lastAfter}
 use Rattle.entries.specs.declared.PartitionLine.{PartitionLine}
-use Rattle.load.specs.Value.{lineFault, morePartitions}
+use Rattle.load.specs.Steps.{lineFault, morePartitions}
 use Rattle.load.proofs.Lines.{Kind, Within, reading, within, malformed-fault, outside-fault, within-fault, in-turn, out-of-turn, taken, taken-entered, faulty-entered}
 
 -- ---- the last of views that ascend is the largest

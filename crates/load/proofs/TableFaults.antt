@@ -13,7 +13,7 @@ use Rattle.model.specs.declared.Tables.{Tables}
 use Rattle.policy.specs.Text.{Declared, tableFault, faulty, entered, enter, tables as tableBlock}
 use Rattle.entries.specs.Value.{tableValue, noTable}
 use Rattle.entries.specs.declared.TableLine.{TableLine}
-use Rattle.load.specs.Value.{lineFault, moreTables}
+use Rattle.load.specs.Steps.{lineFault, moreTables}
 use Rattle.load.proofs.Lines.{Kind, Within, reading, within, malformed-fault, outside-fault, within-fault, in-turn, out-of-turn, taken, taken-entered, faulty-entered}
 
 unfoldable pub tableKind : Kind ℕ TableLine

@@ -13,7 +13,7 @@ use Rattle.model.specs.Value.{goodValue}
 use Rattle.policy.specs.Text.{Declared, viewFault, faulty, entered, enter, views as viewBlock}
 use Rattle.entries.specs.Value.{viewValue, noView}
 use Rattle.entries.specs.declared.ViewLine.{ViewLine}
-use Rattle.load.specs.Value.{lineFault, moreViews}
+use Rattle.load.specs.Steps.{lineFault, moreViews}
 use Rattle.load.proofs.Lines.{Kind, Within, reading, within, malformed-fault, outside-fault, within-fault, in-turn, out-of-turn, taken, taken-entered, faulty-entered}
 
 unfoldable pub viewKind : Kind Line ViewLine

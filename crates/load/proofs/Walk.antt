@@ -15,7 +15,7 @@ use Rattle.text.proofs.Lines.{split-none, split-found}
 use Rattle.model.specs.Fields.{Numbered, tableLine, viewLine, partitionLine}
 use Rattle.policy.specs.Text.{Declared, nothing, refused, accepted, faulty, entered, Block, tables, views, partitions, unless, entry, enter, tableFault, viewFault, partitionFault, isNext, nextBlock, ends, goOn, loadFrom}
 use Rattle.policy.specs.Text.{Loading as TheLoading, Entered as TheEntered}
-use Rattle.load.specs.Value.{blockNumber, progressValue, afterEntry, steppedValue, moreTables, moreViews, morePartitions}
+use Rattle.load.specs.Steps.{blockNumber, progressValue, afterEntry, steppedValue, moreTables, moreViews, morePartitions}
 use Rattle.load.specs.declared.Progress.{Progress}
 use Rattle.load.specs.declared.Stepped.{Stepped}
 use Rattle.load.proofs.Blocks.{block-of, started-of}

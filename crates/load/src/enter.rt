@@ -11,7 +11,7 @@ ghost use Rattle.model.specs.Value.{tablesValue, goodValue};
 ghost use Rattle.policy.specs.Text.{Declared, enter, tables as tableBlock, views as viewBlock, partitions as partitionBlock, tableFault, viewFault, partitionFault};
 ghost use Rattle.policy.specs.Policy.{policyValue};
 ghost use Rattle.entries.specs.Value.{tableValue, viewValue, partitionValue, viewList};
-ghost use Rattle.load.specs.Value.{enteredValue, lineFault, ViewTabled, Numbering, moreTables, moreViews, morePartitions};
+ghost use Rattle.load.specs.Steps.{enteredValue, lineFault, ViewTabled, Numbering, moreTables, moreViews, morePartitions};
 use entries::PartitionLine;
 use entries::TableLine;
 use entries::ViewLine;

@@ -11,8 +11,8 @@ use Rattle.theory.specs.Query.{Line as TheLine}
 use Rattle.theory.specs.Cover.{at}
 use Rattle.theory.specs.Executable.Test.{same}
 use Rattle.theory.proofs.Executable.Test.{same-iff}
-use Rattle.words.specs.Bits.{bit, setBit}
-use Rattle.words.proofs.Marks.{Upto, upto-more, upto-all, by-test}
+use Rattle.words.specs.Bits.{bit, setBit, Upto}
+use Rattle.words.proofs.Marks.{upto-more, upto-all, by-test}
 use Rattle.model.specs.Value.{sameTerm, unusedTerm, termValue, lineValue}
 use Rattle.model.proofs.Same.{same-value}
 use Rattle.model.specs.declared.Term.{Term}

@@ -12,9 +12,9 @@ use lib.ListN.{length, getD, set, length-set}
 use lib.Seq.{getD-set-same, getD-set-other}
 use Rattle.theory.specs.Query.{Query}
 use Rattle.theory.proofs.Executable.Test.{and-iff}
-use Rattle.words.specs.Bits.{setBit}
+use Rattle.words.specs.Bits.{setBit, Upto}
 use Rattle.words.proofs.Answers.{true-iff}
-use Rattle.words.proofs.Marks.{Upto, upto-more, upto-all, by-test}
+use Rattle.words.proofs.Marks.{upto-more, upto-all, by-test}
 use Rattle.reduce.specs.Agree.{goes, lineAt}
 use Rattle.reduce.specs.Columns.{goesRow, SameColumns}
 use Rattle.reduce.specs.Pairs.{Going, Goings, Columns}

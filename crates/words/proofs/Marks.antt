@@ -9,7 +9,7 @@ use native.Mathlib.Omega.{arith}
 use lib.Dec.{T}
 use lib.ListN.{length, getD, set, length-set}
 use lib.Seq.{getD-set-same, getD-set-other}
-use Rattle.words.specs.Bits.{bit, setBit, Least, LeastDropped}
+use Rattle.words.specs.Bits.{bit, setBit, Upto, Least, LeastDropped}
 use Rattle.words.proofs.Bits.{bit-zero, bit-cases}
 use Rattle.words.proofs.SetBits.{set-bit-same, set-bit-other}
 use Rattle.words.proofs.Lowest.{dropped-same, dropped-other}
@@ -23,11 +23,6 @@ module _ (m p : ℕ) where
   pub put-other : (on : Bool) (b : ℕ) → (b ≡ p → ⊥) → bit (cond on (setBit m p) m) b ≡ bit m b
   put-other true b f = set-bit-other m p b f
   put-other false b f = refl
-
--- the bits below p are set by the test, and none from p on
-pub record Upto (P : ℕ → Type 0) (p m : ℕ) : Type 0 where
-  pub below : (b : ℕ) → b < p → (bit m b ≡ 1) ↔ P b
-  pub past : (b : ℕ) → p ≤ b → bit m b ≡ 0
 
 module _ {P : ℕ → Type 0} where
   pub upto-none : (p : ℕ) → ((b : ℕ) → b < p → P b → ⊥) → Upto P p 0

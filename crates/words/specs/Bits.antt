@@ -1,7 +1,8 @@
 -- Words as numbers: a word of w bits is a number below 2 ^ w, and bit 0 is its lowest.
 use mathlib.Core.Path.{_≡_}
+use mathlib.Core.Logic.{_↔_}
 use mathlib.Core.Bool.{Bool, true, false, cond, not, _&&_, _||_}
-use Prim.Native.Nat.{ℕ, zero, suc, _+_, _-_, _/_, _%_, _^_, _<_}
+use Prim.Native.Nat.{ℕ, zero, suc, _+_, _-_, _/_, _%_, _^_, _≤_, _<_}
 use lib.Dec.{eqb}
 
 -- bit k of a word
@@ -34,6 +35,11 @@ include (suc w) a b = (not (isSet b w) || isSet a w) && include w a b
 unfoldable pub onesBelow : ℕ → ℕ → ℕ
 onesBelow zero n = zero
 onesBelow (suc w) n = bit n w + onesBelow w n
+
+-- the bits below p are set exactly where P holds, and none from p on
+pub record Upto (P : ℕ → Type 0) (p m : ℕ) : Type 0 where
+  pub below : (b : ℕ) → b < p → (bit m b ≡ 1) ↔ P b
+  pub past : (b : ℕ) → p ≤ b → bit m b ≡ 0
 
 -- k is the least of the set bits of n, and below w
 pub record Least (w n k : ℕ) : Type 0 where

@@ -9,7 +9,8 @@ use borrow.Author.Tests.{not-true, not-false}
 use Rattle.model.specs.declared.Outcome.the-variants.{Accepted}
 use Rattle.text.proofs.Parts.{found, found-le, found-line, found-none, found-some}
 use Rattle.policy.specs.Text.{refused}
-use Rattle.load.specs.Value.{loadingValue, progressValue, blockNumber, steppedValue}
+use Rattle.load.specs.Value.{loadingValue}
+use Rattle.load.specs.Steps.{progressValue, blockNumber, steppedValue}
 use Rattle.load.proofs.Blocks.{policy-of}
 use Rattle.load.proofs.Walk.{Walked, walked-none, block-small, stops, turns-back, walked-more, not-partitions, not-begun, all-declared}
 use Rattle.load.proofs.load_lines.Statement.{statement}

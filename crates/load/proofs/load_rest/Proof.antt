@@ -37,7 +37,7 @@ use denote.Triple.Table.{entered, cited}
 use denote.Triple.Walked.{says, needs, Stays, stay-dropped, walkOf, goes-dropped, ends-at, walked, walk-meets}
 use Rattle.text.specs.declared.Reader.{Reader}
 use Rattle.text.proofs.Readers.{reader-type, reader-laws, reader-row, reader-slot, reader-val, TypedReader, own-parts, reader-typed, taken-apart}
-use Rattle.load.specs.Value.{BlocksLoaded}
+use Rattle.load.specs.Steps.{BlocksLoaded}
 use Rattle.load.specs.declared.Loading.{Loading}
 use Rattle.load.proofs.MachineValues.{loading-typed}
 use Rattle.load.proofs.Loading as Y

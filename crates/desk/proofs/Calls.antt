@@ -1,29 +1,25 @@
--- Demand 3: a list of calls on a fresh session under a loaded policy.
-use mathlib.Core.Path.{_≡_, refl, sym, ap, subst, _∙_}
+-- A list of calls on a fresh session under a loaded policy: which partitions are open, and what each call says.
+use mathlib.Core.Path.{_≡_, sym, ap, subst, _∙_}
 use mathlib.Core.List.{List, [], _∷_, _++_, append-assoc, append-nil, head-eq-of-cons-eq, tail-eq-of-cons-eq, nil≢cons, List·Memᴰ·not-nil}
 use Prim.Native.Nat.{ℕ, _-_}
 use native.Mathlib.Omega.{arith}
 use lib.ListN.{length}
 use lib.Pow.{pow-mono}
 use Rattle.words.proofs.ClearBits.{low-bits-set, low-bits-below}
-use Rattle.model.specs.Limits.{mostPartitions}
 use Rattle.model.specs.declared.Policy.{Policy}
 use Rattle.model.specs.declared.Outcome.the-variants.{Accepted, Refused}
 use Rattle.policy.specs.Text.{Declared, refused, accepted, load}
 use Rattle.policy.specs.Text.{Loading as TheLoading}
 use Rattle.policy.specs.Value.{WellFormed}
 use Rattle.policy.specs.Policy.{policyValue}
-use Rattle.policy.proofs.Loaded.{loaded-well-formed}
 use Rattle.validity.specs.Loadable.{Loadable}
 use Rattle.load.specs.Value.{loadingValue}
 use Rattle.load.specs.declared.Loading.{Loading}
 use Rattle.desk.specs.declared.opening.Session.{Session}
-use Rattle.desk.specs.declared.opening.Opening.{Opening}
 use Rattle.desk.specs.Session.{allOpen}
 use Rattle.desk.specs.Calls.{Call, Calls, none-left, one-call}
-use Rattle.desk.specs.Demands.{Right, Demand3}
+use Rattle.desk.specs.Demands.{Right}
 use Rattle.desk.proofs.Loaded.{loaded-to}
-use Rattle.desk.proofs.Masks.{open-count}
 use Rattle.desk.proofs.Steps.{Held, one-step}
 
 module _ (p : Policy) (l : Loadable p) where
@@ -45,7 +41,7 @@ module _ (p : Policy) (l : Loadable p) where
       subst (λ (z : List Call). Right d z c)
       (append-assoc before (x ∷ []) b ∙ ap (λ (z : Call). before ++ z ∷ b) (head-eq-of-cons-eq e)) (rest b c a (tail-eq-of-cons-eq e))
 
-  chain : (before : List Call) {s t : Session} {cs : List Call} → Held d before (s .mask) → Calls p s cs t
+  pub chain : (before : List Call) {s t : Session} {cs : List Call} → Held d before (s .mask) → Calls p s cs t
       → Held d (before ++ cs) (t .mask) × AllRight before cs
   chain before {s = s} h none-left = (subst (λ (b : List Call). Held d b (s .mask)) (sym (append-nil before)) h, none-right before)
   chain before {s = s} {t = t} h (one-call {cs = cs} c g rest) =
@@ -54,7 +50,7 @@ module _ (p : Policy) (l : Loadable p) where
       (subst (λ (b : List Call). Held d b (t .mask)) (append-assoc before (c ∷ []) cs) held, one-right before c cs (done .right) right)
 
 -- every partition is open, and none has a query to determine yet
-fresh : (d : Declared) → WellFormed d → Held d [] (allOpen d)
+pub fresh : (d : Declared) → WellFormed d → Held d [] (allOpen d)
 unfolding allOpen
 fresh d w =
     let n = length (d .partitions) in
@@ -68,26 +64,8 @@ refused≢accepted : {n k : ℕ} → Refused n k ≡ Accepted → ⊥
 refused≢accepted e = let z : _≡_ {A = ℕ} 1 0 = cc in omega arith
 
 -- a text that loading accepts, by what `load` replies
-loaded : (text : List ℕ) (v : TheLoading) (r : Loading) → load text ≡ v → r ≡ loadingValue v → r .outcome ≡ Accepted
+pub loaded : (text : List ℕ) (v : TheLoading) (r : Loading) → load text ≡ v → r ≡ loadingValue v → r .outcome ≡ Accepted
     → (d : Declared) × (load text ≡ accepted d) × (r .policy ≡ policyValue d)
 unfolding loadingValue
 loaded text (refused n k) r e f a = absurd (refused≢accepted (sym (ap (λ (x : Loading). x .outcome) f) ∙ a))
 loaded text (accepted d) r e f a = (d, e, ap (λ (x : Loading). x .policy) f)
-
-pub demand-3 : Demand3
-unfolding mostPartitions
-demand-3 text r e a o opened cs s calls =
-    let (d, loads, value) = loaded text (load text) r refl e a in
-    let l : Loadable (r .policy) = record { text = text; declared = d; loads = loads; value = value } in
-    let w = loaded-well-formed text d loads in
-    let start : o .session .mask ≡ allOpen d = ap (λ (x : Opening). x .session .mask) (opened .opened l) in
-    let (held, right) = chain (r .policy) l [] (subst (Held d []) (sym start) (fresh d w)) calls in (
-      d,
-      loads,
-      record {
-        open-exactly = held .each;
-        no-other = held .below;
-        left-open = open-count _ (length (d .partitions)) (s .mask) (omega (arith, w .partitions .few)) (held .below) (held .each);
-        each-call = right;
-      },
-    )

@@ -1,0 +1,64 @@
+-- The customer's demands, proved.
+use mathlib.Core.Path.{_≡_, refl, sym, ap, subst, _∙_}
+use mathlib.Core.List.{[]}
+use native.Mathlib.Omega.{arith}
+use lib.ListN.{length}
+use Rattle.theory.specs.Executable.Label.{labels}
+use Rattle.model.specs.Limits.{mostPartitions}
+use Rattle.query.specs.Text.{Reading}
+use Rattle.query.proofs.Accepted.{accepted-well-read}
+use Rattle.policy.specs.Text.{load}
+use Rattle.policy.proofs.Loaded.{loaded-well-formed}
+use Rattle.validity.specs.Loadable.{Loadable}
+use Rattle.desk.specs.declared.opening.Opening.{Opening}
+use Rattle.desk.specs.Session.{allOpen}
+use Rattle.desk.specs.Listing.{listReading, Lists}
+use Rattle.desk.specs.Demands.{Demand1, Demand2, Demand3}
+use Rattle.desk.proofs.Loaded.{loaded-to}
+use Rattle.desk.proofs.Masks.{open-count}
+use Rattle.desk.proofs.Steps.{Held}
+use Rattle.desk.proofs.Calls.{chain, fresh, loaded}
+use Rattle.desk.proofs.Unique.{opened-unique, decided-unique, labels-unique, explanation-unique}
+use Rattle.desk.proofs.Stays.{yes-or-no, session-stays, labels-buffer-stays, explaining-buffer-stays}
+use Rattle.desk.proofs.Rewriting.{labels-rewrite}
+
+pub demand-1 : Demand1
+demand-1 = record {
+  one-loading = λ text r t x y. x ∙ sym y;
+  one-opening = opened-unique;
+  one-decision = decided-unique;
+  one-listing = labels-unique;
+  one-explanation = explanation-unique;
+  yes-or-no = yes-or-no;
+  session-stays = session-stays;
+  labels-buffer-stays = labels-buffer-stays;
+  explaining-buffer-stays = explaining-buffer-stays;
+}
+
+pub demand-2 : Demand2
+unfolding listReading
+demand-2 p l text before r after g Q e =
+    let d = l .declared in
+    let w = accepted-well-read (d .widths) text Q e .0 in (
+      labels (d .views) Q,
+      labels-rewrite d (loaded-to l .good) Q (w .clear) (w .fits),
+      subst (λ (v : Reading). Lists r after (listReading d before v)) e (g .loaded l),
+    )
+
+pub demand-3 : Demand3
+unfolding mostPartitions
+demand-3 text r e a o opened cs s calls =
+    let (d, loads, value) = loaded text (load text) r refl e a in
+    let l : Loadable (r .policy) = record { text = text; declared = d; loads = loads; value = value } in
+    let w = loaded-well-formed text d loads in
+    let start : o .session .mask ≡ allOpen d = ap (λ (x : Opening). x .session .mask) (opened .opened l) in
+    let (held, right) = chain (r .policy) l [] (subst (Held d []) (sym start) (fresh d w)) calls in (
+      d,
+      loads,
+      record {
+        open-exactly = held .each;
+        no-other = held .below;
+        left-open = open-count _ (length (d .partitions)) (s .mask) (omega (arith, w .partitions .few)) (held .below) (held .each);
+        each-call = right;
+      },
+    )
