@@ -1,3 +1,3 @@
 pub mod Line
-pub mod Telling
+pub mod Progress
 pub mod Written

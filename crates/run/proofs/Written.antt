@@ -3,7 +3,6 @@ use mathlib.Core.Path.{_≡_, refl, sym, ap, subst, _∙_}
 use mathlib.Core.List.{List, [], _∷_, _++_}
 use Prim.Native.Nat.{ℕ}
 use native.Mathlib.Omega.{arith}
-use lib.ListN.{take}
 use Rattle.model.specs.declared.Outcome.the-variants.{Accepted, Refused}
 use Rattle.policy.specs.Text.{Declared, load}
 use Rattle.policy.specs.Text.{Loading as TheLoading, refused as refusedPolicy, accepted as acceptedPolicy}
@@ -16,6 +15,7 @@ use Rattle.labels.proofs.Readings.{Tag}
 use Rattle.desk.specs.Reply.{refused}
 use Rattle.desk.specs.Session.{allOpen}
 use Rattle.writing.specs.Wrote.{Wrote}
+use Rattle.writing.proofs.Wrote.{wrote-as, wrote-more}
 use Rattle.cutting.specs.Cut.{cut}
 use Rattle.run.specs.Output.{outputNames, outputLine}
 use Rattle.run.specs.Run.{linesFrom, under, written}
@@ -56,7 +56,7 @@ pub written-accepted : (policy queries : List ℕ) (d : Declared) → load polic
 unfolding written outputNames under
 written-accepted policy queries d e = rw e
 
--- what stands behind the names line once that is written to the front of a buffer
-pub behind-names : {was mid out written : List ℕ} {at : ℕ} (rest : List ℕ) → Wrote was 0 namesLine mid at → out ≡ take at mid ++ rest
-    → written ≡ namesLine ++ rest → out ≡ written
-behind-names rest w e f = e ∙ ap (λ (l : List ℕ). l ++ rest) (w .front) ∙ sym f
+-- what is written behind the names line
+pub behind-names : {was mid is output under : List ℕ} {at r : ℕ} → Wrote was 0 namesLine mid at → Wrote mid at under is r
+    → output ≡ namesLine ++ under → Wrote was 0 output is r
+behind-names v w e = wrote-as (sym e) (wrote-more v w)
