@@ -20,8 +20,9 @@ use Rattle.load.specs.declared.Loading.{Loading}
 use Rattle.desk.specs.declared.opening.Session.{Session}
 use Rattle.desk.specs.declared.opening.Opening.{Opening}
 use Rattle.desk.specs.Session.{allOpen}
-use Rattle.desk.specs.Opening.{Opened}
-use Rattle.desk.specs.Calls.{Call, Calls, none-left, one-call, Right, Demand}
+use Rattle.desk.specs.Calls.{Call, Calls, none-left, one-call}
+use Rattle.desk.specs.Demands.{Right, Demand3}
+use Rattle.desk.proofs.Loaded.{loaded-to}
 use Rattle.desk.proofs.Masks.{open-count}
 use Rattle.desk.proofs.Steps.{Held, one-step}
 
@@ -48,7 +49,7 @@ module _ (p : Policy) (l : Loadable p) where
       → Held d (before ++ cs) (t .mask) × AllRight before cs
   chain before {s = s} h none-left = (subst (λ (b : List Call). Held d b (s .mask)) (sym (append-nil before)) h, none-right before)
   chain before {s = s} {t = t} h (one-call {cs = cs} c g rest) =
-      let done = one-step d before c (s .mask) h (g .loaded l) in
+      let done = one-step d (loaded-to l .good) before c (s .mask) h (g .loaded l) in
       let (held, right) = chain (before ++ c ∷ []) (done .held) rest in
       (subst (λ (b : List Call). Held d b (t .mask)) (append-assoc before (c ∷ []) cs) held, one-right before c cs (done .right) right)
 
@@ -73,11 +74,7 @@ unfolding loadingValue
 loaded text (refused n k) r e f a = absurd (refused≢accepted (sym (ap (λ (x : Loading). x .outcome) f) ∙ a))
 loaded text (accepted d) r e f a = (d, e, ap (λ (x : Loading). x .policy) f)
 
--- "For every list of deciding calls on a fresh session under one loaded policy, whatever bytes their query texts hold and
--- whatever replies they get"
-pub demand-3 : (text : List ℕ) (r : Loading) → r ≡ loadingValue (load text) → r .outcome ≡ Accepted
-    → (o : Opening) → Opened (r .policy) o → (cs : List Call) (s : Session) → Calls (r .policy) (o .session) cs s
-    → (d : Declared) × (load text ≡ accepted d) × Demand d cs s
+pub demand-3 : Demand3
 unfolding mostPartitions
 demand-3 text r e a o opened cs s calls =
     let (d, loads, value) = loaded text (load text) r refl e a in
@@ -88,6 +85,8 @@ demand-3 text r e a o opened cs s calls =
       d,
       loads,
       record {
+        open-exactly = held .each;
+        no-other = held .below;
         left-open = open-count _ (length (d .partitions)) (s .mask) (omega (arith, w .partitions .few)) (held .below) (held .each);
         each-call = right;
       },

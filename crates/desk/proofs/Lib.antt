@@ -9,6 +9,7 @@ pub mod Steps
 pub mod MachineValues
 -- Lists of calls.
 pub mod Demand
+pub mod Exists
 pub mod Unique
 -- A text asked, and words written to a lent buffer.
 pub mod Asked

@@ -8,22 +8,28 @@ use native.Mathlib.Decide.{ℕ-discrete}
 use native.Mathlib.Omega.{arith}
 use borrow.Author.Tests.{eq-eqb, ne-eqb, lt-leb}
 use lib.Count.{trailingZeros}
+use lib.Dec.{T}
 use lib.ListN.{length, getD}
-use Rattle.theory.specs.Query.{Query}
+use Rattle.theory.specs.Query.{Query, NoClash}
+use Rattle.theory.specs.Archive.{AllFit}
 use Rattle.theory.specs.Executable.Label.{settles}
-use Rattle.theory.proofs.Determine.{settles-iff-determines}
+use Rattle.theory.proofs.Lists.{below-place, there}
 use Rattle.words.specs.Bits.{bit}
 use Rattle.words.proofs.Bits.{bit-zero}
 use Rattle.words.proofs.Lowest.{trailing-least}
 use Rattle.query.specs.Text.{Reading, refused, accepted, read}
 use Rattle.query.proofs.Accepted.{accepted-well-read}
 use Rattle.policy.specs.Text.{Declared}
+use Rattle.policy.specs.Value.{WellFormed}
+use Rattle.policy.specs.Determining.{PartitionDetermines}
 use Rattle.labels.specs.Settled.{granted}
+use Rattle.labels.proofs.Partitions.{settles-iff-partition}
 use Rattle.desk.specs.Reply.{Word, Said, said}
 use Rattle.desk.specs.Reply.{yes as affirmed, no as denied, refused as turned}
 use Rattle.desk.specs.Session.{openCount, unfit, stillOpen}
 use Rattle.desk.specs.Deciding.{Verdict, turnedBack, answered, decideQuery, decideUnder, Gives}
-use Rattle.desk.specs.Calls.{Call, Says, Asks, PartitionDetermines, DeterminesAll, Answerable, Right}
+use Rattle.desk.specs.Calls.{Call, Says, Asks, DeterminesAll, Answerable}
+use Rattle.desk.specs.Demands.{Right}
 use Rattle.desk.proofs.Masks.{passing-iff, passing-below}
 
 -- ---- words and readings are what they are
@@ -88,7 +94,14 @@ module _ (d : Declared) where
 
   -- ---- a well-formed query
 
-  module _ (before : List Call) (c : Call) (Q : Query) (asks : Asks d c Q) (mask : ℕ) (h : Held before mask) where
+  -- a partition settles a query exactly when it determines it
+  settles-at : WellFormed d → (i : ℕ) → i < length (d .partitions) → (Q : Query) → NoClash Q → AllFit (d .widths) Q
+      → T (settles (granted (d .views) (getD (d .partitions) i [])) Q) ↔ PartitionDetermines d i Q
+  settles-at good i l Q clear fits =
+      let (vs, at) = below-place (d .partitions) i l in
+      rw (there (d .partitions) i [] at) (settles-iff-partition d good i vs at Q clear fits)
+
+  module _ (good : WellFormed d) (before : List Call) (c : Call) (Q : Query) (asks : Asks d c Q) (mask : ℕ) (h : Held before mask) where
     abbrev left : ℕ
     left = stillOpen d Q mask
 
@@ -101,11 +114,9 @@ module _ (d : Declared) where
     unfolding stillOpen
     left-iff i =
         let w = accepted-well-read (d .widths) (c .text) Q asks .0 in
-        let vs = getD (d .partitions) i [] in
-        let k = passing-iff (λ ps. settles (granted (d .views) ps) Q) (d .partitions) mask i in
-        let s = settles-iff-determines (d .widths) (granted (d .views) vs) Q (w .clear) (w .fits) in (
-          λ e. let (l, t, b) = k .0 e in (l, h .each i l .0 b, s .0 t),
-          λ r. k .1 (r .0, s .1 (r .2), h .each i (r .0) .1 (r .1)),
+        let k = passing-iff (λ ps. settles (granted (d .views) ps) Q) (d .partitions) mask i in (
+          λ e. let (l, t, b) = k .0 e in (l, h .each i l .0 b, settles-at good i l Q (w .clear) (w .fits) .0 t),
+          λ r. k .1 (r .0, settles-at good i (r .0) Q (w .clear) (w .fits) .1 (r .2), h .each i (r .0) .1 (r .1)),
         )
 
     only : (P : Query) → Asks d c P → P ≡ Q
@@ -176,7 +187,7 @@ module _ (d : Declared) where
 
   -- ---- any call
 
-  module _ (before : List Call) (c : Call) (mask : ℕ) (h : Held before mask) where
+  module _ (good : WellFormed d) (before : List Call) (c : Call) (mask : ℕ) (h : Held before mask) where
     says : {o : Verdict} → Gives (c .gave) o → Says c (o .says .word)
     says g = ap (λ (x : Said). x .word) (g .reply)
 
@@ -186,10 +197,10 @@ module _ (d : Declared) where
     asked : (Q : Query) → Asks d c Q → Dec (stillOpen d Q mask ≡ 0) → Gives (c .gave) (answered mask (stillOpen d Q mask)) → Done before c
     unfolding answered
     asked Q a (yes e) g =
-        let k = rw (eq-eqb (stillOpen d Q mask) 0 e) at g in said-no before c Q a mask h e (says k) (counts k) (k .session)
+        let k = rw (eq-eqb (stillOpen d Q mask) 0 e) at g in said-no good before c Q a mask h e (says k) (counts k) (k .session)
     asked Q a (no f) g =
         let k = rw (ne-eqb (stillOpen d Q mask) 0 f) at g in
-        said-yes before c Q a mask h (omega arith) (says k) (counts k) (k .session)
+        said-yes good before c Q a mask h (omega arith) (says k) (counts k) (k .session)
 
     by-reading : (r : Reading) → read (d .widths) (c .text) ≡ r → Gives (c .gave) (decideQuery d mask r) → Done before c
     unfolding decideQuery turnedBack

@@ -9,3 +9,4 @@ pub mod Listing
 pub mod Rewriting
 pub mod HoldsLabels
 pub mod Explaining
+pub mod Demands

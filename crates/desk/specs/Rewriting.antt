@@ -1,18 +1,17 @@
 -- Demand 2, of what `labels` gives.
 use mathlib.Core.Path.{_≡_}
 use mathlib.Core.Logic.{_↔_}
-use mathlib.Core.List.{List}
+use mathlib.Core.List.{List, List·Permᴰ}
 use mathlib.Core.Option.{some}
 use Prim.Native.Nat.{ℕ, _+_, _-_, _%_, _^_, _≤_, _<_}
-use lib.ListN.{length, getD, getElem?}
-use Rattle.theory.specs.Query.{Line, Query}
+use lib.ListN.{length, getElem?}
+use Rattle.theory.specs.Query.{Line, Query, Pointwise}
 use Rattle.theory.specs.Archive.{Archive, Answer}
 use Rattle.theory.specs.Reduce.{Reduced, ReducesTo}
 use Rattle.theory.specs.Cover.{Rewrites}
-use Rattle.theory.specs.Executable.Show.{show}
+use Rattle.theory.specs.Show.{Shown}
 use Rattle.words.specs.Bits.{bit}
 use Rattle.policy.specs.Text.{Declared}
-use Rattle.reduce.specs.Agree.{lineAt}
 
 -- A word is the label of a line: "the low 32 bits hold the table number and the high 32 bits the views, view n at bit 31 + n",
 -- a view "exactly when that line … can be rewritten over that one view with the same answers on every archive"
@@ -22,12 +21,19 @@ pub record LabelOf (d : Declared) (A : Line) (w : ℕ) : Type 0 where
       → (bit w (31 + n) ≡ 1) ↔ ((v : Line) × (getElem? (d .views) (n - 1) ≡ some v) × Rewrites (d .widths) v A)
   pub no-other : w < 2 ^ (32 + length (d .views))
 
--- Words are the labels of a query: "after the query is reduced and shared variables are shown"; "The reduced query answers as
--- the original does, and no line of it could still go."
+-- Words are the labels of a reduced query: one for each line, in order, once "shared variables are shown"
+pub record LabelsOfForm (d : Declared) (R : Query) (ws : List ℕ) : Type 0 where
+  pub shown : Query
+  pub shows : Shown R shown
+  pub each : Pointwise (LabelOf d) shown ws
+
+-- Words are the labels of a query: of a reduced form, in its order, and of every reduced form up to order ("The collection of
+-- labels, repeats counted, is fixed; its order is open"). "The reduced query answers as the original does, and no line of it
+-- could still go."
 pub record LabelsOf (d : Declared) (Q : Query) (ws : List ℕ) : Type 0 where
   pub form : Query
   pub reduces : ReducesTo Q form
-  pub answers : (D : Archive) (s : ℕ → ℕ) → (Answer Q D s) ↔ (Answer form D s)
-  pub none-goes : Reduced form
-  pub as-many : length ws ≡ length form
-  pub each : (i : ℕ) → i < length form → LabelOf d (lineAt (show form) i) (getD ws i 0)
+  pub labels-it : LabelsOfForm d form ws
+  pub any-form : (R : Query) → ReducesTo Q R → (ws′ : List ℕ) × List·Permᴰ ws ws′ × LabelsOfForm d R ws′
+  pub answers : (R : Query) → ReducesTo Q R → (D : Archive) (s : ℕ → ℕ) → (Answer Q D s) ↔ (Answer R D s)
+  pub none-goes : (R : Query) → ReducesTo Q R → Reduced R

@@ -16,7 +16,7 @@ use Rattle.theory.specs.Executable.Cover.{covers}
 use Rattle.theory.specs.Executable.Reduce.{reduce}
 use Rattle.theory.specs.Executable.Show.{show}
 use Rattle.theory.specs.Executable.Label.{viewBits, label, labels, settles}
-use Rattle.theory.proofs.Lists.{none≢some, below-place}
+use Rattle.theory.proofs.Lists.{at-place, below-place, there}
 use Rattle.theory.proofs.Executable.Test.{same-test, any-iff}
 use Rattle.theory.proofs.Executable.Cover.{covers-iff}
 use Rattle.theory.proofs.Executable.Label.{viewBits-bit}
@@ -27,6 +27,7 @@ use Rattle.words.proofs.Parts.{high-part}
 use Rattle.words.proofs.Tests.{meet-iff}
 use Rattle.model.specs.Limits.{mostTables, mostViews}
 use Rattle.policy.specs.Text.{Declared}
+use Rattle.policy.specs.Determining.{Grants, PartitionDetermines}
 use Rattle.policy.specs.Value.{WellFormed, GoodPartition}
 use Rattle.policy.specs.Policy.{viewsAfter}
 use Rattle.policy.proofs.PartitionWords.{after-bit, good-below}
@@ -47,13 +48,6 @@ unfolding all
 all-same f g [] h = refl
 all-same f g (x ∷ l) h = ap₂ (λ (a b : Bool). a && b) (h x (List·Memᴰ·head refl)) (all-same f g l (λ y m. h y (List·Memᴰ·tail m)))
 
--- the line at a place
-line-there : (views : List Line) (k : ℕ) {v : Line} → getElem? views k ≡ some v → lineAt views k ≡ v
-unfolding lineAt
-line-there [] k e = absurd (none≢some e)
-line-there (w ∷ views) zero {v} e = Option·some-injective w v e
-line-there (w ∷ views) (suc k) e = line-there views k e
-
 -- ---- one label
 
 module _ (views : List Line) (vs : List ℕ) (few : length views ≤ 32) (good : GoodPartition (length views) vs) (A : Line) (small : A .table < 2 ^ 32) where
@@ -68,6 +62,10 @@ module _ (views : List Line) (vs : List ℕ) (few : length views ≤ 32) (good :
   unfolding label
   high = high-part 32 (viewBits views A) small
 
+  line-there : (k : ℕ) {v : Line} → getElem? views k ≡ some v → lineAt views k ≡ v
+  unfolding lineAt
+  line-there k e = there views k _ e
+
   holds-granted : meet 64 (label views A / 2 ^ 32) (viewsAfter 0 vs) ≡ any (λ v. covers v A) (granted views vs)
   unfolding granted
   holds-granted =
@@ -79,14 +77,14 @@ module _ (views : List Line) (vs : List ℕ) (few : length views ≤ 32) (good :
       any-iff (λ v. covers v A) (granted views vs) .1 (
         lineAt views (r .0 + 1 - 1),
         Memᴰ·map (λ v. lineAt views (v - 1)) m,
-        covers-iff _ A .1 (subst (λ (v : Line). Covers v A) (sym (line-there views (r .0 + 1 - 1) (ap (getElem? views) (omega arith) ∙ c .1))) (c .2)),
+        covers-iff _ A .1 (subst (λ (v : Line). Covers v A) (sym (line-there (r .0 + 1 - 1) (ap (getElem? views) (omega arith) ∙ c .1))) (c .2)),
       ))
       (λ t.
       let r = any-iff (λ v. covers v A) (granted views vs) .0 t in
       let w = Memᴰ·of-map (λ v. lineAt views (v - 1)) vs (r .1) in
       let b = good-below (length views) vs good (w .0) (w .1) in
       let p = below-place views (w .0 - 1) (omega (arith, b .0, b .1)) in
-      let e = line-there views (w .0 - 1) (p .1) in
+      let e = line-there (w .0 - 1) (p .1) in
       true-holds (meet-iff 64 (label views A / 2 ^ 32) (viewsAfter 0 vs) .1 (
         w .0 - 1,
         omega (arith, b .1, few),
@@ -112,3 +110,50 @@ module _ (d : Declared) (good : WellFormed d) (vs : List ℕ) (partition : GoodP
   settled-iff-determines clear =
       let s = settles-iff-determines (d .widths) (granted (d .views) vs) Q clear fits in
       (λ t. s .0 (subst T settled-settles t), λ p. subst T (sym settled-settles) (s .1 p))
+
+-- ---- a partition of the policy
+
+module _ (d : Declared) (good : WellFormed d) (n : ℕ) (vs : List ℕ) (at : getElem? (d .partitions) n ≡ some vs) where
+  partition-good : GoodPartition (length (d .views)) vs
+  partition-good = good .partitions .each vs (at-place (d .partitions) n at)
+
+  -- its views, from their numbers
+  granted-iff : (v : Line) → Grants d n v ↔ (v ∈ granted (d .views) vs)
+  unfolding granted lineAt
+  granted-iff v = (
+    λ g.
+        let same : g .numbers ≡ vs = Option·some-injective (g .numbers) vs (sym (g .partition) ∙ at) in
+        subst (λ (u : Line). u ∈ granted (d .views) vs) (there (d .views) (g .number - 1) _ (g .view))
+        (Memᴰ·map (λ k. lineAt (d .views) (k - 1)) (subst (λ (l : List ℕ). g .number ∈ l) same (g .listed))),
+    λ m.
+        let (k, i, e) = Memᴰ·of-map (λ k. lineAt (d .views) (k - 1)) vs m in
+        let b = good-below (length (d .views)) vs partition-good k i in
+        let (u, p) = below-place (d .views) (k - 1) (omega (arith, b .0, b .1)) in
+        record {
+          numbers = vs;
+          partition = at;
+          number = k;
+          listed = i;
+          from-one = b .0;
+          view = p ∙ ap some (sym (there (d .views) (k - 1) _ p) ∙ e);
+        },
+  )
+
+  determines-granted : (Q : Query) → PartitionDetermines d n Q ↔ Determines (d .widths) (granted (d .views) vs) Q
+  determines-granted Q = (
+    λ p D E fitD fitE agree. p D E fitD fitE (λ v g. agree v (granted-iff v .0 g)),
+    λ p D E fitD fitE agree. p D E fitD fitE (λ v m. agree v (granted-iff v .1 m)),
+  )
+
+  module _ (Q : Query) (clear : NoClash Q) (fits : AllFit (d .widths) Q) where
+    -- by covering, as deciding has it
+    pub settles-iff-partition : T (settles (granted (d .views) vs) Q) ↔ PartitionDetermines d n Q
+    settles-iff-partition =
+        let s = settles-iff-determines (d .widths) (granted (d .views) vs) Q clear fits in
+        let k = determines-granted Q in (λ t. k .1 (s .0 t), λ p. s .1 (k .0 p))
+
+    -- and by the words of its labels, as explaining has it
+    pub settled-iff-partition : T (settled (viewsAfter 0 vs) (labels (d .views) Q)) ↔ PartitionDetermines d n Q
+    settled-iff-partition =
+        let e = settled-settles d good vs partition-good Q fits in
+        let k = settles-iff-partition in (λ t. k .0 (subst T e t), λ p. subst T (sym e) (k .1 p))

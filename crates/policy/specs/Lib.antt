@@ -1,4 +1,5 @@
 pub mod Text
+pub mod Determining
 pub mod Value
 pub mod Print
 pub mod Example

@@ -17,7 +17,7 @@ use lib.ListN.{getElem?}
 use Rattle.theory.specs.Query.{Term, constant, shown, hidden, over, Line, Query, _∈_, NoClash, Fits}
 use Rattle.theory.specs.Archive.{Archive, AllFit, Answer, Determines}
 use Rattle.theory.specs.Reduce.{Reduced, ReducesTo}
-use Rattle.theory.specs.Show.{Shared}
+use Rattle.theory.specs.Show.{Shared, Shown}
 use Rattle.theory.specs.Cover.{at, IsHidden, Covers, Rewrites}
 use Rattle.theory.specs.Executable.Test.{any}
 use Rattle.theory.specs.Executable.Reduce.{reduce}
@@ -27,9 +27,10 @@ use Rattle.theory.specs.Executable.Label.{settles}
 use Rattle.theory.proofs.Lists.{none≢some}
 use Rattle.theory.proofs.Cover.{equal-terms}
 use Rattle.theory.proofs.Rewrite.{covers-rewrites, rewrites-determines}
-use Rattle.theory.proofs.Reduce.{reduced-answers, reduced-reduced, reduced-subset, reduced-clear}
+use Rattle.theory.proofs.Reduce.{reduced-answers, reduced-reduced, reduced-subset, reduced-clear, reduced-map}
 use Rattle.theory.proofs.Executable.Test.{all-iff, any-iff}
 use Rattle.theory.proofs.Executable.Reduce.{reduce-reduces}
+use Rattle.theory.proofs.Executable.Show.{show-is-shown, shown-is-show}
 use Rattle.theory.proofs.Executable.Cover.{covers-iff}
 use Inside.{Unshared, CoversIn, covers-shown}
 use Sufficient.{covered-determines}
@@ -45,12 +46,18 @@ determines-like widths vs same d D E fitD fitE agree s =
     ((λ x. same E s .0 (k .0 (same D s .1 x))), (λ x. same D s .0 (k .1 (same E s .1 x))))
 
 -- A list of views determines a query exactly when each line of its reduced form, shared variables shown, is covered by one of
--- them: for any reduced form, and for the query as handed in.
-pub determines-iff-covered : (widths : List ℕ) (vs : List Line) {Q R : Query} → NoClash Q → AllFit widths Q → ReducesTo Q R
-    → Determines widths vs Q ↔ ((A : Line) → A ∈ show R → (v : Line) × (v ∈ vs) × Covers v A)
+-- them: for any reduced form, any form so shown, and for the query as handed in.
+pub determines-iff-covered : (widths : List ℕ) (vs : List Line) {Q R S : Query} → NoClash Q → AllFit widths Q → ReducesTo Q R → Shown R S
+    → Determines widths vs Q ↔ ((A : Line) → A ∈ S → (v : Line) × (v ∈ vs) × Covers v A)
 unfolding show
-determines-iff-covered widths vs {Q} {R} clear fits r = (to, from)
+determines-iff-covered widths vs {Q} {R} {S} clear fits r shows = (
+  λ d A m. to d A (subst (λ (X : Query). A ∈ X) is m),
+  λ cover. from (λ A m. cover A (subst (λ (X : Query). A ∈ X) (sym is) m)),
+)
   where
+    is : S ≡ show R
+    is = shown-is-show R shows
+
     clear-R : NoClash R
     clear-R = reduced-clear r clear
 
@@ -74,7 +81,7 @@ pub settles-iff-determines : (widths : List ℕ) (vs : List Line) (Q : Query) �
     → T (settles vs Q) ↔ Determines widths vs Q
 unfolding settles
 settles-iff-determines widths vs Q clear fits =
-    let k = determines-iff-covered widths vs clear fits (reduce-reduces Q) in
+    let k = determines-iff-covered widths vs clear fits (reduce-reduces Q) (show-is-shown (reduce Q)) in
     let a = all-iff (λ A. any (λ v. covers v A) vs) (show (reduce Q)) in (
       (λ t. k .1 (λ A m.
           let r = any-iff (λ v. covers v A) vs .0 (a .0 t A m) in (r .0, r .1, covers-iff (r .0) A .0 (r .2)))),
@@ -151,3 +158,13 @@ view-determines-line widths v A fits = (
 pub covers-iff-rewrites : (widths : List ℕ) (v A : Line) → Fits widths A → Covers v A ↔ Rewrites widths v A
 covers-iff-rewrites widths v A fits =
     (covers-rewrites widths v A, λ w. view-determines-line widths v A fits .0 (rewrites-determines widths v A w))
+
+-- no view at all determines no query that has a line
+pub no-view-determines : (widths : List ℕ) (Q : Query) (A : Line) → NoClash Q → AllFit widths Q → A ∈ Q → Determines widths [] Q → ⊥
+unfolding show
+no-view-determines widths Q A clear fits m d =
+    let r = reduce-reduces Q in
+    let k = reduced-map r in
+    let c = determines-iff-covered widths [] clear fits r (show-is-shown (reduce Q)) .0 d _
+    (Memᴰ·map (over (showTerm (reduce Q))) (k .1 A m)) in
+    List·Memᴰ·not-nil (c .1)

@@ -1,4 +1,5 @@
--- Facts on lists that the kit's libraries lack: places, a list without one of its places, lists without repeats.
+-- Facts on lists that the kit's libraries lack: places, lists place by place, a list without one of its places, lists without
+-- repeats.
 use mathlib.Core.Path.{_≡_, refl, sym, ap, _∙_}
 use mathlib.Core.Logic.{_⊎_, inl, inr, ⊎-elim, _≢_}
 use mathlib.Core.Option.{Option, none, some, Option·some-injective}
@@ -6,8 +7,8 @@ use mathlib.Core.List.{List, [], _∷_, map, List·Memᴰ·head, List·Memᴰ·t
 use Prim.Native.Nat.{ℕ, zero, suc, _≤_, _<_, zero-le, suc-le-suc}
 use native.Mathlib.Nat.{not-suc-le-zero, le-of-suc-le-suc, suc-inj, suc-ne-zero}
 use native.Mathlib.Omega.{arith}
-use lib.ListN.{length, getElem?}
-use Rattle.theory.specs.Query.{_∈_}
+use lib.ListN.{length, getElem?, getD}
+use Rattle.theory.specs.Query.{_∈_, Pointwise, ends, next}
 use Rattle.theory.specs.Reduce.{without}
 
 -- ---- places
@@ -36,6 +37,12 @@ module _ {X : Type 0} where
   below-place [] i h = absurd (not-suc-le-zero h)
   below-place (y ∷ l) zero h = (y, refl)
   below-place (y ∷ l) (suc i) h = below-place l i (le-of-suc-le-suc h)
+
+  -- what stands at a place, whatever is given where nothing stands
+  pub there : (l : List X) (i : ℕ) (d : X) {x : X} → getElem? l i ≡ some x → getD l i d ≡ x
+  there [] i d e = absurd (none≢some e)
+  there (y ∷ l) zero d {x} e = Option·some-injective y x e
+  there (y ∷ l) (suc i) d e = there l i d e
 
   -- ---- a list without one of its places
 
@@ -138,3 +145,14 @@ map-no-repeats f (x ∷ l) one r =
     (λ m. let k = Memᴰ·of-map f l m in
     head-repeats r (Memᴰ·cast (one x (k .0) (List·Memᴰ·head refl) (List·Memᴰ·tail (k .1)) (sym (k .2))) (k .1)))
     (map-no-repeats f l (λ y z i j. one y z (List·Memᴰ·tail i) (List·Memᴰ·tail j)) (tail-repeats r))
+
+-- ---- two lists, place by place
+
+pub pointwise-of : {X Y : Type 0} {P : X → Y → Type 0} (f : X → Y) (l : List X) → ((x : X) → x ∈ l → P x (f x)) → Pointwise P l (map f l)
+pointwise-of f [] h = ends
+pointwise-of f (x ∷ l) h = next (h x (List·Memᴰ·head refl)) (pointwise-of f l (λ y m. h y (List·Memᴰ·tail m)))
+
+pub pointwise-is-map : {X Y : Type 0} {P : X → Y → Type 0} (f : X → Y) → ((x : X) (y : Y) → P x y → y ≡ f x)
+    → {l : List X} {m : List Y} → Pointwise P l m → m ≡ map f l
+pointwise-is-map f h ends = refl
+pointwise-is-map f h (next {x = x} {y = y} p rest) = cc (h x y p, pointwise-is-map f h rest)

@@ -41,7 +41,11 @@ abbrev pub Agree : Line → Archive → Archive → Type 0
 Agree v D E = SameAnswers (v ∷ []) D E
 
 -- "A partition determines a query when any two archives that agree on each of its views give the query … the same set of
--- answers": for any list of views.
+-- answers": for any views, told by a property.
+abbrev pub DeterminedBy : List ℕ → (Line → Type 0) → Query → Type 0
+DeterminedBy widths IsView Q =
+    (D E : Archive) → AllFit widths D → AllFit widths E → ((v : Line) → IsView v → Agree v D E) → SameAnswers Q D E
+
+-- the same for a list of views
 abbrev pub Determines : List ℕ → List Line → Query → Type 0
-Determines widths vs Q =
-    (D E : Archive) → AllFit widths D → AllFit widths E → ((v : Line) → v ∈ vs → Agree v D E) → SameAnswers Q D E
+Determines widths vs Q = DeterminedBy widths (λ v. v ∈ vs) Q

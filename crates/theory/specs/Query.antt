@@ -3,7 +3,7 @@
 -- A mark is part of its variable: `!1` and `?1` are different terms. A view is a line, and a query a list of lines. Lines
 -- and rows are both a table number with something in each column, so they share one shape.
 use mathlib.Core.Path.{_≡_}
-use mathlib.Core.List.{List, map, List·Memᴰ}
+use mathlib.Core.List.{List, [], _∷_, map, List·Memᴰ}
 use Prim.Native.Nat.{ℕ, _≤_, _-_}
 use lib.ListN.{length, getD}
 
@@ -33,6 +33,11 @@ Query = List Line
 -- x is an element of the list
 abbrev pub _∈_ : {X : Type 0} → X → List X → Type 0
 x ∈ l = List·Memᴰ x l
+
+-- the property holds of two lists place by place, and they are equally long
+pub data Pointwise {X Y : Type 0} (P : X → Y → Type 0) : List X → List Y → Type 0 where
+  ends : Pointwise P [] []
+  next : {x : X} {y : Y} {l : List X} {m : List Y} → P x y → Pointwise P l m → Pointwise P (x ∷ l) (y ∷ m)
 
 -- "one variable number both shown and hidden" (6) stands nowhere in the query
 abbrev pub NoClash : Query → Type 0

@@ -1,5 +1,5 @@
 -- The test of being shared is being shared, and what a term becomes is what document 01 says.
-use mathlib.Core.Path.{_≡_, refl, sym, ap, subst}
+use mathlib.Core.Path.{_≡_, refl, sym, ap, subst, _∙_}
 use mathlib.Core.Logic.{_↔_, _⊎_, inl, inr, ⊎-elim, _≢_}
 use mathlib.Core.Bool.{Bool, true, false, cond, _&&_}
 use mathlib.Core.Option.{some, Option·some-injective}
@@ -9,11 +9,11 @@ use native.Mathlib.Nat.{suc-inj, suc-ne-zero}
 use lib.Dec.{T}
 use lib.ListN.{getElem?}
 use mir.Facts.{and-yes, yes-and, or-yes}
-use Rattle.theory.specs.Query.{Term, constant, shown, hidden, Line, Query, _∈_}
-use Rattle.theory.specs.Show.{Shared, Shows}
+use Rattle.theory.specs.Query.{Term, constant, shown, hidden, over, Line, Query, _∈_}
+use Rattle.theory.specs.Show.{Shared, Shows, Shown}
 use Rattle.theory.specs.Executable.Test.{any, same}
-use Rattle.theory.specs.Executable.Show.{standsIn, shared, showTerm}
-use Rattle.theory.proofs.Lists.{none≢some, place, at-place}
+use Rattle.theory.specs.Executable.Show.{standsIn, shared, showTerm, show}
+use Rattle.theory.proofs.Lists.{none≢some, place, at-place, pointwise-of, pointwise-is-map}
 use Rattle.theory.proofs.Executable.Test.{or-iff, any-iff, same-iff}
 
 -- the test of "t is one of the terms"
@@ -109,3 +109,24 @@ show-shared R n s = ⊎-elim (λ r. r .1) (λ r. absurd (r .0 s)) (show-shows R 
 
 pub show-unshared : (R : Query) (n : ℕ) → (Shared R n → ⊥) → showTerm R (hidden n) ≡ hidden n
 show-unshared R n u = ⊎-elim (λ r. absurd (u (r .0))) (λ r. r .1) (show-shows R (hidden n))
+
+-- a shown term is the one that `showTerm` gives
+shows-only : (R : Query) (t u : Term) → Shows R t u → u ≡ showTerm R t
+unfolding showTerm
+shows-only R (constant c) u e = e
+shows-only R (shown n) u e = e
+shows-only R (hidden n) u s =
+    ⊎-elim (λ r. r .1 ∙ sym (show-shared R n (r .0))) (λ r. r .1 ∙ sym (show-unshared R n (r .0))) s
+
+-- `show R` is R with its shared variables shown
+pub show-is-shown : (R : Query) → Shown R (show R)
+unfolding show
+show-is-shown R =
+    pointwise-of (over (showTerm R)) R (λ A m. (refl, pointwise-of (showTerm R) (A .columns) (λ t i. show-shows R t)))
+
+-- and nothing else is
+pub shown-is-show : (R : Query) {S : Query} → Shown R S → S ≡ show R
+unfolding show
+shown-is-show R s =
+    pointwise-is-map (over (showTerm R))
+    (λ A B h. λ i. record { table = h .0 i; columns = pointwise-is-map (showTerm R) (shows-only R) (h .1) i }) s

@@ -1,0 +1,72 @@
+-- The hypotheses of demand 3 can be met: whatever the texts, they are the texts of a list of calls.
+use mathlib.Core.Path.{_≡_, refl, sym, ap, subst, _∙_}
+use mathlib.Core.Bool.{Bool, true, false, cond}
+use mathlib.Core.List.{List, [], _∷_, map}
+use Prim.Native.Nat.{ℕ}
+use lib.Dec.{eqb}
+use Rattle.model.specs.declared.Policy.{Policy}
+use Rattle.query.specs.Text.{Reading, refused, accepted, read}
+use Rattle.policy.specs.Text.{Declared}
+use Rattle.policy.specs.Abstract.{declaredBy}
+use Rattle.policy.proofs.Bridge.{stands-for}
+use Rattle.policy.proofs.Loaded.{loaded-well-formed}
+use Rattle.validity.specs.Loadable.{Loadable}
+use Rattle.desk.specs.declared.opening.Session.{Session}
+use Rattle.desk.specs.declared.deciding.Reply.the-variants.{Yes, No, Refused}
+use Rattle.desk.specs.declared.deciding.Decision.{Decision}
+use Rattle.desk.specs.Reply.{said, yes, no}
+use Rattle.desk.specs.Session.{openCount, unfit, stillOpen}
+use Rattle.desk.specs.Deciding.{Verdict, turnedBack, answered, decideQuery, decideUnder, Gives, Decided}
+use Rattle.desk.specs.Calls.{Call, Calls, none-left, one-call}
+use Rattle.desk.specs.Demands.{Demand3Met}
+
+abbrev Given : Verdict → Type 0
+Given o = (r : Decision) × Gives r o
+
+turned-given : (mask n k : ℕ) → Given (turnedBack mask n k)
+unfolding turnedBack said
+turned-given mask n k = (record { reply = Refused n k; session = record { mask = mask } }, record { reply = refl; session = refl })
+
+by-left : (mask left : ℕ) (b : Bool) → Given (cond b (record { says = record { word = no; count = openCount mask; number = 0; line = 0 }; leaves = mask })
+    (record { says = record { word = yes; count = openCount left; number = 0; line = 0 }; leaves = left }))
+unfolding said
+by-left mask left true = (record { reply = No (openCount mask); session = record { mask = mask } }, record { reply = refl; session = refl })
+by-left mask left false = (record { reply = Yes (openCount left); session = record { mask = left } }, record { reply = refl; session = refl })
+
+query-given : (d : Declared) (mask : ℕ) (v : Reading) → Given (decideQuery d mask v)
+unfolding decideQuery answered
+query-given d mask (refused n k) = turned-given mask n k
+query-given d mask (accepted Q) = by-left mask (stillOpen d Q mask) (eqb (stillOpen d Q mask) 0)
+
+by-fit : (d : Declared) (mask : ℕ) (v : Reading) (b : Bool) → Given (cond b (turnedBack mask 9 0) (decideQuery d mask v))
+by-fit d mask v true = turned-given mask 9 0
+by-fit d mask v false = query-given d mask v
+
+-- what is declared is fixed by the value
+pub declared-once : {p : Policy} (l k : Loadable p) → l .declared ≡ k .declared
+declared-once l k =
+    sym (stands-for (l .declared) (loaded-well-formed (l .text) (l .declared) (l .loads)))
+    ∙ ap declaredBy (sym (l .value) ∙ k .value)
+    ∙ stands-for (k .declared) (loaded-well-formed (k .text) (k .declared) (k .loads))
+
+pub decides : (p : Policy) → Loadable p → (s : Session) (text : List ℕ) → (r : Decision) × Decided p s text r
+unfolding decideUnder
+decides p l s text =
+    let (r, g) = by-fit (l .declared) (s .mask) (read (l .declared .widths) text) (unfit (l .declared) (s .mask)) in (
+      r,
+      record {
+        unloaded = λ f. absurd (f l);
+        loaded = λ k. subst (λ (d : Declared). Gives r (decideUnder d (s .mask) text)) (declared-once l k) g;
+      },
+    )
+
+calls-exist : (p : Policy) → Loadable p → (s : Session) (texts : List (List ℕ))
+    → (cs : List Call) × (t : Session) × (map (λ (c : Call). c .text) cs ≡ texts) × Calls p s cs t
+calls-exist p l s [] = ([], s, refl, none-left)
+calls-exist p l s (x ∷ xs) =
+    let (r, d) = decides p l s x in
+    let (cs, t, e, c) = calls-exist p l (r .session) xs in
+    let k : Call = record { text = x; gave = r } in (k ∷ cs, t, ap (λ (ys : List (List ℕ)). x ∷ ys) e, one-call k d c)
+
+pub demand-3-met : Demand3Met
+demand-3-met p l = record { decision = decides p l; calls = calls-exist p l }
