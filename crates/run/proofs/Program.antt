@@ -4,8 +4,8 @@ use mathlib.Core.List.{List, [], _∷_, _++_, map}
 use Prim.Native.Nat.{ℕ, suc}
 use Rattle.model.specs.declared.Policy.{Policy}
 use Rattle.model.specs.declared.Outcome.the-variants.{Accepted}
-use Rattle.policy.specs.Text.{Declared, Loading, load}
-use Rattle.policy.specs.Text.{refused as refusedPolicy, accepted as acceptedPolicy}
+use Rattle.policy.specs.Text.{Declared, load}
+use Rattle.policy.specs.Text.{accepted as acceptedPolicy}
 use Rattle.policy.specs.Policy.{policyValue}
 use Rattle.validity.specs.Loadable.{Loadable}
 use Rattle.load.specs.Value.{loadingValue}
@@ -21,8 +21,9 @@ use Rattle.desk.proofs.Exists.{declared-once, decides}
 use Rattle.desk.proofs.Demand.{demand-3}
 use Rattle.cutting.specs.Cut.{cut}
 use Rattle.run.specs.Output.{outputNames}
-use Rattle.run.specs.Run.{lineOf, linesFrom, under, written}
+use Rattle.run.specs.Run.{lineOf, linesFrom}
 use Rattle.run.specs.Program.{callLine, callLines, Program}
+use Rattle.run.proofs.Written.{written-accepted, written-refused}
 
 -- ---- the lines
 
@@ -69,15 +70,13 @@ demanded : (text : List ℕ) (d : Declared) → load text ≡ acceptedPolicy d �
 unfolding loadingValue
 demanded text d e o opened cs s calls =
     let (f, a, done) = demand-3 text (loadingValue (acceptedPolicy d)) (ap loadingValue (sym e)) refl o opened cs s calls in
-    let said : acceptedPolicy f ≡ acceptedPolicy d = sym a ∙ e in
+    let loads : acceptedPolicy f ≡ acceptedPolicy d = sym a ∙ e in
     let same : f ≡ d = cc in
     subst (λ (g : Declared). AsDemanded g cs s) same done
 
 pub program : Program
-unfolding opens written under
+unfolding opens
 program policy queries =
-    let names : (v : Loading) → load policy ≡ v → written policy queries ≡ outputNames ++ 10 ∷ under v queries
-    = λ v e. ap (λ (x : Loading). outputNames ++ 10 ∷ under x queries) e in
     record {
       loaded = λ d e.
           let l : Loadable (policyValue d) = record { text = policy; declared = d; loads = e; value = refl } in
@@ -89,8 +88,8 @@ program policy queries =
             left = c .left;
             made = c .made;
             texts = c .texts-are;
-            output = names (acceptedPolicy d) e ∙ ap (λ (x : List ℕ). outputNames ++ 10 ∷ x) (c .lines);
+            output = written-accepted policy queries d e ∙ ap (λ (x : List ℕ). outputNames ++ 10 ∷ x) (c .lines);
             demanded = demanded policy d e (opens d) (opens-opened l) (c .calls) (c .left) (c .made);
           };
-      turned = λ n k e. names (refusedPolicy n k) e;
+      turned = written-refused policy queries;
     }

@@ -1,6 +1,6 @@
 -- What is written for a policy text that loads, and for one that does not.
 use mathlib.Core.Path.{_≡_, refl, sym, ap, subst, _∙_}
-use mathlib.Core.List.{List, [], _∷_, _++_}
+use mathlib.Core.List.{List, [], _∷_, _++_, append-assoc}
 use Prim.Native.Nat.{ℕ}
 use native.Mathlib.Omega.{arith}
 use Rattle.model.specs.declared.Outcome.the-variants.{Accepted, Refused}
@@ -43,20 +43,17 @@ loads-not (acceptedPolicy d) v n k e o =
 
 -- ---- the bytes under the names
 
-abbrev pub namesLine : List ℕ
-namesLine = outputNames ++ 10 ∷ []
-
 pub written-refused : (policy queries : List ℕ) (n k : ℕ) → load policy ≡ refusedPolicy n k
-    → written policy queries ≡ namesLine ++ outputLine 0 refused 0 n k
-unfolding written outputNames under
+    → written policy queries ≡ outputNames ++ 10 ∷ outputLine 0 refused 0 n k
+unfolding written under
 written-refused policy queries n k e = rw e
 
 pub written-accepted : (policy queries : List ℕ) (d : Declared) → load policy ≡ acceptedPolicy d
-    → written policy queries ≡ namesLine ++ linesFrom d (allOpen d) 1 (cut queries)
-unfolding written outputNames under
+    → written policy queries ≡ outputNames ++ 10 ∷ linesFrom d (allOpen d) 1 (cut queries)
+unfolding written under
 written-accepted policy queries d e = rw e
 
 -- what is written behind the names line
-pub behind-names : {was mid is output under : List ℕ} {at r : ℕ} → Wrote was 0 namesLine mid at → Wrote mid at under is r
-    → output ≡ namesLine ++ under → Wrote was 0 output is r
-behind-names v w e = wrote-as (sym e) (wrote-more v w)
+pub behind-names : {was mid is output : List ℕ} {at r : ℕ} (lines : List ℕ) → Wrote was 0 (outputNames ++ 10 ∷ []) mid at
+    → Wrote mid at lines is r → output ≡ outputNames ++ 10 ∷ lines → Wrote was 0 output is r
+behind-names lines v w e = wrote-as (append-assoc outputNames (10 ∷ []) lines ∙ sym e) (wrote-more v w)

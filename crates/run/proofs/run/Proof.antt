@@ -85,7 +85,7 @@ returns c =
     let s = b .before .before .before .before .before .before in
     let z : length (b .put-bytes .last .0) ≡ length (s .args .out .now) = b .put-bytes .ensures .size in
     let h : 524288 ≤ length (s .args .out .now) = s .pre .1 in (
-      behind-names (b .put-bytes .ensures) (r .put-line .ensures .0 refused refl) (written-refused _ _ _ _ e),
+      behind-names _ (b .put-bytes .ensures) (r .put-line .ensures .0 refused refl) (written-refused _ _ _ _ e),
       omega (arith, r .put-line .ensures .1 .0, r .put-line .ensures .1 .1, z, h),
     )
 
@@ -104,7 +104,7 @@ returns-2 c =
     let z : length (named m .put-bytes .last .0) ≡ length (start m .args .out .now) = named m .put-bytes .ensures .size in
     let h : 524288 ≤ length (start m .args .out .now) = start m .pre .1 in
     let w = r .decide-all .ensures .0 d l in (
-      behind-names (named m .put-bytes .ensures) (rw all at w) (written-accepted _ _ d e),
+      behind-names _ (named m .put-bytes .ensures) (rw all at w) (written-accepted _ _ d e),
       omega (arith, w .size, r .decide-all .ensures .1, z, h),
     )
 
