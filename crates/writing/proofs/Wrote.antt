@@ -15,9 +15,9 @@ wrote-as {a} {b} {at = at} {r = r} e w = subst (λ (x : List ℕ). Wrote a at x 
 pub wrote-none : (was : List ℕ) (at : ℕ) → Wrote was at [] was at
 wrote-none was at = record { front = sym (append-nil (take at was)); next = omega arith; rest = refl; size = refl }
 
-pub wrote-byte : (was : List ℕ) (at b : ℕ) → at < length was → Wrote was at (b ∷ []) (set was at b) (at + 1)
-wrote-byte was at b h =
-    record {
+pub wrote-byte : {was is : List ℕ} {at b r : ℕ} → at < length was → (is ≡ set was at b) × (r ≡ at + 1) → Wrote was at (b ∷ []) is r
+wrote-byte {was} {at = at} {b = b} h (e, n) =
+    rw (e, n) record {
       front = rw (add-one at) (take-suc-set was at b h);
       next = omega arith;
       rest = drop-set-lt (at + 1) was at b (omega arith);
