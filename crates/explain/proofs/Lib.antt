@@ -7,3 +7,5 @@ pub mod Distinct
 -- The labels, one by one.
 pub mod Lacking
 pub mod Gathered
+-- Examples.
+pub mod Worked

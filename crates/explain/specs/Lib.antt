@@ -1,2 +1,3 @@
 pub mod Explanation
 pub mod Value
+pub mod Worked

@@ -1,3 +1,4 @@
 pub mod Line
-pub mod Telling
+pub mod Progress
 pub mod Written
+pub mod Program

@@ -1,9 +1,8 @@
 -- What is written for a policy text that loads, and for one that does not.
 use mathlib.Core.Path.{_≡_, refl, sym, ap, subst, _∙_}
-use mathlib.Core.List.{List, [], _∷_, _++_}
+use mathlib.Core.List.{List, [], _∷_, _++_, append-assoc}
 use Prim.Native.Nat.{ℕ}
 use native.Mathlib.Omega.{arith}
-use lib.ListN.{take}
 use Rattle.model.specs.declared.Outcome.the-variants.{Accepted, Refused}
 use Rattle.policy.specs.Text.{Declared, load}
 use Rattle.policy.specs.Text.{Loading as TheLoading, refused as refusedPolicy, accepted as acceptedPolicy}
@@ -16,6 +15,7 @@ use Rattle.labels.proofs.Readings.{Tag}
 use Rattle.desk.specs.Reply.{refused}
 use Rattle.desk.specs.Session.{allOpen}
 use Rattle.writing.specs.Wrote.{Wrote}
+use Rattle.writing.proofs.Wrote.{wrote-as, wrote-more}
 use Rattle.cutting.specs.Cut.{cut}
 use Rattle.run.specs.Output.{outputNames, outputLine}
 use Rattle.run.specs.Run.{linesFrom, under, written}
@@ -43,20 +43,17 @@ loads-not (acceptedPolicy d) v n k e o =
 
 -- ---- the bytes under the names
 
-abbrev pub namesLine : List ℕ
-namesLine = outputNames ++ 10 ∷ []
-
 pub written-refused : (policy queries : List ℕ) (n k : ℕ) → load policy ≡ refusedPolicy n k
-    → written policy queries ≡ namesLine ++ outputLine 0 refused 0 n k
-unfolding written outputNames under
+    → written policy queries ≡ outputNames ++ 10 ∷ outputLine 0 refused 0 n k
+unfolding written under
 written-refused policy queries n k e = rw e
 
 pub written-accepted : (policy queries : List ℕ) (d : Declared) → load policy ≡ acceptedPolicy d
-    → written policy queries ≡ namesLine ++ linesFrom d (allOpen d) 1 (cut queries)
-unfolding written outputNames under
+    → written policy queries ≡ outputNames ++ 10 ∷ linesFrom d (allOpen d) 1 (cut queries)
+unfolding written under
 written-accepted policy queries d e = rw e
 
--- what stands behind the names line once that is written to the front of a buffer
-pub behind-names : {was mid out written : List ℕ} {at : ℕ} (rest : List ℕ) → Wrote was 0 namesLine mid at → out ≡ take at mid ++ rest
-    → written ≡ namesLine ++ rest → out ≡ written
-behind-names rest w e f = e ∙ ap (λ (l : List ℕ). l ++ rest) (w .front) ∙ sym f
+-- what is written behind the names line
+pub behind-names : {was mid is output : List ℕ} {at r : ℕ} (lines : List ℕ) → Wrote was 0 (outputNames ++ 10 ∷ []) mid at
+    → Wrote mid at lines is r → output ≡ outputNames ++ 10 ∷ lines → Wrote was 0 output is r
+behind-names lines v w e = wrote-as (append-assoc outputNames (10 ∷ []) lines ∙ sym e) (wrote-more v w)

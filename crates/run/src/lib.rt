@@ -1,9 +1,8 @@
 // A run of the desk over a file of queries: from the policy's bytes and the queries' bytes to the bytes written.
 
 ghost use mathlib.Core.Path.{_≡_};
-ghost use mathlib.Core.List.{_++_};
 ghost use Prim.Native.Nat.{_+_, _≤_};
-ghost use lib.ListN.{length, take};
+ghost use lib.ListN.{length};
 ghost use Rattle.label.specs.Labelled.{TableMasks, ViewsLaid};
 ghost use Rattle.policy.specs.Text.{Declared};
 ghost use Rattle.labels.specs.Text.{LoadedTo, SomePolicy};
@@ -69,8 +68,8 @@ fn decide_all(
     start: usize,
 ) -> usize
     requires { ⌜ SomePolicy p × TableMasks p (now masks) × ViewsLaid p (now views) × (length (now queries) ≤ 65536) × (start + 502596 ≤ length (now out)) ⌝ }
-    ensures { λ r. ⌜ ((d : Declared) → LoadedTo p d → take r (now (out .exit)) ≡ take start (now (out .entry)) ++ linesFrom d (opened .mask) 1 (cut (now (queries .entry)))) ⌝ }
-    ensures { λ r. ⌜ (length (now (out .exit)) ≡ length (now (out .entry))) × (r ≤ start + 502596) ⌝ }
+    ensures { λ r. ⌜ ((d : Declared) → LoadedTo p d → Wrote (now (out .entry)) start (linesFrom d (opened .mask) 1 (cut (now (queries .entry)))) (now (out .exit)) r) ⌝ }
+    ensures { λ r. ⌜ r ≤ start + 502596 ⌝ }
 {
     let mut s = opened;
     let mut query: u64 = 1;
@@ -89,10 +88,10 @@ fn decide_all(
     to
 }
 
-// Writes the output to the front of a buffer that has room for it, and tells its length.
+// Writes the output to the front of a buffer that has room for it, leaves the rest as it was, and tells the output's length.
 pub fn run(policy: &[u8], queries: &[u8], out: &mut [u8]) -> usize
     requires { ⌜ (length (now queries) ≤ 65536) × (524288 ≤ length (now out)) ⌝ }
-    ensures { λ r. ⌜ (take r (now (out .exit)) ≡ written (now (policy .entry)) (now (queries .entry))) × (r ≤ length (now (out .exit))) ⌝ }
+    ensures { λ r. ⌜ Wrote (now (out .entry)) 0 (written (now (policy .entry)) (now (queries .entry))) (now (out .exit)) r × (r ≤ length (now (out .exit))) ⌝ }
 {
     let at = writing::put_bytes(out, 0, b"query answer open refusal line\n");
     let l = load::load(policy);

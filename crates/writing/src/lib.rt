@@ -1,15 +1,16 @@
 // Bytes and numerals written to a buffer, one behind the other: each function takes the place to write at and gives the next.
 
+ghost use mathlib.Core.Path.{_≡_};
 ghost use mathlib.Core.List.{[], _∷_, _++_};
 ghost use Prim.Native.Nat.{_+_, _≤_, _<_};
-ghost use lib.ListN.{length};
+ghost use lib.ListN.{length, set};
 ghost use Rattle.policy.specs.Print.{decimal};
 ghost use Rattle.writing.specs.Wrote.{Wrote};
 
 // One byte.
 pub fn put_byte(out: &mut [u8], at: usize, b: u8) -> usize
     requires { ⌜ at < length (now out) ⌝ }
-    ensures { λ r. ⌜ Wrote (now (out .entry)) at (b ∷ []) (now (out .exit)) r ⌝ }
+    ensures { λ r. ⌜ (now (out .exit) ≡ set (now (out .entry)) at b) × (r ≡ at + 1) ⌝ }
 {
     out[at] = b;
     at + 1

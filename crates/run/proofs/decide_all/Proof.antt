@@ -8,12 +8,12 @@ use lib.ListN.{length, take, drop, length-take, length-drop}
 use Rattle.text.proofs.Parts.{to-end}
 use Rattle.desk.specs.Deciding.{decideUnder, Gives}
 use Rattle.cutting.specs.NextCut.{NextCut}
-use Rattle.run.proofs.Telling.{Told, told-none, told-more, told-all}
+use Rattle.run.proofs.Progress.{Progress, progress-none, progress-more, progress-all}
 use Rattle.run.proofs.decide_all.Statement.{statement}
 use Rattle.run.proofs.decide_all.Tie as tie
 
 abbrev Inv-loop : tie.InvT-loop
-Inv-loop p masks views queries out₀ start s₀ query₀ at₀ to₀ out s query at to = Told p queries out₀ start (s₀ .mask) out (s .mask) query at to
+Inv-loop p masks views queries out₀ start s₀ query₀ at₀ to₀ out s query at to = Progress p queries out₀ start (s₀ .mask) out (s .mask) query at to
 
 abbrev μ-loop : tie.MeasureT-loop
 μ-loop p masks views queries out₀ start s₀ query₀ at₀ to₀ out s query at to = length queries - at
@@ -47,7 +47,7 @@ room : (c : tie.After-next-cut Inv-loop μ-loop) → turn c .loop .to + 92 ≤ l
 room c =
     let s = turn c .before .before .before in
     let h : s .args .start + 502596 ≤ length (s .args .out .now) = s .pre .4 in
-    let z : length (turn c .loop .out) ≡ length (s .args .out .now) = turn c .loop .inv .size in
+    let z : length (turn c .loop .out) ≡ length (s .args .out .now) = turn c .loop .inv .wrote .size in
     omega (arith, turn c .loop .inv .room, few c)
 
 -- ---- the needs
@@ -56,7 +56,7 @@ abbrev of-line : tie.After-slice-known2 Inv-loop μ-loop → tie.After-next-cut 
 of-line c = c .before .before .before .before .before .before .before .before
 
 loop-holds : tie.Need-loop-holds Inv-loop μ-loop
-loop-holds c = told-none _ _ _ _ _
+loop-holds c = progress-none _ _ _ _ _
 
 sub-rest : tie.Need-sub-rest Inv-loop μ-loop
 sub-rest c = omega arith
@@ -99,7 +99,7 @@ loop-again c =
     let r = c .before .before in
     let o = r .before in
     let d = o .before .before .before in
-    told-more (turn e .loop .inv) (e .next-cut .result) (cut-at e) (e .before .before .loop-test .taken)
+    progress-more (turn e .loop .inv) (e .next-cut .result) (cut-at e) (e .before .before .loop-test .taken)
     (d .decide-loaded .result) (o .ones .result) (r .put-reply .result) _
     (λ f l.
     subst (λ (x : List ℕ). Gives (d .decide-loaded .result) (decideUnder f (turn e .loop .s .mask) (take (e .next-cut .result) x)))
@@ -107,14 +107,14 @@ loop-again c =
     (o .ones .ensures) (r .put-reply .ensures .0) (r .put-reply .ensures .1)
 
 same-length : tie.Need-same-length Inv-loop μ-loop
-same-length c = c .before .loop .inv .size
+same-length c = c .before .loop .inv .wrote .size
 
 returns : tie.Need-returns Inv-loop μ-loop
 returns c =
     let inv = c .before .loop .inv in
     let s = c .before .before .before .before in
     let n : length (s .args .queries .now) ≤ 65536 = s .pre .3 in
-    (told-all inv (c .loop-test .left), (inv .size, omega (arith, inv .room, inv .few, inv .within)))
+    (progress-all inv (c .loop-test .left), omega (arith, inv .room, inv .few, inv .within))
 
 pub decide-all-spec : {M : Type 1} → statement M
 decide-all-spec =

@@ -1,5 +1,6 @@
 -- The pieces of the line, one behind the other, within the room of 92 bytes.
 use borrow.Author.Needs.{needs}
+use Rattle.writing.proofs.Wrote.{wrote-byte}
 use Rattle.run.proofs.Line.{wrote-line}
 use Rattle.run.proofs.put_line.Statement.{statement}
 use Rattle.run.proofs.put_line.Tie as tie
@@ -32,8 +33,9 @@ returns c =
     let t = u .before .before .before .before in
     let s = t .before .before .before .before in
     let q = s .before .before .before .before in
-    let p = q .before .before .before .before in (
-      wrote-line _ _ _ _ (p .put-field .ensures .0) (q .put-bytes .ensures) (s .put-byte .ensures)
+    let p = q .before .before .before .before in
+    let space = wrote-byte (put-byte-requires (s .before) (s .put-byte .lifetimes)) (s .put-byte .ensures) in (
+      wrote-line _ _ _ _ (p .put-field .ensures .0) (q .put-bytes .ensures) space
           (t .put-field2 .ensures .0) (u .put-field3 .ensures .0) (v .put-field4 .ensures .0),
       (search needs, search needs),
     )

@@ -8,7 +8,7 @@ use Rattle.labels.specs.Text.{LoadedTo}
 use Rattle.desk.specs.Reply.{refused}
 use Rattle.desk.specs.Session.{allOpen}
 use Rattle.desk.proofs.Loaded.{partition-count, few-partitions}
-use Rattle.run.specs.Output.{outputNames, wordBytes, outputLine}
+use Rattle.run.specs.Output.{outputNames, wordBytes}
 use Rattle.run.proofs.Written.{loads-to, loads-not, behind-names, written-refused, written-accepted}
 use borrow.Author.Needs.{needs}
 use Rattle.run.proofs.run.Statement.{statement}
@@ -85,8 +85,7 @@ returns c =
     let s = b .before .before .before .before .before .before in
     let z : length (b .put-bytes .last .0) ≡ length (s .args .out .now) = b .put-bytes .ensures .size in
     let h : 524288 ≤ length (s .args .out .now) = s .pre .1 in (
-      behind-names (outputLine 0 refused 0 (o .outcome .given .0 .0) (o .outcome .given .0 .1 .0)) (b .put-bytes .ensures)
-          (r .put-line .ensures .0 refused refl .front) (written-refused _ _ _ _ e),
+      behind-names _ (b .put-bytes .ensures) (r .put-line .ensures .0 refused refl) (written-refused _ _ _ _ e),
       omega (arith, r .put-line .ensures .1 .0, r .put-line .ensures .1 .1, z, h),
     )
 
@@ -103,9 +102,10 @@ returns-2 c =
     let all : b .low-bits .result ≡ allOpen d = b .low-bits .ensures ∙ ap (λ (n : ℕ). 2 ^ n - 1) (partition-count l) in
     let n : named m .put-bytes .result ≡ 31 = named m .put-bytes .ensures .next in
     let z : length (named m .put-bytes .last .0) ≡ length (start m .args .out .now) = named m .put-bytes .ensures .size in
-    let h : 524288 ≤ length (start m .args .out .now) = start m .pre .1 in (
-      behind-names _ (named m .put-bytes .ensures) (rw all at (r .decide-all .ensures .0 d l)) (written-accepted _ _ d e),
-      omega (arith, r .decide-all .ensures .1 .0, r .decide-all .ensures .1 .1, z, h),
+    let h : 524288 ≤ length (start m .args .out .now) = start m .pre .1 in
+    let w = r .decide-all .ensures .0 d l in (
+      behind-names _ (named m .put-bytes .ensures) (rw all at w) (written-accepted _ _ d e),
+      omega (arith, w .size, r .decide-all .ensures .1, z, h),
     )
 
 pub run-spec : {M : Type 1} → statement M

@@ -4,6 +4,7 @@ use Prim.Native.Nat.{ℕ, _+_, _/_, _≤_, _<_}
 use native.Mathlib.Omega.{arith}
 use lib.ListN.{length}
 use Rattle.policy.specs.Print.{decimal}
+use Rattle.writing.proofs.Wrote.{wrote-byte}
 use Rattle.writing.proofs.Decimal.{length-one, length-more, wrote-digit, wrote-digits}
 use borrow.Fn.Kinds.{In}
 use borrow.Fn.PlainCycle.{Measures, is, falls, and}
@@ -67,7 +68,10 @@ put-decimal-returns : (t : ℕ) → put-decimal-lts.Need-returns (
   put-decimal-below t,
   put-decimal.Post,
 ) (put-decimal-at t) put-decimal.Post
-put-decimal-returns t c = wrote-digit (c .before .before .before .before .if1 .taken) (c .before .before .put-byte .ensures)
+put-decimal-returns t c =
+    let b = c .before .before in
+    wrote-digit (b .before .before .if1 .taken)
+    (wrote-byte (put-decimal-put-byte-requires t (b .before) (b .put-byte .lifetimes)) (b .put-byte .ensures))
 
 put-decimal-put-decimal-requires : (t : ℕ) → put-decimal-lts.Need-put-decimal-requires (
   put-byte-reads.Asked,
@@ -128,7 +132,8 @@ put-decimal-returns-2 : (t : ℕ) → put-decimal-lts.Need-returns-2 (
 put-decimal-returns-2 t c =
     let b = c .before .before in
     let d = b .before .before .before .before in
-    wrote-digits (d .before .before .if1 .left) (d .put-decimal .ensures) (b .put-byte2 .ensures)
+    wrote-digits (d .before .before .if1 .left) (d .put-decimal .ensures)
+    (wrote-byte (put-decimal-put-byte-requires-2 t (b .before) (b .put-byte2 .lifetimes)) (b .put-byte2 .ensures))
 
 pub +put-decimal-spec : {M : Type 1} → statement M
 +put-decimal-spec = close μ-put-decimal λ t. put-decimal-lts.spec (

@@ -5,7 +5,7 @@ use mathlib.Core.Path.{_≡_}
 use lib.ListN.{length, take}
 use lib.Seq.{length-take-le}
 use Rattle.writing.specs.Wrote.{Wrote}
-use Rattle.writing.proofs.Wrote.{wrote-none, wrote-next, wrote-all}
+use Rattle.writing.proofs.Wrote.{wrote-none, wrote-byte, wrote-next, wrote-all}
 use Rattle.writing.proofs.put_bytes.Statement.{statement}
 use Rattle.writing.proofs.put_bytes.Tie as tie
 
@@ -44,8 +44,9 @@ loop-less c = omega arith
 
 loop-again : tie.Need-loop-again Inv-loop μ-loop
 loop-again c =
-    let t = c .before .before .before .before .before in
-    (wrote-next _ _ (t .before .loop .inv .0) (c .before .before .put-byte .ensures) (t .loop-test .taken), omega arith)
+    let k = c .before .before .before in
+    let t = k .before .before in
+    (wrote-next _ _ (t .before .loop .inv .0) (wrote-byte (room k) (c .before .before .put-byte .ensures)) (t .loop-test .taken), omega arith)
 
 same-length : tie.Need-same-length Inv-loop μ-loop
 same-length c = c .before .loop .inv .0 .size

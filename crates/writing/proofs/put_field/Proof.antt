@@ -5,7 +5,7 @@ use native.Mathlib.Omega.{arith}
 use borrow.Author.Needs.{needs}
 use lib.ListN.{length}
 use Rattle.policy.specs.Print.{decimal}
-use Rattle.writing.proofs.Wrote.{wrote-more}
+use Rattle.writing.proofs.Wrote.{wrote-byte, wrote-more}
 use Rattle.writing.proofs.Decimal.{length-word}
 use Rattle.writing.proofs.put_field.Statement.{statement}
 use Rattle.writing.proofs.put_field.Tie as tie
@@ -30,11 +30,13 @@ same-length c = search needs
 
 returns : tie.Need-returns
 returns c =
-    let d = c .before .before .before .before .before .before in
+    let b = c .before .before in
+    let d = b .before .before .before .before in
     let s = d .before .before .before in
+    let w = wrote-byte (put-byte-requires (b .before) (b .put-byte .lifetimes)) (b .put-byte .ensures) in
     let e : d .put-decimal .result ≡ s .args .at + length (decimal (s .args .n)) = d .put-decimal .ensures .next in
-    let r = c .before .before .put-byte .ensures .next in
-    (wrote-more (d .put-decimal .ensures) (c .before .before .put-byte .ensures), omega (arith, length-word (s .args .n) (s .fits .n .fits)))
+    let r = b .put-byte .ensures .1 in
+    (wrote-more (d .put-decimal .ensures) w, omega (arith, length-word (s .args .n) (s .fits .n .fits)))
 
 pub put-field-spec : {M : Type 1} → statement M
 put-field-spec = tie.close (tie.spec put-decimal-requires put-byte-requires same-length returns)

@@ -1,7 +1,7 @@
 -- The loop over the query texts: what is written so far, and the lines still to come.
-use mathlib.Core.Path.{_≡_, refl, sym, ap, ap₂, _∙_}
+use mathlib.Core.Path.{_≡_, refl, sym, ap, _∙_}
 use mathlib.Core.Logic.{by-cases}
-use mathlib.Core.List.{List, _∷_, _++_, append-assoc, append-nil}
+use mathlib.Core.List.{List, [], _∷_, _++_, append-assoc, append-nil}
 use Prim.Native.Nat.{ℕ, _+_, _*_, _≤_, _<_, zero-le}
 use native.Mathlib.Decide.{decLt}
 use native.Mathlib.Numerals.{add-one}
@@ -15,6 +15,7 @@ use Rattle.labels.specs.Text.{LoadedTo}
 use Rattle.desk.specs.declared.deciding.Decision.{Decision}
 use Rattle.desk.specs.Deciding.{Verdict, decideUnder, Gives}
 use Rattle.writing.specs.Wrote.{Wrote}
+use Rattle.writing.proofs.Wrote.{wrote-as, wrote-none, wrote-more}
 use Rattle.cutting.specs.Cut.{cut}
 use Rattle.cutting.specs.NextCut.{Starts, NextCut}
 use Rattle.cutting.proofs.Walk.{cut-none}
@@ -23,26 +24,28 @@ use Rattle.run.proofs.Line.{replyLine}
 
 -- the query of this number starts at the place `at`, its line goes to the place `to`, and the session's partitions are those
 -- of `mask`; a query but the first has 12 bytes at least, a line 92 at most
-pub record Told (p : Policy) (queries was : List ℕ) (start opened : ℕ) (is : List ℕ) (mask query at to : ℕ) : Type 0 where
+pub record Progress (p : Policy) (queries was : List ℕ) (start opened : ℕ) (is : List ℕ) (mask query at to : ℕ) : Type 0 where
   pub within : at ≤ length queries
   pub some : 1 ≤ query
   pub few : query * 12 ≤ at + 23
   pub room : to + 92 ≤ start + query * 92
-  pub size : length is ≡ length was
   pub starts : 1 < query → at < length queries → Starts (drop at queries)
-  pub tells : (d : Declared) → LoadedTo p d
-      → take to is ++ linesFrom d mask query (cut (drop at queries)) ≡ take start was ++ linesFrom d opened 1 (cut queries)
+  pub so-far : List ℕ
+  pub wrote : Wrote was start so-far is to
+  pub to-come : (d : Declared) → LoadedTo p d
+      → so-far ++ linesFrom d mask query (cut (drop at queries)) ≡ linesFrom d opened 1 (cut queries)
 
-pub told-none : (p : Policy) (queries was : List ℕ) (start opened : ℕ) → Told p queries was start opened was opened 1 0 start
-told-none p queries was start opened =
+pub progress-none : (p : Policy) (queries was : List ℕ) (start opened : ℕ) → Progress p queries was start opened was opened 1 0 start
+progress-none p queries was start opened =
     record {
       within = zero-le;
       some = omega arith;
       few = omega arith;
       room = omega arith;
-      size = refl;
       starts = λ h. absurd (omega arith);
-      tells = λ d l. refl;
+      so-far = [];
+      wrote = wrote-none was start;
+      to-come = λ d l. refl;
     }
 
 -- the line for a query, from the decision on it
@@ -59,14 +62,16 @@ lines-more d mask query text texts r left g e =
     rw (line-of query left r (decideUnder d mask text) g e, g .session, add-one query)
 
 module _ {p : Policy} {queries was : List ℕ} {start opened : ℕ} {is : List ℕ} {mask query at to : ℕ}
-    (w : Told p queries was start opened is mask query at to) where
+    (w : Progress p queries was start opened is mask query at to) where
   -- every query has its line
-  pub told-all : length queries ≤ at → (d : Declared) → LoadedTo p d → take to is ≡ take start was ++ linesFrom d opened 1 (cut queries)
+  pub progress-all : length queries ≤ at → (d : Declared) → LoadedTo p d → Wrote was start (linesFrom d opened 1 (cut queries)) is to
   unfolding linesFrom
-  told-all h d l =
-      sym (append-nil (take to is))
-      ∙ ap (λ (ts : List (List ℕ)). take to is ++ linesFrom d mask query ts) (sym (ap cut (drop-of-length-le queries h) ∙ cut-none))
-      ∙ w .tells d l
+  progress-all h d l =
+      wrote-as
+      (sym (append-nil (w .so-far))
+      ∙ ap (λ (ts : List (List ℕ)). w .so-far ++ linesFrom d mask query ts) (sym (ap cut (drop-of-length-le queries h) ∙ cut-none))
+      ∙ w .to-come d l)
+      (w .wrote)
 
   module _ (n : ℕ) (c : NextCut (drop at queries) n) (more : at < length queries) where
     -- a query more, with at least 12 bytes where it is not the first
@@ -78,23 +83,25 @@ module _ {p : Policy} {queries was : List ℕ} {start opened : ℕ} {is : List �
     starts-more : at + n < length queries → Starts (drop (at + n) queries)
     starts-more h = rw drop-drop at (c .starts (omega (arith, length-drop at queries)))
 
-    pub told-more : (r : Decision) (left to' : ℕ) (is' : List ℕ)
+    pub progress-more : (r : Decision) (left to' : ℕ) (is' : List ℕ)
         → ((d : Declared) → LoadedTo p d → Gives r (decideUnder d mask (take n (drop at queries))))
         → left ≡ onesBelow 64 (r .session .mask)
         → Wrote is to (replyLine query (r .reply) left) is' to' → to' ≤ to + 92
-        → Told p queries was start opened is' (r .session .mask) (query + 1) (at + n) to'
-    told-more r left to' is' g e v b =
+        → Progress p queries was start opened is' (r .session .mask) (query + 1) (at + n) to'
+    progress-more r left to' is' g e v b =
+        let line = replyLine query (r .reply) left in
         record {
           within = omega (arith, c .within, length-drop at queries);
           some = omega arith;
           few = few-more;
           room = omega (arith, w .room);
-          size = v .size ∙ w .size;
           starts = λ h. starts-more;
-          tells = λ d l.
-              ap₂ {C = List ℕ} (λ x y. x ++ y) (v .front) (ap (λ (t : List ℕ). linesFrom d (r .session .mask) (query + 1) (cut t)) (sym (drop-drop n at queries)))
-              ∙ append-assoc (take to is) (replyLine query (r .reply) left) (linesFrom d (r .session .mask) (query + 1) (cut (drop n (drop at queries))))
-              ∙ ap (λ (x : List ℕ). take to is ++ x) (sym (lines-more d mask query (take n (drop at queries)) (cut (drop n (drop at queries))) r left (g d l) e))
-              ∙ ap (λ (ts : List (List ℕ)). take to is ++ linesFrom d mask query ts) (sym (c .pieces))
-              ∙ w .tells d l;
+          so-far = w .so-far ++ line;
+          wrote = wrote-more (w .wrote) v;
+          to-come = λ d l.
+              ap (λ (t : List ℕ). (w .so-far ++ line) ++ linesFrom d (r .session .mask) (query + 1) (cut t)) (sym (drop-drop n at queries))
+              ∙ append-assoc (w .so-far) line (linesFrom d (r .session .mask) (query + 1) (cut (drop n (drop at queries))))
+              ∙ ap (λ (x : List ℕ). w .so-far ++ x) (sym (lines-more d mask query (take n (drop at queries)) (cut (drop n (drop at queries))) r left (g d l) e))
+              ∙ ap (λ (ts : List (List ℕ)). w .so-far ++ linesFrom d mask query ts) (sym (c .pieces))
+              ∙ w .to-come d l;
         }
