@@ -18,7 +18,7 @@ use Rattle.desk.specs.Deciding.{Verdict, decideUnder, Gives}
 use Rattle.desk.specs.Calls.{Call, Calls, none-left, one-call}
 use Rattle.desk.specs.Demands.{AsDemanded}
 use Rattle.desk.proofs.Exists.{declared-once, decides}
-use Rattle.desk.proofs.Demand.{demand-3}
+use Rattle.desk.proofs.Demands.{demand-3}
 use Rattle.cutting.specs.Cut.{cut}
 use Rattle.run.specs.Output.{outputNames}
 use Rattle.run.specs.Run.{lineOf, linesFrom}
