@@ -1,11 +1,8 @@
 -- Which lines are taken.
-pub mod Each
 pub mod Faults
 -- What a text loads to is well formed.
 pub mod Loaded
 -- What is printed is read back.
-pub mod Digits
-pub mod Printed
 pub mod Blocks
 pub mod Sizes
 pub mod Short

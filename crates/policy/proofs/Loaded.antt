@@ -14,7 +14,7 @@ use Rattle.model.specs.Fields.{Numbered, tableLine, viewLine, partitionLine}
 use Rattle.model.specs.Limits.{mostTables, mostViews, mostPartitions}
 use Rattle.policy.specs.Text.{Declared, nothing, refused, accepted, mostBytes, Entered, faulty, entered, Block, tables, views, partitions, enter, isNext, nextBlock, ends, goOn, loadFrom, loadLines, load}
 use Rattle.policy.specs.Value.{OneToMost, GoodWidth, GoodView, GoodPartition, WellFormed}
-use Rattle.policy.proofs.Each.{each-nil, each-cons, each-append}
+use Rattle.text.proofs.Each.{each-nil, each-cons, each-append}
 use Rattle.policy.proofs.Faults.{Taken, table-taken, view-taken, partition-taken, entry-only-taken}
 
 -- a block's values so far: there is one where the block has started

@@ -3,7 +3,7 @@
 use mathlib.Core.List.{List, [], _∷_, _++_}
 use Prim.Native.Nat.{ℕ}
 use Rattle.text.specs.Names.{bytes}
-use Rattle.policy.specs.Print.{decimal}
+use Rattle.text.specs.Print.{decimal}
 use Rattle.desk.specs.Reply.{Word, yes, no, refused}
 
 unfoldable pub outputNames : List ℕ

@@ -3,7 +3,7 @@
 ghost use mathlib.Core.List.{[], _∷_, _++_};
 ghost use Prim.Native.Nat.{_+_, _≤_, _<_};
 ghost use lib.ListN.{length};
-ghost use Rattle.policy.specs.Print.{decimal};
+ghost use Rattle.text.specs.Print.{decimal};
 ghost use Rattle.writing.specs.Wrote.{Wrote};
 
 // One byte.
