@@ -72,7 +72,7 @@ module _ (d : Declared) (good : WellFormed d) (text before after : List ℕ) (r 
   by-room Q true e o g = absurd (false≢true (sym (ap (λ (t : SaidListing). t .given) (o .reply)) ∙ g))
   by-room Q false e o g =
       let ws = labels (d .views) Q in
-      let fits = accepted-well-read (d .widths) text Q e .0 .fits in
+      let fits = (accepted-well-read (d .widths) text Q e) .fits in
       subst (LabelsOf d Q)
       (sym (ap (λ (n : ℕ). take n after) (ap (λ (t : SaidListing). t .count) (o .reply)) ∙ ap (take (length ws)) (o .buffer) ∙ take-append-seam ws (drop (length ws) before)))
       (labels-rewrite d good Q fits)

@@ -100,7 +100,7 @@ module _ (d : Declared) where
     left-iff : (i : ℕ) → (bit left i ≡ 1) ↔ ((i < length (d .partitions)) × DeterminesAll d before i × PartitionDetermines d i Q)
     unfolding stillOpen
     left-iff i =
-        let w = accepted-well-read (d .widths) (c .text) Q asks .0 in
+        let w = accepted-well-read (d .widths) (c .text) Q asks in
         let vs = getD (d .partitions) i [] in
         let k = passing-iff (λ ps. settles (granted (d .views) ps) Q) (d .partitions) mask i in
         let s = settles-iff-determines (d .widths) (granted (d .views) vs) Q (w .clear) (w .fits) in (

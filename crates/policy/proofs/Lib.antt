@@ -1,6 +1,7 @@
 -- Which lines are taken.
 pub mod Faults
--- What a text loads to is well formed.
+-- What a text loads to is well formed, and the text is that printed.
+pub mod Declares
 pub mod Loaded
 -- What is printed is read back.
 pub mod Blocks

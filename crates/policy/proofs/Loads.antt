@@ -1,5 +1,5 @@
 -- A policy value is what some text loads to exactly when it is well formed: the text of a well-formed value loads to it.
-use mathlib.Core.Path.{_≡_, refl, _∙_}
+use mathlib.Core.Path.{_≡_, refl, ap, _∙_}
 use mathlib.Core.Logic.{_↔_}
 use mathlib.Core.Bool.{false}
 use mathlib.Core.List.{List, [], _∷_, _++_, append-nil}
@@ -23,7 +23,7 @@ use Rattle.policy.proofs.Blocks.{lines-printed}
 use Rattle.policy.proofs.Sizes.{view-size, partition-size}
 use Rattle.policy.proofs.Walk.{block-loads}
 use Rattle.policy.proofs.Short.{print-short}
-use Rattle.policy.proofs.Loaded.{loaded-well-formed}
+use Rattle.policy.proofs.Loaded.{loaded-well-formed, loaded-printed}
 
 -- ---- the printed line of a good value that is next in turn declares it
 
@@ -114,3 +114,10 @@ print-loads d w = load-lines (print d) (printLines d) (print-short d w) (lines-p
 -- "a policy value that no loading gives" is one that is not well formed
 pub loadable-iff : (d : Declared) → ((text : List ℕ) × (load text ≡ accepted d)) ↔ WellFormed d
 loadable-iff d = (λ r. loaded-well-formed (r .0) d (r .1), λ w. (print d, print-loads d w))
+
+-- a text loads to d exactly when d is well formed and the text is d printed
+pub loads-exactly : (text : List ℕ) (d : Declared) → (load text ≡ accepted d) ↔ (WellFormed d × (text ≡ print d))
+loads-exactly text d = (
+  λ e. (loaded-well-formed text d e, loaded-printed text d e),
+  λ r. ap load (r .1) ∙ print-loads d (r .0),
+)
