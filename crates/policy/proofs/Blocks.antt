@@ -2,7 +2,7 @@
 use mathlib.Core.Path.{_≡_, refl, subst, sym}
 use mathlib.Core.Logic.{⊎-elim}
 use mathlib.Core.List.{List, [], _∷_, List·Memᴰ·head, List·Memᴰ·tail, List·Memᴰ·not-nil, List·Memᴰ·cases-cons}
-use Prim.Native.Nat.{ℕ, suc, _+_, _<_}
+use Prim.Native.Nat.{ℕ, _+_, _<_}
 use native.Mathlib.Omega.{arith}
 use lib.ListN.{length}
 use Rattle.theory.specs.Query.{_∈_}
@@ -32,7 +32,7 @@ module _ {X : Type 0} (fieldsOf : X → List (List ℕ)) where
   block-line n [] line m = absurd (List·Memᴰ·not-nil m)
   block-line n (x ∷ l) line m =
       ⊎-elim (λ e. record { number = n; value = x; below = omega arith; member = List·Memᴰ·head refl; printed = e })
-      (λ k. let r = block-line (suc n) l line k in
+      (λ k. let r = block-line _ l line k in
       record {
         number = r .number;
         value = r .value;
@@ -45,7 +45,7 @@ module _ {X : Type 0} (fieldsOf : X → List (List ℕ)) where
   pub length-block : (n : ℕ) (l : List X) → length (printBlock fieldsOf n l) ≡ length l
   unfolding printBlock
   length-block n [] = refl
-  length-block n (x ∷ l) = rw (length-block (suc n) l)
+  length-block n (x ∷ l) = rw (length-block _ l)
 
   block-clean : ((x : X) → Clean (fieldsOf x)) → (n : ℕ) (l : List X) (line : List ℕ) → line ∈ printBlock fieldsOf n l
       → Each (Printable 32) line

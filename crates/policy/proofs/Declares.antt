@@ -12,9 +12,7 @@ use Rattle.policy.specs.Text.{Declared, entered, Block, tables, views, p
 use Rattle.policy.specs.Print.{printBlock, printLines}
 use Rattle.policy.proofs.Faults.{table-taken, view-taken, partition-taken, entry-only-taken}
 
--- ---- one line more
-
--- its number that of its turn, and its line the printed one
+-- a block with one value more has one line more: that of the value, with the number of its turn
 block-more : {X : Type 0} (fieldsOf : X → List (List ℕ)) (n : ℕ) (l : List X) (number : ℕ) (x : X) (line : List ℕ)
     → number ≡ n + length l → line ≡ printLine number (fieldsOf x)
     → printBlock fieldsOf n (l ++ x ∷ []) ≡ printBlock fieldsOf n l ++ line ∷ []

@@ -20,7 +20,7 @@ use Rattle.model.specs.Limits.{mostLines, mostColumns, upTo, lineWithin, known,
 use Rattle.model.specs.Print.{printQueryLine, lineFields}
 use Rattle.model.proofs.Limits.{clear-line, up-to-iff}
 use Rattle.model.proofs.Printed.{line-clean, within-writable, query-line-printed, query-line-short}
-use Rattle.model.proofs.Values.{width-is, few-terms}
+use Rattle.model.proofs.Values.{width-is}
 use Rattle.query.specs.Text.{accepted, mostBytes, fault, ends, judged, step, readFrom, readLines, read}
 use Rattle.query.specs.Print.{queryText}
 use Rattle.query.specs.WellRead.{WellRead}
@@ -91,25 +91,23 @@ reads-exactly widths text Q = (
 
 module _ (widths : List ℕ) (narrow : (n : ℕ) → n ∈ widths → T (upTo mostColumns n)) (Q : Query) (few : length Q ≤ mostLines)
     (within : (A : Line) → A ∈ Q → T (lineWithin A)) (fits : AllFit widths Q) where
+  columns : (A : Line) → A ∈ Q → (1 ≤ length (A .columns)) × (length (A .columns) ≤ mostColumns)
+  columns A i = up-to-iff mostColumns (length (A .columns)) .0 (width-is (λ n. T (upTo mostColumns n)) widths narrow A (fits A i))
+
   -- coarse bounds suffice: each numeral is taken as 10 bytes
   pub query-short : length (queryText Q) ≤ mostBytes
   unfolding queryText endEach tableTerms mostBytes mostLines mostColumns
   query-short =
-      let each : Each (Within 107) (map printQueryLine Q) =
-      each-map (Within 107) printQueryLine Q
-      (λ A i. query-line-short A (within-writable A (within A i)) (few-terms widths (λ n m. up-to-iff 8 n .0 (narrow n m) .1) A (fits A i))) in
+      let each = each-map (Within 107) printQueryLine Q (λ A i. query-line-short A (within-writable A (within A i)) (columns A i .1)) in
       let all = rw (length-map Q printQueryLine) at (length-ended 107 (map printQueryLine Q) each) in
       omega arith
-
-  some-term : (A : Line) → A ∈ Q → 1 ≤ length (A .columns)
-  some-term A i = width-is (1 ≤_) widths (λ n m. up-to-iff mostColumns n .0 (narrow n m) .0) A (fits A i)
 
   pub well-read : 1 ≤ length Q → NoClash Q → WellRead widths Q
   well-read nonempty clear =
       record {
         nonempty = nonempty;
         few = few;
-        terms = some-term;
+        terms = λ A i. columns A i .0;
         within = within;
         fits = fits;
         clear = clear;
