@@ -61,7 +61,7 @@ module _ {p : Policy} (text : List ℕ) (v : Asked)
   text-accepted h =
       let d = l .declared in
       let (Q, r, w) = asked-accepted (d .views) (read (d .widths) text) v (asked d (loaded-to l)) h in
-      let q = accepted-well-read (d .widths) text Q r .0 in
+      let q = accepted-well-read (d .widths) text Q r in
       record {
         query = Q;
         reads = r;

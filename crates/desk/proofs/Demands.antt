@@ -39,7 +39,7 @@ pub demand-2 : Demand2
 unfolding listReading
 demand-2 p l text before r after g Q e =
     let d = l .declared in
-    let w = accepted-well-read (d .widths) text Q e .0 in (
+    let w = accepted-well-read (d .widths) text Q e in (
       labels (d .views) Q,
       labels-rewrite d (loaded-to l .good) Q (w .clear) (w .fits),
       subst (λ (v : Reading). Lists r after (listReading d before v)) e (g .loaded l),

@@ -45,7 +45,7 @@ module _ (d : Declared) (n : ℕ) (text before : List ℕ) (Q : Query) (reads : 
 pub settled-exactly : SettledExactly
 settled-exactly p l n text before r after x given Q reads =
     let d = l .declared in
-    let w = accepted-well-read (d .widths) text Q reads .0 in
+    let w = accepted-well-read (d .widths) text Q reads in
     let k = x .loaded l in
     let (there?, says) = under-tells d n text before Q reads (sym (ap (λ (s : SaidExplaining). s .given) (k .reply)) ∙ given) in
     let u = up-to-iff (length (d .partitions)) n .0 (true-holds there?) in

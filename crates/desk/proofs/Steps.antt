@@ -113,7 +113,7 @@ module _ (d : Declared) where
     left-iff : (i : ℕ) → (bit left i ≡ 1) ↔ ((i < length (d .partitions)) × DeterminesAll d before i × PartitionDetermines d i Q)
     unfolding stillOpen
     left-iff i =
-        let w = accepted-well-read (d .widths) (c .text) Q asks .0 in
+        let w = accepted-well-read (d .widths) (c .text) Q asks in
         let k = passing-iff (λ ps. settles (granted (d .views) ps) Q) (d .partitions) mask i in (
           λ e. let (l, t, b) = k .0 e in (l, h .each i l .0 b, settles-at good i l Q (w .clear) (w .fits) .0 t),
           λ r. k .1 (r .0, settles-at good i (r .0) Q (w .clear) (w .fits) .1 (r .2), h .each i (r .0) .1 (r .1)),

@@ -165,6 +165,6 @@ pub no-views-no-query : (d : Declared) → WellFormed d → (n : ℕ) → getEle
     → read (d .widths) text ≡ accepted Q → PartitionDetermines d n Q → ⊥
 unfolding granted
 no-views-no-query d good n at text Q reads p =
-    let (w, some-line) = accepted-well-read (d .widths) text Q reads in
-    let (A, first) = below-place Q 0 some-line in
+    let w = accepted-well-read (d .widths) text Q reads in
+    let (A, first) = below-place Q 0 (w .nonempty) in
     no-view-determines (d .widths) Q A (w .clear) (w .fits) (at-place Q 0 first) (determines-granted d good n [] at Q .0 p)

@@ -16,13 +16,14 @@ use Rattle.theory.specs.Executable.Label.{label, labels}
 use Rattle.theory.proofs.Lists.{length-without}
 use Rattle.theory.proofs.Executable.Reduce.{reduce-reduces}
 use Rattle.theory.proofs.Executable.Test.{and-iff, all-iff}
-use Rattle.model.specs.Limits.{mostTables, mostColumns, mostViews, lastVariable, upTo, termWithin, lineWithin}
+use Rattle.model.specs.Limits.{mostLines, mostTables, mostColumns, mostViews, lastVariable, upTo, termWithin, lineWithin}
 use Rattle.model.specs.Value.{queryValue, tablesValue}
 use Rattle.model.specs.declared.Policy.{Policy}
 use Rattle.model.specs.declared.Query.{Query as QueryValue}
 use Rattle.model.proofs.Values.{few-terms}
 use Rattle.query.specs.Text.{read, accepted}
-use Rattle.query.proofs.Accepted.{WellRead, accepted-well-read}
+use Rattle.query.specs.WellRead.{WellRead}
+use Rattle.query.proofs.Accepted.{accepted-well-read}
 use Rattle.policy.specs.Text.{Declared}
 use Rattle.policy.specs.Value.{WellFormed}
 use Rattle.policy.specs.Policy.{policyValue}
@@ -64,9 +65,9 @@ ready {d = d} l masks views =
 
 pub posed : {q : QueryValue} (d : Declared) (text : List ℕ) (Q : Query) → WellFormed d → read (d .widths) text ≡ accepted Q
     → q ≡ queryValue Q → Posed q d Q
-unfolding mostColumns
+unfolding mostColumns mostLines
 posed d text Q good e holds =
-    let w = accepted-well-read (d .widths) text Q e .0 in
+    let w = accepted-well-read (d .widths) text Q e in
     let narrow : (n : ℕ) → n ∈ d .widths → n ≤ 8 = λ n i. up-to-iff mostColumns n .0 (good .tables .each n i) .1 in
     record {
       query = record { is = holds; lines = w .few; columns = λ A i. few-terms (d .widths) narrow A (w .fits A i) };
@@ -81,9 +82,9 @@ reduced-length (done {Q = P} r) = le-refl (length P)
 reduced-length (take-out {Q = P} i g r) = omega (arith, reduced-length r, length-without i P (g .0))
 
 pub few-labels : (views : List TheLine) (widths text : List ℕ) (Q : Query) → read widths text ≡ accepted Q → length (labels views Q) ≤ 8
-unfolding labels show
+unfolding labels show mostLines
 few-labels views widths text Q e =
-    let w = accepted-well-read widths text Q e .0 in
+    let w = accepted-well-read widths text Q e in
     let R = reduce Q in
     let a = length-map (map (over (showTerm R)) R) (label views) in
     omega (arith, w .few, reduced-length (reduce-reduces Q), a, length-map R (over (showTerm R)))

@@ -13,3 +13,6 @@ pub mod Variables
 pub mod Misfit
 pub mod Same
 pub mod LaidTerms
+-- What is printed is read back, and what is read was printed.
+pub mod Printed
+pub mod ReadLines

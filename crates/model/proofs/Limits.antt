@@ -1,13 +1,13 @@
 -- What the checks of a line say of it in the theory's terms.
-use mathlib.Core.Path.{_≡_, refl, subst}
+use mathlib.Core.Path.{_≡_, refl, sym, subst}
 use mathlib.Core.Logic.{_↔_, ⊎-elim}
 use mathlib.Core.Bool.{Bool, true, false, cond, not}
-use mathlib.Core.List.{List, [], _∷_, _++_, List·Memᴰ·head, List·Memᴰ·tail, List·Memᴰ·append-cases, List·Memᴰ·eq-of-singleton}
+use mathlib.Core.List.{List, [], _∷_, _++_, List·Memᴰ·head, List·Memᴰ·tail, List·Memᴰ·cases-cons, List·Memᴰ·append-cases, List·Memᴰ·eq-of-singleton}
 use Prim.Native.Nat.{ℕ, suc, _≤_}
 use native.Mathlib.Nat.{suc-ne-zero}
-use lib.Dec.{T, leb, eqb→eq, leb→le, le→leb, T-not}
+use lib.Dec.{T, leb, eqb→eq, leb→le, le→leb, T-not, not-T}
 use lib.ListN.{length}
-use Rattle.theory.specs.Query.{Term, shown, hidden, Line, _∈_, NoClash, Fits}
+use Rattle.theory.specs.Query.{Term, constant, shown, hidden, Line, _∈_, NoClash, Fits}
 use Rattle.theory.specs.Executable.Test.{all, any}
 use Rattle.theory.proofs.Executable.Test.{and-iff, any-iff, same-iff}
 use Rattle.model.specs.Limits.{upTo, lineWithin, termWithin, mostTables, known, wide, opposite, clashing}
@@ -61,3 +61,29 @@ clear-more earlier A clear h n B C b c i j =
     (⊎-elim (λ y. List·Memᴰ·tail y) (λ y. List·Memᴰ·head (List·Memᴰ·eq-of-singleton y)) (List·Memᴰ·append-cases earlier c)) j
     (same-iff (hidden n) (hidden n) .1 refl)))
     (List·Memᴰ·append-cases earlier b)
+
+-- terms of lines without a clash are not one variable number shown and hidden
+not-opposite : (Q : List Line) (A B : Line) (t u : Term) → NoClash Q → A ∈ Q → B ∈ Q → t ∈ A .columns → u ∈ B .columns
+    → T (opposite t u) → ⊥
+unfolding opposite
+not-opposite Q A B (constant c) u clear a b i j o = o
+not-opposite Q A B (shown n) u clear a b i j o =
+    clear n A B a b i (subst (λ (x : Term). x ∈ B .columns) (same-iff u (hidden n) .0 o) j)
+not-opposite Q A B (hidden n) u clear a b i j o =
+    clear n B A b a (subst (λ (x : Term). x ∈ B .columns) (same-iff u (shown n) .0 o) j) i
+
+-- among lines without a clash none clashes with others of them
+pub clear-line : (Q earlier : List Line) (A : Line) → NoClash Q → A ∈ Q → ((B : Line) → B ∈ earlier → B ∈ Q)
+    → T (not (clashing earlier A))
+unfolding clashing
+clear-line Q earlier A clear a others = not-T (clashing earlier A) found
+  where
+    there : (B : Line) → B ∈ A ∷ earlier → B ∈ Q
+    there B b = ⊎-elim (λ e. subst (λ (C : Line). C ∈ Q) (sym e) a) (others B) (List·Memᴰ·cases-cons b)
+
+    found : T (clashing earlier A) → ⊥
+    found h =
+        let (t, i, r) = any-iff (λ x. any (λ C. any (opposite x) (C .columns)) (A ∷ earlier)) (A .columns) .0 h in
+        let (B, b, s) = any-iff (λ C. any (opposite t) (C .columns)) (A ∷ earlier) .0 r in
+        let (u, j, o) = any-iff (opposite t) (B .columns) .0 s in
+        not-opposite Q A B t u clear a (there B b) i j o

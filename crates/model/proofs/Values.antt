@@ -1,5 +1,5 @@
 -- A value stands for the term, the line and the query of the theory that it holds.
-use mathlib.Core.Path.{_≡_, refl, sym, ap, ap₂, _∙_}
+use mathlib.Core.Path.{_≡_, refl, sym, ap, ap₂, _∙_, subst}
 use mathlib.Core.List.{List, [], _∷_, _++_, map, List·Memᴰ·head, List·Memᴰ·tail}
 use Prim.Native.Nat.{ℕ, zero, suc, _-_, _≤_, _<_}
 use native.Mathlib.Omega.{arith}
@@ -48,7 +48,11 @@ as-query Q h =
     ∙ as-lines Q h
 
 -- a line that fits tables of at most eight columns has at most eight terms
-pub few-terms : (widths : List ℕ) → ((w : ℕ) → w ∈ widths → w ≤ 8) → (A : Line) → Fits widths A → length (A .columns) ≤ 8
-few-terms widths narrow A f =
+-- what holds of each table's columns holds of the terms of a line that fits
+pub width-is : (P : ℕ → Type 0) (widths : List ℕ) → ((w : ℕ) → w ∈ widths → P w) → (A : Line) → Fits widths A → P (length (A .columns))
+width-is P widths h A f =
     let i : A .table - 1 < length widths = omega (arith, f .first, f .last) in
-    omega (arith, f .width, narrow (getD widths (A .table - 1) 0) (getD-mem widths (A .table - 1) 0 i))
+    subst P (sym (f .width)) (h (getD widths (A .table - 1) 0) (getD-mem widths (A .table - 1) 0 i))
+
+pub few-terms : (widths : List ℕ) → ((w : ℕ) → w ∈ widths → w ≤ 8) → (A : Line) → Fits widths A → length (A .columns) ≤ 8
+few-terms = width-is (_≤ 8)

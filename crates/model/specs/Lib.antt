@@ -3,6 +3,7 @@ pub mod Abstract
 pub mod Fields
 pub mod Limits
 pub mod Marks
+pub mod Print
 pub mod Value
 pub mod Variables
 pub mod Rows

@@ -2,19 +2,19 @@
 use mathlib.Core.Path.{_≡_, refl, subst, sym}
 use mathlib.Core.Logic.{⊎-elim}
 use mathlib.Core.List.{List, [], _∷_, List·Memᴰ·head, List·Memᴰ·tail, List·Memᴰ·not-nil, List·Memᴰ·cases-cons}
-use Prim.Native.Nat.{ℕ, suc, _+_, _<_}
+use Prim.Native.Nat.{ℕ, _+_, _<_}
 use native.Mathlib.Omega.{arith}
-use lib.Dec.{T, leb, leb→le}
 use lib.ListN.{length}
 use Rattle.theory.specs.Query.{_∈_}
-use Rattle.theory.specs.Executable.Test.{all}
-use Rattle.theory.proofs.Executable.Test.{all-iff}
 use Rattle.text.specs.Lines.{lines}
 use Rattle.text.specs.Names.{tableColumns, viewTableTerms, partitionViews}
+use Rattle.text.specs.Print.{decimal}
+use Rattle.text.proofs.Each.{Each, each-cons, each-append}
+use Rattle.text.proofs.Joined.{Printable, Clean, decimal-clean, joined-clean, table-columns-clean, view-table-terms-clean, partition-views-clean, lines-ended, ended-bytes}
+use Rattle.model.specs.Print.{tableFields, lineFields, partitionFields, printLine}
+use Rattle.model.proofs.Printed.{table-clean, line-clean, partition-clean}
 use Rattle.policy.specs.Text.{Declared}
-use Rattle.policy.specs.Print.{decimal, tableFields, viewFields, partitionFields, printLine, printBlock, printLines, print}
-use Rattle.policy.proofs.Each.{each-cons, each-append}
-use Rattle.policy.proofs.Printed.{AtLeast, Clean, decimal-clean, table-clean, view-clean, partition-clean, joined-clean, lines-ended}
+use Rattle.policy.specs.Print.{printBlock, printLines, print}
 
 -- ---- a block
 
@@ -32,7 +32,7 @@ module _ {X : Type 0} (fieldsOf : X → List (List ℕ)) where
   block-line n [] line m = absurd (List·Memᴰ·not-nil m)
   block-line n (x ∷ l) line m =
       ⊎-elim (λ e. record { number = n; value = x; below = omega arith; member = List·Memᴰ·head refl; printed = e })
-      (λ k. let r = block-line (suc n) l line k in
+      (λ k. let r = block-line _ l line k in
       record {
         number = r .number;
         value = r .value;
@@ -45,34 +45,37 @@ module _ {X : Type 0} (fieldsOf : X → List (List ℕ)) where
   pub length-block : (n : ℕ) (l : List X) → length (printBlock fieldsOf n l) ≡ length l
   unfolding printBlock
   length-block n [] = refl
-  length-block n (x ∷ l) = rw (length-block (suc n) l)
+  length-block n (x ∷ l) = rw (length-block _ l)
 
   block-clean : ((x : X) → Clean (fieldsOf x)) → (n : ℕ) (l : List X) (line : List ℕ) → line ∈ printBlock fieldsOf n l
-      → AtLeast 32 line
+      → Each (Printable 32) line
   unfolding printLine
   block-clean clean n l line m =
       let r = block-line n l line m in
       let number = decimal (r .number) in
       let fs = fieldsOf (r .value) in
-      subst (AtLeast 32) (sym (r .printed))
-      (joined-clean (number ∷ fs) (each-cons (AtLeast 33) number fs (decimal-clean (r .number)) (clean (r .value))))
+      subst (Each (Printable 32)) (sym (r .printed))
+      (joined-clean (number ∷ fs) (each-cons (Each (Printable 33)) number fs (decimal-clean (r .number)) (clean (r .value))))
 
 -- ---- the text
 
-pub lines-printed : (d : Declared) → lines (print d) ≡ record { ended = printLines d; rest = [] }
-unfolding print printLines tableColumns viewTableTerms partitionViews all
-lines-printed d = lines-ended (printLines d) clean
-  where
-    names : (l : List ℕ) → T (all (leb 32) l) → AtLeast 32 l
-    names l h x m = leb→le 32 x (all-iff (leb 32) l .0 h x m)
+lines-clean : (d : Declared) → Each (Each (Printable 32)) (printLines d)
+unfolding printLines
+lines-clean d =
+    each-cons (Each (Printable 32)) tableColumns _ table-columns-clean
+    (each-append (Each (Printable 32)) (printBlock tableFields 1 (d .widths)) _
+    (block-clean tableFields table-clean 1 (d .widths))
+    (each-cons (Each (Printable 32)) viewTableTerms _ view-table-terms-clean
+    (each-append (Each (Printable 32)) (printBlock lineFields 1 (d .views)) _
+    (block-clean lineFields line-clean 1 (d .views))
+    (each-cons (Each (Printable 32)) partitionViews _ partition-views-clean
+    (block-clean partitionFields partition-clean 1 (d .partitions))))))
 
-    clean : (l : List ℕ) → l ∈ printLines d → AtLeast 32 l
-    clean =
-        each-cons (AtLeast 32) tableColumns _ (names tableColumns tt)
-        (each-append (AtLeast 32) (printBlock tableFields 1 (d .widths)) _
-        (block-clean tableFields table-clean 1 (d .widths))
-        (each-cons (AtLeast 32) viewTableTerms _ (names viewTableTerms tt)
-        (each-append (AtLeast 32) (printBlock viewFields 1 (d .views)) _
-        (block-clean viewFields view-clean 1 (d .views))
-        (each-cons (AtLeast 32) partitionViews _ (names partitionViews tt)
-        (block-clean partitionFields partition-clean 1 (d .partitions))))))
+pub lines-printed : (d : Declared) → lines (print d) ≡ record { ended = printLines d; rest = [] }
+unfolding print
+lines-printed d = lines-ended (printLines d) (lines-clean d)
+
+-- what is printed is bytes
+pub print-bytes : (d : Declared) (x : ℕ) → x ∈ print d → x < 256
+unfolding print
+print-bytes d = ended-bytes (printLines d) (lines-clean d)

@@ -1,11 +1,9 @@
 -- Which lines are taken.
-pub mod Each
 pub mod Faults
--- What a text loads to is well formed.
+-- What a text loads to is well formed, and the text is that printed.
+pub mod Declares
 pub mod Loaded
 -- What is printed is read back.
-pub mod Digits
-pub mod Printed
 pub mod Blocks
 pub mod Sizes
 pub mod Short

@@ -1,21 +1,27 @@
--- What a text loads to is well formed: an invariant of the walk over the lines.
-use mathlib.Core.Path.{_≡_, refl, subst}
+-- What a text loads to is well formed, and the text is that printed: an invariant of the walk over the lines.
+use mathlib.Core.Path.{_≡_, refl, sym, ap, ap₂, _∙_, subst}
 use mathlib.Core.Bool.{Bool, true, false, cond, _&&_}
-use mathlib.Core.List.{List, [], _∷_, _++_}
+use mathlib.Core.List.{List, [], _∷_, _++_, append-nil, append-assoc}
 use Prim.Native.Nat.{ℕ, suc, _≤_}
 use native.Mathlib.Omega.{arith}
 use lib.Dec.{T, ltb}
 use lib.ListN.{length, length-append}
-use Rattle.theory.specs.Query.{_∈_}
+use Rattle.theory.specs.Query.{Line, _∈_}
 use Rattle.theory.proofs.Executable.Test.{and-iff}
 use Rattle.text.specs.Lines.{lines}
-use Rattle.text.specs.Names.{sameBytes, tableColumns}
+use Rattle.text.specs.Names.{sameBytes, tableColumns, viewTableTerms, partitionViews}
+use Rattle.text.specs.Print.{endEach}
 use Rattle.model.specs.Fields.{Numbered, tableLine, viewLine, partitionLine}
 use Rattle.model.specs.Limits.{mostTables, mostViews, mostPartitions}
+use Rattle.model.specs.Print.{lineFields, partitionFields}
 use Rattle.policy.specs.Text.{Declared, nothing, refused, accepted, mostBytes, Entered, faulty, entered, Block, tables, views, partitions, enter, isNext, nextBlock, ends, goOn, loadFrom, loadLines, load}
 use Rattle.policy.specs.Value.{OneToMost, GoodWidth, GoodView, GoodPartition, WellFormed}
-use Rattle.policy.proofs.Each.{each-nil, each-cons, each-append}
+use Rattle.policy.specs.Print.{printBlock, printLines, print}
+use Rattle.text.proofs.Each.{each-nil, each-cons, each-append}
+use Rattle.text.proofs.Names.{same-bytes-iff}
+use Rattle.text.proofs.Joined.{ended-lines}
 use Rattle.policy.proofs.Faults.{Taken, table-taken, view-taken, partition-taken, entry-only-taken}
+use Rattle.policy.proofs.Declares.{tableLines, viewLines, soFar, so-far-more}
 
 -- a block's values so far: there is one where the block has started
 record SoFar {X : Type 0} (started : Bool) (most : ℕ) (Good : X → Type 0) (l : List X) : Type 0 where
@@ -76,27 +82,60 @@ reached-next views started d l h r =
     (r .0, all-of-it started (d .views) (and-iff started _ .0 h .0) (r .1), rw (r .2) at-first)
 reached-next partitions started d l h r = absurd (and-iff started _ .0 h .1)
 
+-- the names line of the block behind is the next of the printed lines, as nothing is declared of that block
+so-far-next : (b : Block) (started : Bool) (d : Declared) (l : List ℕ) → Reached b started d → T (isNext b l)
+    → soFar (nextBlock b) d ≡ soFar b d ++ l ∷ []
+unfolding soFar printLines printBlock isNext nextBlock
+so-far-next tables started d l r h =
+    ap (λ (As : List Line). tableLines d ++ viewTableTerms ∷ printBlock lineFields 1 As) (r .1)
+    ∙ ap (λ (m : List ℕ). tableLines d ++ m ∷ []) (sym (same-bytes-iff l viewTableTerms .0 h))
+so-far-next views started d l r h =
+    ap (λ (ps : List (List ℕ)). tableLines d ++ (viewLines d ++ partitionViews ∷ printBlock partitionFields 1 ps)) (r .2)
+    ∙ ap (λ (m : List ℕ). tableLines d ++ (viewLines d ++ m ∷ [])) (sym (same-bytes-iff l partitionViews .0 h))
+    ∙ sym (append-assoc (tableLines d) (viewLines d) (l ∷ []))
+so-far-next partitions started d l r h = absurd h
+
 refused≢accepted : {n k : ℕ} {d : Declared} → refused n k ≡ accepted d → ⊥
 refused≢accepted e = let z : _≡_ {A = ℕ} 0 1 = cc in omega arith
 
+-- a text that is accepted with e, of which ls and the tail are left in a block where d is declared so far
+record Told (b : Block) (d : Declared) (ls : List (List ℕ)) (tail : List ℕ) (e : Declared) : Type 0 where
+  good : WellFormed e
+  ended : tail ≡ []
+  printed : soFar b d ++ ls ≡ printLines e
+
 -- the text stops: only in the last block, once that has started, and only with no tail
-ended-well-formed : (b : Block) (started : Bool) (d : Declared) (k : ℕ) (tail : List ℕ) (e : Declared)
-    → Reached b started d → ends b started d k tail ≡ accepted e → WellFormed e
-unfolding ends
-ended-well-formed b started d k (x ∷ tail) e r h = absurd (refused≢accepted h)
-ended-well-formed tables started d k [] e r h = absurd (refused≢accepted h)
-ended-well-formed views started d k [] e r h = absurd (refused≢accepted h)
-ended-well-formed partitions true d k [] e r h =
+ended-told : (b : Block) (started : Bool) (d : Declared) (k : ℕ) (tail : List ℕ) (e : Declared)
+    → Reached b started d → ends b started d k tail ≡ accepted e → Told b d [] tail e
+unfolding ends soFar
+ended-told b started d k (x ∷ tail) e r h = absurd (refused≢accepted h)
+ended-told tables started d k [] e r h = absurd (refused≢accepted h)
+ended-told views started d k [] e r h = absurd (refused≢accepted h)
+ended-told partitions true d k [] e r h =
     let same : d ≡ e = cc in
-    subst WellFormed same
-    (record { tables = r .0; views = r .1; partitions = all-of-it true (d .partitions) tt (r .2) })
-ended-well-formed partitions false d k [] e r h = absurd (refused≢accepted h)
+    subst (Told partitions d [] []) same
+    (record {
+      good = record { tables = r .0; views = r .1; partitions = all-of-it true (d .partitions) tt (r .2) };
+      ended = refl;
+      printed = append-nil (printLines d);
+    })
+ended-told partitions false d k [] e r h = absurd (refused≢accepted h)
+
+-- a line that is the next of the printed ones
+line-told : (b b′ : Block) (d d′ : Declared) (l : List ℕ) {ls : List (List ℕ)} {tail : List ℕ} {e : Declared}
+    → soFar b′ d′ ≡ soFar b d ++ l ∷ [] → Told b′ d′ ls tail e → Told b d (l ∷ ls) tail e
+line-told b b′ d d′ l {ls} next t =
+    record {
+      good = t .good;
+      ended = t .ended;
+      printed = sym (append-assoc (soFar b d) (l ∷ []) ls) ∙ ap (λ (m : List (List ℕ)). m ++ ls) (sym next) ∙ t .printed;
+    }
 
 -- a text whose lines from here on are accepted
 abbrev Sound : List (List ℕ) → Type 0
 Sound ls =
     (b : Block) (started : Bool) (d : Declared) (k : ℕ) (tail : List ℕ) (e : Declared)
-    → Reached b started d → loadFrom b started d k ls tail ≡ accepted e → WellFormed e
+    → Reached b started d → loadFrom b started d k ls tail ≡ accepted e → Told b d ls tail e
 
 one-line-sound : (l : List ℕ) (ls : List (List ℕ)) → Sound ls → Sound (l ∷ ls)
 unfolding loadFrom goOn
@@ -104,30 +143,48 @@ one-line-sound l ls rest b started d k tail e r = go (started && isNext b l) ref
   where
     go : (next : Bool) → started && isNext b l ≡ next → (o : Entered) → enter b d l ≡ o
         → cond next (loadFrom (nextBlock b) false d (suc k) ls tail) (goOn o k (λ d′. loadFrom b true d′ (suc k) ls tail))
-        ≡ accepted e → WellFormed e
-    go true n o q h = rest (nextBlock b) false d (suc k) tail e (reached-next b started d l (rw n tt) r) h
+        ≡ accepted e → Told b d (l ∷ ls) tail e
+    go true n o q h =
+        let named : T (started && isNext b l) = rw n tt in
+        line-told b (nextBlock b) d d l (so-far-next b started d l r (and-iff started _ .0 named .1))
+        (rest (nextBlock b) false d (suc k) tail e (reached-next b started d l named r) h)
     go false n (faulty m) q h = absurd (refused≢accepted h)
-    go false n (entered d′) q h = rest b true d′ (suc k) tail e (reached-more b started d l d′ r q) h
+    go false n (entered d′) q h =
+        line-told b b d d′ l (so-far-more b d d′ l q) (rest b true d′ (suc k) tail e (reached-more b started d l d′ r q) h)
 
 sound : (ls : List (List ℕ)) → Sound ls
 unfolding loadFrom
-sound [] = ended-well-formed
+sound [] = ended-told
 sound (l ∷ ls) = one-line-sound l ls (sound ls)
 
-lines-sound : (ls : List (List ℕ)) (tail : List ℕ) (e : Declared) → loadLines ls tail ≡ accepted e → WellFormed e
-unfolding loadLines nothing
+lines-sound : (ls : List (List ℕ)) (tail : List ℕ) (e : Declared) → loadLines ls tail ≡ accepted e
+    → WellFormed e × (tail ≡ []) × (ls ≡ printLines e)
+unfolding loadLines nothing soFar printBlock
 lines-sound [] tail e h = absurd (refused≢accepted h)
-lines-sound (l ∷ ls) tail e h = go (sameBytes l tableColumns) h
+lines-sound (l ∷ ls) tail e h = go (sameBytes l tableColumns) (λ t. t) h
   where
-    go : (named : Bool) → cond named (loadFrom tables false nothing 2 ls tail) (refused 1 1) ≡ accepted e → WellFormed e
-    go true q = sound ls tables false nothing 2 tail e (at-first, refl, refl) q
-    go false q = absurd (refused≢accepted q)
+    go : (named : Bool) → (T named → T (sameBytes l tableColumns))
+        → cond named (loadFrom tables false nothing 2 ls tail) (refused 1 1) ≡ accepted e
+        → WellFormed e × (tail ≡ []) × (l ∷ ls ≡ printLines e)
+    go true n q =
+        let t = sound ls tables false nothing 2 tail e (at-first, refl, refl) q in
+        let first = same-bytes-iff l tableColumns .0 (n tt) in
+        (t .good, t .ended, ap (λ (m : List ℕ). m ∷ ls) first ∙ t .printed)
+    go false n q = absurd (refused≢accepted q)
 
-pub loaded-well-formed : (text : List ℕ) (d : Declared) → load text ≡ accepted d → WellFormed d
-unfolding load
-loaded-well-formed text d h = go (ltb mostBytes (length text)) h
+loaded : (text : List ℕ) (d : Declared) → load text ≡ accepted d → WellFormed d × (text ≡ print d)
+unfolding load print
+loaded text d h = go (ltb mostBytes (length text)) h
   where
     go : (long : Bool) → cond long (refused 7 0) (loadLines (lines text .ended) (lines text .rest)) ≡ accepted d
-        → WellFormed d
+        → WellFormed d × (text ≡ print d)
     go true q = absurd (refused≢accepted q)
-    go false q = lines-sound (lines text .ended) (lines text .rest) d q
+    go false q =
+        let (good, tail, all) = lines-sound (lines text .ended) (lines text .rest) d q in
+        (good, sym (ended-lines text) ∙ ap₂ (λ (ls : List (List ℕ)) (r : List ℕ). endEach ls ++ r) all tail ∙ append-nil (print d))
+
+pub loaded-well-formed : (text : List ℕ) (d : Declared) → load text ≡ accepted d → WellFormed d
+loaded-well-formed text d h = loaded text d h .0
+
+pub loaded-printed : (text : List ℕ) (d : Declared) → load text ≡ accepted d → text ≡ print d
+loaded-printed text d h = loaded text d h .1

@@ -1,5 +1,5 @@
 -- A policy value is what some text loads to exactly when it is well formed: the text of a well-formed value loads to it.
-use mathlib.Core.Path.{_≡_, refl, _∙_}
+use mathlib.Core.Path.{_≡_, refl, ap, _∙_}
 use mathlib.Core.Logic.{_↔_}
 use mathlib.Core.Bool.{false}
 use mathlib.Core.List.{List, [], _∷_, _++_, append-nil}
@@ -12,17 +12,18 @@ use Rattle.text.specs.Lines.{lines}
 use Rattle.text.specs.Names.{sameBytes, tableColumns, viewTableTerms, partitionViews}
 use Rattle.model.specs.Fields.{Numbered}
 use Rattle.model.specs.Limits.{mostTables, mostColumns, mostViews, mostPartitions}
+use Rattle.model.specs.Print.{tableFields, lineFields, partitionFields, printLine}
+use Rattle.model.proofs.Printed.{table-printed, view-printed, partition-printed}
 use Rattle.policy.specs.Text.{Declared, nothing, accepted, mostBytes, entered, tables, views, partitions, enter, isNext, nextBlock, ends, loadFrom, loadLines, load}
 use Rattle.policy.specs.Value.{OneToMost, GoodWidth, GoodView, GoodPartition, WellFormed}
-use Rattle.policy.specs.Print.{tableFields, viewFields, partitionFields, printLine, printBlock, printLines, print}
+use Rattle.policy.specs.Print.{printBlock, printLines, print}
 use Rattle.model.proofs.Limits.{up-to-iff}
 use Rattle.policy.proofs.Faults.{table-taken, view-taken, partition-taken}
-use Rattle.policy.proofs.Printed.{table-printed, view-printed, partition-printed}
 use Rattle.policy.proofs.Blocks.{lines-printed}
 use Rattle.policy.proofs.Sizes.{view-size, partition-size}
 use Rattle.policy.proofs.Walk.{block-loads}
 use Rattle.policy.proofs.Short.{print-short}
-use Rattle.policy.proofs.Loaded.{loaded-well-formed}
+use Rattle.policy.proofs.Loaded.{loaded-well-formed, loaded-printed}
 
 -- ---- the printed line of a good value that is next in turn declares it
 
@@ -38,7 +39,7 @@ table-enters d w h g =
 
 view-enters : (d : Declared) (A : Line) → OneToMost mostTables GoodWidth (d .widths)
     → length (d .views) < mostViews → GoodView (d .widths) A
-    → enter views d (printLine (suc (length (d .views))) (viewFields A))
+    → enter views d (printLine (suc (length (d .views))) (lineFields A))
     ≡ entered (record { widths = d .widths; views = d .views ++ A ∷ []; partitions = d .partitions })
 unfolding enter mostViews
 view-enters d A ts h g =
@@ -46,7 +47,7 @@ view-enters d A ts h g =
     let n = suc (length (d .views)) in
     let e : Numbered Line = record { number = n; value = A } in
     rw (
-      view-printed n A (omega arith) (s .table) (s .least) (s .terms),
+      view-printed n A (omega arith) (s .writable) (s .least),
       view-taken d e .1 (record { turn = refl; limit = h; good = g }),
     )
 
@@ -80,10 +81,10 @@ partitions-load d w k =
 
 views-load : (d : Declared) → WellFormed d → (k : ℕ)
     → loadFrom views false (record { widths = d .widths; views = []; partitions = [] }) k
-    (printBlock viewFields 1 (d .views) ++ partitionViews ∷ printBlock partitionFields 1 (d .partitions)) [] ≡ accepted d
+    (printBlock lineFields 1 (d .views) ++ partitionViews ∷ printBlock partitionFields 1 (d .partitions)) [] ≡ accepted d
 unfolding loadFrom isNext nextBlock sameBytes partitionViews
 views-load d w k =
-    block-loads views put viewFields mostViews (GoodView (d .widths)) (λ done A. view-enters (put done) A (w .tables))
+    block-loads views put lineFields mostViews (GoodView (d .widths)) (λ done A. view-enters (put done) A (w .tables))
     (partitionViews ∷ printBlock partitionFields 1 (d .partitions)) [] d (d .views) (w .views)
     (λ j. partitions-load d w (suc j)) k
   where
@@ -94,7 +95,7 @@ lines-load : (d : Declared) → WellFormed d → loadLines (printLines d) [] ≡
 unfolding loadLines printLines nothing loadFrom isNext nextBlock sameBytes tableColumns viewTableTerms
 lines-load d w =
     block-loads tables put tableFields mostTables GoodWidth (λ done. table-enters (put done))
-    (viewTableTerms ∷ printBlock viewFields 1 (d .views) ++ partitionViews ∷ printBlock partitionFields 1 (d .partitions)) []
+    (viewTableTerms ∷ printBlock lineFields 1 (d .views) ++ partitionViews ∷ printBlock partitionFields 1 (d .partitions)) []
     d (d .widths) (w .tables) (λ j. views-load d w (suc j)) 2
   where
     put : List ℕ → Declared
@@ -113,3 +114,10 @@ print-loads d w = load-lines (print d) (printLines d) (print-short d w) (lines-p
 -- "a policy value that no loading gives" is one that is not well formed
 pub loadable-iff : (d : Declared) → ((text : List ℕ) × (load text ≡ accepted d)) ↔ WellFormed d
 loadable-iff d = (λ r. loaded-well-formed (r .0) d (r .1), λ w. (print d, print-loads d w))
+
+-- a text loads to d exactly when d is well formed and the text is d printed
+pub loads-exactly : (text : List ℕ) (d : Declared) → (load text ≡ accepted d) ↔ (WellFormed d × (text ≡ print d))
+loads-exactly text d = (
+  λ e. (loaded-well-formed text d e, loaded-printed text d e),
+  λ r. ap load (r .1) ∙ print-loads d (r .0),
+)

@@ -3,36 +3,30 @@ use mathlib.Core.Path.{refl}
 use mathlib.Core.List.{List, [], _∷_, List·Memᴰ·head, List·Memᴰ·tail}
 use Prim.Native.Nat.{ℕ, _+_, _-_, _^_, _≤_, _<_}
 use native.Mathlib.Omega.{arith}
-use lib.Dec.{T, leb→le, eqb→eq, ltb, ltb→lt}
-use lib.ListN.{length, getD}
+use lib.Dec.{T, ltb, ltb→lt}
+use lib.ListN.{length}
 use Rattle.theory.specs.Query.{Line, _∈_}
-use Rattle.theory.specs.Executable.Test.{all}
-use Rattle.theory.proofs.Tuples.{getD-mem}
 use Rattle.theory.proofs.Executable.Test.{and-iff, all-iff}
-use Rattle.model.specs.Limits.{mostTables, mostColumns, mostViews, upTo, termWithin, lineWithin, known, wide}
+use Rattle.model.specs.Limits.{mostTables, mostColumns, mostViews, upTo}
 use Rattle.policy.specs.Text.{ascend}
 use Rattle.policy.specs.Value.{OneToMost, GoodWidth, GoodView, GoodPartition}
-use Rattle.model.proofs.Limits.{up-to-iff}
+use Rattle.model.proofs.Limits.{up-to-iff, checked-fits}
+use Rattle.model.proofs.Values.{width-is}
+use Rattle.model.proofs.Printed.{Writable, within-writable}
 
 -- a view's numbers, and its columns as many as some table's
 pub record ViewSize (A : Line) : Type 0 where
-  pub table : A .table < 10 ^ 10
-  pub terms : T (all termWithin (A .columns))
+  pub writable : Writable A
   pub least : 1 ≤ length (A .columns)
   pub most : length (A .columns) ≤ 8
 
 pub view-size : (widths : List ℕ) (A : Line)
     → OneToMost mostTables GoodWidth widths → GoodView widths A → ViewSize A
-unfolding lineWithin known wide mostTables mostColumns
+unfolding mostColumns
 view-size widths A tables g =
-    let within = and-iff (upTo mostTables (A .table)) _ .0 (g .within) in
-    let number = up-to-iff mostTables (A .table) .0 (within .0) in
-    let declared = leb→le (A .table) (length widths) (g .declared) in
-    let width = getD widths (A .table - 1) 0 in
-    let member = getD-mem widths (A .table - 1) 0 (omega arith) in
-    let columns = up-to-iff mostColumns width .0 (tables .each width member) in
-    let fitting = eqb→eq (length (A .columns)) width (g .fitting) in
-    record { table = omega arith; terms = within .1; least = omega arith; most = omega arith }
+    let fits = checked-fits widths A (g .within) (g .declared) (g .fitting) in
+    let columns = up-to-iff mostColumns (length (A .columns)) .0 (width-is GoodWidth widths (tables .each) A fits) in
+    record { writable = within-writable A (g .within); least = columns .0; most = columns .1 }
 
 -- numbers that ascend from v and end at or below the most
 ascend-from : (most v : ℕ) (vs : List ℕ) → T (ascend (v ∷ vs)) → ((w : ℕ) → w ∈ v ∷ vs → w ≤ most) → v + length vs ≤ most

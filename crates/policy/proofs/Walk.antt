@@ -12,7 +12,8 @@ use Rattle.theory.specs.Query.{_∈_}
 use Rattle.text.specs.Names.{sameBytes, viewTableTerms, partitionViews}
 use Rattle.policy.specs.Text.{Declared, accepted, entered, Block, tables, views, partitions, enter, isNext, nextBlock, goOn, loadFrom}
 use Rattle.policy.specs.Value.{OneToMost}
-use Rattle.policy.specs.Print.{printLine, printBlock}
+use Rattle.model.specs.Print.{printLine}
+use Rattle.policy.specs.Print.{printBlock}
 use Rattle.text.proofs.Names.{same-bytes-iff}
 use Rattle.policy.proofs.Faults.{faulty≢entered}
 

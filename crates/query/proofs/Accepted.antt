@@ -1,111 +1,175 @@
--- What reading accepts: one to eight lines that fit the tables, numbers within their limits, no number both shown and hidden.
-use mathlib.Core.Path.{_≡_, refl, sym, subst}
-use mathlib.Core.Logic.{⊎-elim}
+-- What reading accepts is well read, and the text is that printed: an invariant of the walk over the lines.
+use mathlib.Core.Path.{_≡_, refl, sym, ap, ap₂, _∙_, subst}
 use mathlib.Core.Bool.{Bool, true, false, cond, not}
-use mathlib.Core.List.{List, [], _∷_, _++_, List·Memᴰ·not-nil, List·Memᴰ·append-cases, List·Memᴰ·eq-of-singleton}
+use mathlib.Core.List.{List, [], _∷_, _++_, map, append-nil, append-assoc, map-append, List·Memᴰ·not-nil}
 use mathlib.Core.Option.{Option, none, some}
 use Prim.Native.Nat.{ℕ, zero, suc, _≤_}
 use native.Mathlib.Omega.{arith}
 use lib.Dec.{T, leb, ltb, nleb→lt}
 use lib.ListN.{length, length-append}
+use borrow.Author.Tests.{ltb-false}
 use Rattle.theory.specs.Query.{Line, Query, _∈_, NoClash, Fits}
 use Rattle.theory.specs.Archive.{AllFit}
 use Rattle.text.specs.Lines.{lines}
 use Rattle.text.specs.Names.{tableTerms, sameBytes}
+use Rattle.text.specs.Print.{endEach}
+use Rattle.text.proofs.Each.{each-nil, each-cons, each-append}
+use Rattle.text.proofs.Names.{same-bytes-iff}
+use Rattle.text.proofs.Joined.{ended-lines}
 use Rattle.model.specs.Fields.{queryLine}
 use Rattle.model.specs.Limits.{mostLines, lineWithin, known, wide, clashing, firstFault}
+use Rattle.model.specs.Print.{printQueryLine}
 use Rattle.model.proofs.Limits.{no-fault, not-not, checked-fits, clear-more}
-use Rattle.query.specs.Text.{Reading, refused, accepted, mostBytes, fault, ends, judged, step, readFrom, readLines, read}
+use Rattle.model.proofs.ReadLines.{query-line-read}
+use Rattle.query.specs.Text.{refused, accepted, mostBytes, fault, ends, judged, step, readFrom, readLines, read}
+use Rattle.query.specs.Print.{queryText}
+use Rattle.query.specs.WellRead.{WellRead}
 
 -- the lines of a query so far
-pub record WellRead (widths : List ℕ) (Q : Query) : Type 0 where
-  pub few : length Q ≤ 8
-  pub fits : AllFit widths Q
-  pub within : (A : Line) → A ∈ Q → T (lineWithin A)
-  pub clear : NoClash Q
+record SoFar (widths : List ℕ) (Q : Query) : Type 0 where
+  few : length Q ≤ mostLines
+  terms : (A : Line) → A ∈ Q → 1 ≤ length (A .columns)
+  within : (A : Line) → A ∈ Q → T (lineWithin A)
+  fits : AllFit widths Q
+  clear : NoClash Q
 
-none-read : (widths : List ℕ) → WellRead widths []
+none-read : (widths : List ℕ) → SoFar widths []
+unfolding mostLines
 none-read widths =
     record {
       few = omega arith;
-      fits = λ A m. absurd (List·Memᴰ·not-nil m);
+      terms = λ A m. absurd (List·Memᴰ·not-nil m);
       within = λ A m. absurd (List·Memᴰ·not-nil m);
+      fits = λ A m. absurd (List·Memᴰ·not-nil m);
       clear = λ n A B i. absurd (List·Memᴰ·not-nil i);
     }
 
--- a line without a fault may stand behind them
-more-read : (widths : List ℕ) (earlier : List Line) (A : Line) → WellRead widths earlier → fault widths earlier A ≡ 0
-    → WellRead widths (earlier ++ A ∷ [])
+-- one more behind those of which each is as it should be
+each-more : (P : Line → Type 0) (l : List Line) (A : Line) → ((B : Line) → B ∈ l → P B) → P A → (B : Line) → B ∈ l ++ A ∷ [] → P B
+each-more P l A h k = each-append P l (A ∷ []) h (each-cons P A [] k (each-nil P))
+
+-- a line with a term and without a fault may stand behind them
+more-read : (widths : List ℕ) (earlier : List Line) (A : Line) → SoFar widths earlier → 1 ≤ length (A .columns)
+    → fault widths earlier A ≡ 0 → SoFar widths (earlier ++ A ∷ [])
 unfolding fault firstFault mostLines
-more-read widths earlier A w e =
+more-read widths earlier A w t e =
     let a = no-fault (leb mostLines (length earlier)) 6 _ e in
     let b = no-fault (not (lineWithin A)) 1 _ (a .1) in
     let c = no-fault (not (known widths A)) 3 _ (b .1) in
     let d = no-fault (not (wide widths A)) 4 _ (c .1) in
     let f = no-fault (clashing earlier A) 5 _ (d .1) in
     let within = not-not (lineWithin A) (b .0) in
-    let l = nleb→lt 8 (length earlier) (a .0) in
     record {
-      few = omega (arith, length-append earlier (A ∷ []), l);
-      fits = λ B m.
-          ⊎-elim (λ i. w .fits B i)
-          (λ i. subst (Fits widths) (sym (List·Memᴰ·eq-of-singleton i))
-          (checked-fits widths A within (not-not (known widths A) (c .0)) (not-not (wide widths A) (d .0))))
-          (List·Memᴰ·append-cases earlier m);
-      within = λ B m.
-          ⊎-elim (λ i. w .within B i) (λ i. subst (λ (C : Line). T (lineWithin C)) (sym (List·Memᴰ·eq-of-singleton i)) within)
-          (List·Memᴰ·append-cases earlier m);
+      few = omega (arith, length-append earlier (A ∷ []), nleb→lt 8 (length earlier) (a .0));
+      terms = each-more (λ B. 1 ≤ length (B .columns)) earlier A (w .terms) t;
+      within = each-more (λ B. T (lineWithin B)) earlier A (w .within) within;
+      fits =
+          each-more (Fits widths) earlier A (w .fits)
+          (checked-fits widths A within (not-not (known widths A) (c .0)) (not-not (wide widths A) (d .0)));
       clear = clear-more earlier A (w .clear) (f .0);
     }
 
--- an accepted query has a line, and its lines are well read
-abbrev pub Accepted : List ℕ → Reading → Type 0
-Accepted widths r = (Q : Query) → r ≡ accepted Q → WellRead widths Q × (1 ≤ length Q)
+-- a text that is accepted with Q, of which ls and the tail are left behind the lines `earlier`
+record Told (widths : List ℕ) (earlier : List Line) (ls : List (List ℕ)) (tail : List ℕ) (Q : Query) : Type 0 where
+  nonempty : 1 ≤ length Q
+  all : SoFar widths Q
+  ended : tail ≡ []
+  printed : map printQueryLine earlier ++ ls ≡ map printQueryLine Q
 
-not-accepted : (widths : List ℕ) (n k : ℕ) → Accepted widths (refused n k)
-not-accepted widths n k Q e = absurd (let z : _≡_ {A = ℕ} 0 1 = cc in omega arith)
+refused≢accepted : {n k : ℕ} {Q : Query} → refused n k ≡ accepted Q → ⊥
+refused≢accepted e = let z : _≡_ {A = ℕ} 0 1 = cc in omega arith
 
-ends-accepted : (widths : List ℕ) (earlier : List Line) (k : ℕ) (tail : List ℕ) → WellRead widths earlier → Accepted widths (ends earlier k tail)
+ends-told : (widths : List ℕ) (earlier : List Line) (k : ℕ) (tail : List ℕ) (Q : Query) → SoFar widths earlier
+    → ends earlier k tail ≡ accepted Q → Told widths earlier [] tail Q
 unfolding ends
-ends-accepted widths earlier k (b ∷ tail) w = not-accepted widths 1 k
-ends-accepted widths [] k [] w = not-accepted widths 1 k
-ends-accepted widths (A ∷ earlier) k [] w = λ Q e.
-    let q : A ∷ earlier ≡ Q = cc in
-    subst (λ (R : Query). WellRead widths R × (1 ≤ length R)) q (w, omega arith)
+ends-told widths earlier k (b ∷ tail) Q w h = absurd (refused≢accepted h)
+ends-told widths [] k [] Q w h = absurd (refused≢accepted h)
+ends-told widths (A ∷ earlier) k [] Q w h =
+    let same : A ∷ earlier ≡ Q = cc in
+    subst (Told widths (A ∷ earlier) [] []) same
+    (record { nonempty = omega arith; all = w; ended = refl; printed = append-nil (map printQueryLine (A ∷ earlier)) })
 
-from-accepted : (widths : List ℕ) (earlier : List Line) (k : ℕ) (ls : List (List ℕ)) (tail : List ℕ) → WellRead widths earlier
-    → Accepted widths (readFrom widths earlier k ls tail)
+-- a line that is the next of the printed ones
+line-told : {widths : List ℕ} (earlier : List Line) (A : Line) (l : List ℕ) {ls : List (List ℕ)} {tail : List ℕ} {Q : Query}
+    → l ≡ printQueryLine A → Told widths (earlier ++ A ∷ []) ls tail Q → Told widths earlier (l ∷ ls) tail Q
+line-told earlier A l {ls} e t =
+    record {
+      nonempty = t .nonempty;
+      all = t .all;
+      ended = t .ended;
+      printed =
+          ap (λ (m : List ℕ). map printQueryLine earlier ++ m ∷ ls) e
+          ∙ sym (append-assoc (map printQueryLine earlier) (printQueryLine A ∷ []) ls)
+          ∙ ap (λ (m : List (List ℕ)). m ++ ls) (sym (map-append printQueryLine earlier (A ∷ [])))
+          ∙ t .printed;
+    }
+
+from-told : (widths : List ℕ) (earlier : List Line) (k : ℕ) (ls : List (List ℕ)) (tail : List ℕ) (Q : Query) → SoFar widths earlier
+    → readFrom widths earlier k ls tail ≡ accepted Q → Told widths earlier ls tail Q
 unfolding readFrom step judged
-from-accepted widths earlier k [] tail w = ends-accepted widths earlier k tail w
-from-accepted widths earlier k (l ∷ ls) tail w =
-    by-line (queryLine l) (λ A u. from-accepted widths (earlier ++ A ∷ []) (suc k) ls tail u)
+from-told widths earlier k [] tail Q w h = ends-told widths earlier k tail Q w h
+from-told widths earlier k (l ∷ ls) tail Q w h =
+    by-line (queryLine l) refl (λ A u. from-told widths (earlier ++ A ∷ []) (suc k) ls tail Q u) h
   where
-    by-fault : (A : Line) (n : ℕ) → fault widths earlier A ≡ n
-        → ((B : Line) → WellRead widths (earlier ++ B ∷ []) → Accepted widths (readFrom widths (earlier ++ B ∷ []) (suc k) ls tail))
-        → Accepted widths (judged n k (readFrom widths (earlier ++ A ∷ []) (suc k) ls tail))
-    by-fault A zero e rest = rest A (more-read widths earlier A w e)
-    by-fault A (suc n) e rest = not-accepted widths (suc n) k
+    Rest : Type 0
+    Rest =
+        (A : Line) → SoFar widths (earlier ++ A ∷ []) → readFrom widths (earlier ++ A ∷ []) (suc k) ls tail ≡ accepted Q
+        → Told widths (earlier ++ A ∷ []) ls tail Q
 
-    by-line : (o : Option Line)
-        → ((B : Line) → WellRead widths (earlier ++ B ∷ []) → Accepted widths (readFrom widths (earlier ++ B ∷ []) (suc k) ls tail))
-        → Accepted widths (step o k (fault widths earlier) (λ A. readFrom widths (earlier ++ A ∷ []) (suc k) ls tail))
-    by-line none rest = not-accepted widths 1 k
-    by-line (some A) rest = by-fault A (fault widths earlier A) refl rest
+    by-fault : (A : Line) (n : ℕ) → queryLine l ≡ some A → fault widths earlier A ≡ n → Rest
+        → judged n k (readFrom widths (earlier ++ A ∷ []) (suc k) ls tail) ≡ accepted Q → Told widths earlier (l ∷ ls) tail Q
+    by-fault A zero r e rest h =
+        let (is, terms) = query-line-read l A r in
+        line-told earlier A l is (rest A (more-read widths earlier A w terms e) h)
+    by-fault A (suc n) r e rest h = absurd (refused≢accepted h)
 
--- "A query text is well formed under a policy when none of 7, 1, 2, 4, 5 and 6 … turns it back": what it then says
-pub accepted-well-read : (widths text : List ℕ) → Accepted widths (read widths text)
-unfolding read readLines
-accepted-well-read widths text = by-length (ltb mostBytes (length text))
+    by-line : (o : Option Line) → queryLine l ≡ o → Rest
+        → step o k (fault widths earlier) (λ A. readFrom widths (earlier ++ A ∷ []) (suc k) ls tail) ≡ accepted Q
+        → Told widths earlier (l ∷ ls) tail Q
+    by-line none r rest h = absurd (refused≢accepted h)
+    by-line (some A) r rest h = by-fault A (fault widths earlier A) r refl rest h
+
+-- the lines of an accepted text, its names line first
+lines-told : (widths : List ℕ) (ls : List (List ℕ)) (tail : List ℕ) (Q : Query) → readLines widths ls tail ≡ accepted Q
+    → (1 ≤ length Q) × SoFar widths Q × (tail ≡ []) × (ls ≡ tableTerms ∷ map printQueryLine Q)
+unfolding readLines
+lines-told widths [] tail Q h = absurd (refused≢accepted h)
+lines-told widths (l ∷ ls) tail Q h = go (sameBytes l tableTerms) (λ t. t) h
   where
-    by-names : (l : List ℕ) (ls : List (List ℕ)) (tail : List ℕ) (b : Bool)
-        → Accepted widths (cond b (readFrom widths [] 2 ls tail) (refused 1 1))
-    by-names l ls tail true = from-accepted widths [] 2 ls tail (none-read widths)
-    by-names l ls tail false = not-accepted widths 1 1
+    go : (named : Bool) → (T named → T (sameBytes l tableTerms))
+        → cond named (readFrom widths [] 2 ls tail) (refused 1 1) ≡ accepted Q
+        → (1 ≤ length Q) × SoFar widths Q × (tail ≡ []) × (l ∷ ls ≡ tableTerms ∷ map printQueryLine Q)
+    go true n q =
+        let t = from-told widths [] 2 ls tail Q (none-read widths) q in
+        (t .nonempty, t .all, t .ended, ap₂ {C = List (List ℕ)} _∷_ (same-bytes-iff l tableTerms .0 (n tt)) (t .printed))
+    go false n q = absurd (refused≢accepted q)
 
-    by-lines : (ls : List (List ℕ)) (tail : List ℕ) → Accepted widths (readLines widths ls tail)
-    by-lines [] tail = not-accepted widths 1 1
-    by-lines (l ∷ ls) tail = by-names l ls tail (sameBytes l tableTerms)
+accepted-told : (widths text : List ℕ) (Q : Query) → read widths text ≡ accepted Q → WellRead widths Q × (text ≡ queryText Q)
+unfolding read queryText
+accepted-told widths text Q h = go (ltb mostBytes (length text)) refl h
+  where
+    go : (long : Bool) → ltb mostBytes (length text) ≡ long
+        → cond long (refused 7 0) (readLines widths (lines text .ended) (lines text .rest)) ≡ accepted Q
+        → WellRead widths Q × (text ≡ queryText Q)
+    go true long q = absurd (refused≢accepted q)
+    go false long q =
+        let (nonempty, w, tail, all) = lines-told widths (lines text .ended) (lines text .rest) Q q in
+        let is : text ≡ queryText Q =
+        sym (ended-lines text) ∙ ap₂ (λ (ls : List (List ℕ)) (r : List ℕ). endEach ls ++ r) all tail ∙ append-nil (queryText Q) in (
+          record {
+            nonempty = nonempty;
+            few = w .few;
+            terms = w .terms;
+            within = w .within;
+            fits = w .fits;
+            clear = w .clear;
+            short = subst (λ (l : List ℕ). length l ≤ mostBytes) is (ltb-false mostBytes (length text) long);
+          },
+          is,
+        )
 
-    by-length : (b : Bool) → Accepted widths (cond b (refused 7 0) (readLines widths (lines text .ended) (lines text .rest)))
-    by-length true = not-accepted widths 7 0
-    by-length false = by-lines (lines text .ended) (lines text .rest)
+pub accepted-well-read : (widths text : List ℕ) (Q : Query) → read widths text ≡ accepted Q → WellRead widths Q
+accepted-well-read widths text Q h = accepted-told widths text Q h .0
+
+pub accepted-printed : (widths text : List ℕ) (Q : Query) → read widths text ≡ accepted Q → text ≡ queryText Q
+accepted-printed widths text Q h = accepted-told widths text Q h .1

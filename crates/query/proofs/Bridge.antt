@@ -12,4 +12,4 @@ use Rattle.query.proofs.Accepted.{accepted-well-read}
 pub read-stands-for : (widths text : List ℕ) (Q : Query) → ((w : ℕ) → w ∈ widths → w ≤ 8) → read widths text ≡ accepted Q
     → asQuery (queryValue Q) ≡ Q
 read-stands-for widths text Q narrow e =
-    let w = accepted-well-read widths text Q e .0 in as-query Q (λ A m. few-terms widths narrow A (w .fits A m))
+    let w = accepted-well-read widths text Q e in as-query Q (λ A m. few-terms widths narrow A (w .fits A m))

@@ -1,8 +1,9 @@
--- The checks of a line, the walk over the lines, the names line; and what reading accepts.
+-- The checks of a line, the walk over the lines, the names line; what reading accepts, and the text of it.
 pub mod Faults
 pub mod Walk
 pub mod Names
 pub mod Accepted
+pub mod Printed
 pub mod Bridge
 -- Machine values, for the walks of code that has a reader.
 pub mod MachineValues

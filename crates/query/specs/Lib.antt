@@ -1,2 +1,4 @@
+pub mod Print
 pub mod Text
 pub mod Value
+pub mod WellRead

@@ -5,7 +5,7 @@ use Prim.Native.Nat.{ℕ}
 use native.Mathlib.Omega.{arith}
 use denote.Enum.Declared
 use types.Run.{OneOf}
-use Rattle.policy.specs.Print.{decimal}
+use Rattle.text.specs.Print.{decimal}
 use Rattle.desk.specs.declared.deciding.Reply.{Reply}
 use Rattle.desk.specs.declared.deciding.Reply.the-variants.{Yes, No, Refused}
 use Rattle.desk.proofs.deciding.Reply.{the-type}

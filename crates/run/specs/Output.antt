@@ -2,20 +2,19 @@
 -- refusal number; its line."
 use mathlib.Core.List.{List, [], _∷_, _++_}
 use Prim.Native.Nat.{ℕ}
-use Rattle.policy.specs.Print.{decimal}
+use Rattle.text.specs.Names.{bytes}
+use Rattle.text.specs.Print.{decimal}
 use Rattle.desk.specs.Reply.{Word, yes, no, refused}
 
--- `query answer open refusal line`
 unfoldable pub outputNames : List ℕ
-outputNames =
-    113 ∷ 117 ∷ 101 ∷ 114 ∷ 121 ∷ 32 ∷ 97 ∷ 110 ∷ 115 ∷ 119 ∷ 101 ∷ 114 ∷ 32 ∷ 111 ∷ 112 ∷ 101 ∷ 110 ∷ 32 ∷ 114 ∷ 101 ∷ 102 ∷ 117 ∷ 115 ∷ 97
-    ∷ 108 ∷ 32 ∷ 108 ∷ 105 ∷ 110 ∷ 101 ∷ []
+unfolding bytes
+outputNames = bytes "query answer open refusal line"
 
--- `yes`, `no`, `refused`
 unfoldable pub wordBytes : Word → List ℕ
-wordBytes yes = 121 ∷ 101 ∷ 115 ∷ []
-wordBytes no = 110 ∷ 111 ∷ []
-wordBytes refused = 114 ∷ 101 ∷ 102 ∷ 117 ∷ 115 ∷ 101 ∷ 100 ∷ []
+unfolding bytes
+wordBytes yes = bytes "yes"
+wordBytes no = bytes "no"
+wordBytes refused = bytes "refused"
 
 unfoldable pub outputLine : ℕ → Word → ℕ → ℕ → ℕ → List ℕ
 unfolding decimal wordBytes

@@ -2,4 +2,5 @@
 pub mod Lines
 pub mod Names
 pub mod Numeral
+pub mod Print
 pub mod Value

@@ -2,23 +2,30 @@
 use mathlib.Core.Bool.{Bool, true, false, _&&_}
 use mathlib.Core.List.{List, [], _∷_}
 use Prim.Native.Nat.{ℕ}
+use Prim.Native.Char.{code}
+use Prim.Native.String.{String, [] as no-text, _∷_ as _then_}
 use lib.Dec.{eqb}
 
--- `table columns`
+-- the bytes of an ASCII text
+unfoldable pub bytes : String → List ℕ
+bytes no-text = []
+bytes (c then s) = code c ∷ bytes s
+
 unfoldable pub tableColumns : List ℕ
-tableColumns = 116 ∷ 97 ∷ 98 ∷ 108 ∷ 101 ∷ 32 ∷ 99 ∷ 111 ∷ 108 ∷ 117 ∷ 109 ∷ 110 ∷ 115 ∷ []
+unfolding bytes
+tableColumns = bytes "table columns"
 
--- `view table terms`
 unfoldable pub viewTableTerms : List ℕ
-viewTableTerms = 118 ∷ 105 ∷ 101 ∷ 119 ∷ 32 ∷ 116 ∷ 97 ∷ 98 ∷ 108 ∷ 101 ∷ 32 ∷ 116 ∷ 101 ∷ 114 ∷ 109 ∷ 115 ∷ []
+unfolding bytes
+viewTableTerms = bytes "view table terms"
 
--- `partition views`
 unfoldable pub partitionViews : List ℕ
-partitionViews = 112 ∷ 97 ∷ 114 ∷ 116 ∷ 105 ∷ 116 ∷ 105 ∷ 111 ∷ 110 ∷ 32 ∷ 118 ∷ 105 ∷ 101 ∷ 119 ∷ 115 ∷ []
+unfolding bytes
+partitionViews = bytes "partition views"
 
--- `table terms`
 unfoldable pub tableTerms : List ℕ
-tableTerms = 116 ∷ 97 ∷ 98 ∷ 108 ∷ 101 ∷ 32 ∷ 116 ∷ 101 ∷ 114 ∷ 109 ∷ 115 ∷ []
+unfolding bytes
+tableTerms = bytes "table terms"
 
 -- the two lines have the same bytes
 unfoldable pub sameBytes : List ℕ → List ℕ → Bool

@@ -12,7 +12,7 @@ use lib.ListN.{length, getD, replicate, length-map, List·getD-eq-default}
 use borrow.Author.Tests.{lt-ltb, le-ltb}
 use Rattle.theory.specs.Query.{_∈_}
 use Rattle.model.specs.Value.{pad}
-use Rattle.policy.proofs.Each.{Each, each-nil, each-cons}
+use Rattle.text.proofs.Each.{Each, each-nil, each-cons}
 use Rattle.validity.specs.Parts.{ValueOf, Place, HoldsList}
 use Rattle.validity.proofs.Lists.{all-same, any-default}
 use Rattle.model.proofs.Pad.{pad-length, pad-get}

@@ -4,7 +4,7 @@ ghost use mathlib.Core.Path.{_≡_};
 ghost use mathlib.Core.List.{[], _∷_, _++_};
 ghost use Prim.Native.Nat.{_+_, _≤_, _<_};
 ghost use lib.ListN.{length, set};
-ghost use Rattle.policy.specs.Print.{decimal};
+ghost use Rattle.text.specs.Print.{decimal};
 ghost use Rattle.writing.specs.Wrote.{Wrote};
 
 // One byte.

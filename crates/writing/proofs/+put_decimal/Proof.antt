@@ -3,9 +3,10 @@ use mathlib.Core.Path.{_≡_}
 use Prim.Native.Nat.{ℕ, _+_, _/_, _≤_, _<_}
 use native.Mathlib.Omega.{arith}
 use lib.ListN.{length}
-use Rattle.policy.specs.Print.{decimal}
+use Rattle.text.specs.Print.{decimal}
+use Rattle.text.proofs.Decimals.{length-one, length-more}
 use Rattle.writing.proofs.Wrote.{wrote-byte}
-use Rattle.writing.proofs.Decimal.{length-one, length-more, wrote-digit, wrote-digits}
+use Rattle.writing.proofs.Decimal.{wrote-digit, wrote-digits}
 use borrow.Fn.Kinds.{In}
 use borrow.Fn.PlainCycle.{Measures, is, falls, and}
 use Rattle.writing.proofs.put_decimal.Reads as put-decimal

@@ -4,7 +4,7 @@ use Prim.Native.Nat.{_+_, _≤_}
 use native.Mathlib.Omega.{arith}
 use borrow.Author.Needs.{needs}
 use lib.ListN.{length}
-use Rattle.policy.specs.Print.{decimal}
+use Rattle.text.specs.Print.{decimal}
 use Rattle.writing.proofs.Wrote.{wrote-byte, wrote-more}
 use Rattle.writing.proofs.Decimal.{length-word}
 use Rattle.writing.proofs.put_field.Statement.{statement}

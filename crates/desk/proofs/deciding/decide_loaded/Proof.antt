@@ -63,7 +63,7 @@ returns-3 c = λ d l.
     let s = c .before .before .before .before .before .before .before .before .before .before .before in
     let a = c .before .before .before .before .before .before .label-text in
     let (Q, e, ls) = asked-accepted (d .views) (read (d .widths) _) (a .result) (a .ensures d (ready l (s .pre .1) (s .pre .2))) (c .before .before .before .before .before .match .keys2) in
-    let w = accepted-well-read (d .widths) _ Q e .0 in
+    let w = accepted-well-read (d .widths) _ Q e in
     let fit = sym (unfit-is l _ (c .before .before .before .before .before .before .before .before .before .unfit .ensures)) ∙ c .before .before .before .before .before .before .before .before .if1 .left in
     let left = settling-open l Q (w .fits) _ _ (c .before .settling .result) (partition-count l) (c .before .settling .ensures _ ls) in
     subst (Gives _) (sym (under-accepted d _ _ Q fit e ∙ ap (answered _) (sym left))) (c .answer .ensures)

@@ -1,12 +1,11 @@
 -- What holds of each element of a list, by how the list is made.
 use mathlib.Core.Path.{sym, subst}
 use mathlib.Core.Logic.{⊎-elim}
-use mathlib.Core.List.{List, [], _∷_, _++_, map, List·Memᴰ·not-nil, List·Memᴰ·cases-cons, List·Memᴰ·append-cases, Memᴰ·of-map}
-use Rattle.theory.specs.Query.{_∈_}
+use mathlib.Core.List.{List, [], _∷_, _++_, map, List·Memᴰ, List·Memᴰ·not-nil, List·Memᴰ·cases-cons, List·Memᴰ·append-cases, Memᴰ·of-map}
 
 module _ {X : Type 0} (P : X → Type 0) where
   abbrev pub Each : List X → Type 0
-  Each l = (x : X) → x ∈ l → P x
+  Each l = (x : X) → List·Memᴰ x l → P x
 
   pub each-nil : Each []
   each-nil x m = absurd (List·Memᴰ·not-nil m)
@@ -17,5 +16,5 @@ module _ {X : Type 0} (P : X → Type 0) where
   pub each-append : (k l : List X) → Each k → Each l → Each (k ++ l)
   each-append k l h hs y m = ⊎-elim (h y) (hs y) (List·Memᴰ·append-cases k m)
 
-  pub each-map : {Y : Type 0} (f : Y → X) (l : List Y) → ((y : Y) → y ∈ l → P (f y)) → Each (map f l)
+  pub each-map : {Y : Type 0} (f : Y → X) (l : List Y) → ((y : Y) → List·Memᴰ y l → P (f y)) → Each (map f l)
   each-map f l h x m = let r = Memᴰ·of-map f l m in subst P (r .2) (h (r .0) (r .1))

@@ -1,0 +1,37 @@
+-- Document 01, "The texts", the other way round: the lines that `Fields` reads, as they are written.
+use mathlib.Core.List.{List, [], _∷_, map}
+use Prim.Native.Nat.{ℕ}
+use Rattle.theory.specs.Query.{Term, constant, shown, hidden, Line}
+use Rattle.text.specs.Print.{decimal, joined}
+
+-- "A term is a mark and a numeral: `#` a constant, `!` a shown variable, `?` a hidden one."
+unfoldable pub printTerm : Term → List ℕ
+unfolding decimal
+printTerm (constant c) = 35 ∷ decimal c
+printTerm (shown n) = 33 ∷ decimal n
+printTerm (hidden n) = 63 ∷ decimal n
+
+-- a table and its terms: the fields of a query's line, and those of a view's behind its number
+unfoldable pub lineFields : Line → List (List ℕ)
+unfolding decimal printTerm
+lineFields A = decimal (A .table) ∷ map printTerm (A .columns)
+
+-- a query's line, as `1 !1 #4 ?2`
+unfoldable pub printQueryLine : Line → List ℕ
+unfolding lineFields joined
+printQueryLine A = joined (lineFields A)
+
+-- the field behind a table's number: its columns
+unfoldable pub tableFields : ℕ → List (List ℕ)
+unfolding decimal
+tableFields w = decimal w ∷ []
+
+-- the fields behind a partition's number: its views
+unfoldable pub partitionFields : List ℕ → List (List ℕ)
+unfolding decimal
+partitionFields vs = map decimal vs
+
+-- a line of a policy: a number, and the fields of what it numbers
+unfoldable pub printLine : ℕ → List (List ℕ) → List ℕ
+unfolding decimal joined
+printLine n fs = joined (decimal n ∷ fs)

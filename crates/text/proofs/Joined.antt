@@ -1,0 +1,181 @@
+-- Fields joined and lines ended are read back, and what was read is the fields joined and the lines ended again; the bytes of
+-- what is written, and how many there are.
+use mathlib.Core.Path.{_≡_, refl, sym, ap, ap₂, _∙_}
+use mathlib.Core.Bool.{Bool, true, false, cond, _&&_}
+use mathlib.Core.List.{List, [], _∷_, _++_, List·Memᴰ·head, List·Memᴰ·tail}
+use Prim.Native.Nat.{ℕ, suc, _+_, _*_, _≤_, _<_}
+use native.Mathlib.Omega.{arith}
+use lib.Dec.{T, leb, ltb, leb→le, ltb→lt, eqb}
+use lib.ListN.{length, length-append}
+use mir.Facts.{and-yes}
+use borrow.Author.Tests.{eqb-true}
+use Rattle.text.specs.Lines.{Split, push, split, lines, fields}
+use Rattle.text.specs.Names.{bytes, tableColumns, viewTableTerms, partitionViews, tableTerms}
+use Rattle.text.specs.Print.{decimal, joined, endEach}
+use Rattle.text.proofs.Each.{Each, each-nil, each-cons, each-append}
+use Rattle.text.proofs.Lines.{split-pieces, split-clean}
+use Rattle.text.proofs.Decimals.{decimal-digits}
+
+-- ---- the bytes of what is written
+
+-- a byte of ASCII that is printed, from b on: from 33 on it parts no fields, from 32 on no lines
+abbrev pub Printable : ℕ → ℕ → Type 0
+Printable b x = (b ≤ x) × (x < 127)
+
+pub decimal-clean : (n : ℕ) → Each (Printable 33) (decimal n)
+decimal-clean n x m = let h = decimal-digits n x m in (omega arith, omega arith)
+
+-- fields of which each is clean
+abbrev pub Clean : List (List ℕ) → Type 0
+Clean fs = Each (Each (Printable 33)) fs
+
+pub joined-clean : (fs : List (List ℕ)) → Clean fs → Each (Printable 32) (joined fs)
+unfolding joined
+joined-clean [] h = each-nil (Printable 32)
+joined-clean (f ∷ []) h = λ x m. let k = h f (List·Memᴰ·head refl) x m in (omega arith, k .1)
+joined-clean (f ∷ g ∷ gs) h =
+    each-append (Printable 32) f (32 ∷ joined (g ∷ gs)) (λ x m. let k = h f (List·Memᴰ·head refl) x m in (omega arith, k .1))
+    (each-cons (Printable 32) 32 (joined (g ∷ gs)) (omega arith, omega arith) (joined-clean (g ∷ gs) (λ l n. h l (List·Memᴰ·tail n))))
+
+-- lines of which each is clean are ended as bytes
+pub ended-bytes : (ls : List (List ℕ)) → Each (Each (Printable 32)) ls → Each (λ x. x < 256) (endEach ls)
+unfolding endEach
+ended-bytes [] h = each-nil (λ x. x < 256)
+ended-bytes (l ∷ ls) h =
+    each-append (λ x. x < 256) l (10 ∷ endEach ls) (λ x m. let k = h l (List·Memᴰ·head refl) x m in omega arith)
+    (each-cons (λ x. x < 256) 10 (endEach ls) (omega arith) (ended-bytes ls (λ k m. h k (List·Memᴰ·tail m))))
+
+-- ---- the names lines
+
+allPrintable : List ℕ → Bool
+allPrintable [] = true
+allPrintable (b ∷ l) = (leb 32 b && ltb b 127) && allPrintable l
+
+printable : (l : List ℕ) → T (allPrintable l) → Each (Printable 32) l
+unfolding allPrintable
+printable [] h = each-nil (Printable 32)
+printable (b ∷ l) h =
+    let k = and-yes (leb 32 b && ltb b 127) (allPrintable l) h in
+    let j = and-yes (leb 32 b) (ltb b 127) (k .0) in
+    each-cons (Printable 32) b l (leb→le 32 b (j .0), ltb→lt b 127 (j .1)) (printable l (k .1))
+
+pub table-columns-clean : Each (Printable 32) tableColumns
+unfolding allPrintable tableColumns bytes
+table-columns-clean = printable tableColumns tt
+
+pub view-table-terms-clean : Each (Printable 32) viewTableTerms
+unfolding allPrintable viewTableTerms bytes
+view-table-terms-clean = printable viewTableTerms tt
+
+pub partition-views-clean : Each (Printable 32) partitionViews
+unfolding allPrintable partitionViews bytes
+partition-views-clean = printable partitionViews tt
+
+pub table-terms-clean : Each (Printable 32) tableTerms
+unfolding allPrintable tableTerms bytes
+table-terms-clean = printable tableTerms tt
+
+-- ---- what is written is read back
+
+pub fields-joined : (f : List ℕ) (fs : List (List ℕ)) → Clean (f ∷ fs) → fields (joined (f ∷ fs)) ≡ f ∷ fs
+unfolding fields joined
+fields-joined f [] h =
+    rw (split-clean 32 f (λ x m e. let k = h f (List·Memᴰ·head refl) x m in omega arith))
+fields-joined f (g ∷ gs) h =
+    rw (split-pieces 32 f (joined (g ∷ gs)) (λ x m e. let k = h f (List·Memᴰ·head refl) x m in omega arith))
+    (ap (λ (l : List (List ℕ)). f ∷ l) (fields-joined g gs (λ k m. h k (List·Memᴰ·tail m))))
+
+pub lines-ended : (ls : List (List ℕ)) → Each (Each (Printable 32)) ls → lines (endEach ls) ≡ record { ended = ls; rest = [] }
+unfolding lines endEach split
+lines-ended [] h = refl
+lines-ended (l ∷ ls) h =
+    rw (
+      split-pieces 10 l (endEach ls) (λ x m e. let k = h l (List·Memᴰ·head refl) x m in omega arith),
+      lines-ended ls (λ k m. h k (List·Memᴰ·tail m)),
+    )
+
+-- ---- what is read was written so
+
+-- a byte in front of the first field is a byte in front of the line
+join-front : (b : ℕ) (l : List ℕ) (fs : List (List ℕ)) → joined ((b ∷ l) ∷ fs) ≡ b ∷ joined (l ∷ fs)
+unfolding joined
+join-front b l [] = refl
+join-front b l (f ∷ fs) = refl
+
+-- the fields of a split line
+abbrev parts : Split → List (List ℕ)
+parts s = s .ended ++ s .rest ∷ []
+
+join-push : (b : ℕ) (s : Split) → joined (parts (push b s)) ≡ b ∷ joined (parts s)
+unfolding push
+join-push b s = go (s .ended) (s .rest)
+  where
+    go : (e : List (List ℕ)) (r : List ℕ) → joined (parts (push b (record { ended = e; rest = r }))) ≡ b ∷ joined (e ++ r ∷ [])
+    go [] r = join-front b r []
+    go (l ∷ ls) r = join-front b l (ls ++ r ∷ [])
+
+pub joined-fields : (l : List ℕ) → joined (fields l) ≡ l
+unfolding fields split joined
+joined-fields [] = refl
+joined-fields (b ∷ l) = go (eqb b 32) refl (joined-fields l)
+  where
+    -- an empty field in front is a space in front
+    empty : (e : List (List ℕ)) (r : List ℕ) → joined ([] ∷ (e ++ r ∷ [])) ≡ 32 ∷ joined (e ++ r ∷ [])
+    empty [] r = refl
+    empty (f ∷ e) r = refl
+
+    s : Split
+    s = split 32 l
+
+    go : (t : Bool) → eqb b 32 ≡ t → joined (parts s) ≡ l
+        → joined (parts (cond t (record { ended = [] ∷ s .ended; rest = s .rest }) (push b s))) ≡ b ∷ l
+    go true e rest = empty (s .ended) (s .rest) ∙ ap₂ {C = List ℕ} _∷_ (sym (eqb-true b 32 e)) rest
+    go false e rest = join-push b s ∙ ap (λ (m : List ℕ). b ∷ m) rest
+
+-- a text is its lines, each ended, and the tail behind them
+abbrev together : Split → List ℕ
+together s = endEach (s .ended) ++ s .rest
+
+pub ended-lines : (text : List ℕ) → endEach (lines text .ended) ++ lines text .rest ≡ text
+unfolding lines split endEach push
+ended-lines [] = refl
+ended-lines (b ∷ text) = go (eqb b 10) refl (ended-lines text)
+  where
+    front : (e : List (List ℕ)) (r : List ℕ) → together (push b (record { ended = e; rest = r })) ≡ b ∷ endEach e ++ r
+    front [] r = refl
+    front (l ∷ ls) r = refl
+
+    s : Split
+    s = split 10 text
+
+    go : (t : Bool) → eqb b 10 ≡ t → together s ≡ text
+        → together (cond t (record { ended = [] ∷ s .ended; rest = s .rest }) (push b s)) ≡ b ∷ text
+    go true e rest = ap₂ {C = List ℕ} _∷_ (sym (eqb-true b 10 e)) rest
+    go false e rest = front (s .ended) (s .rest) ∙ ap (λ (m : List ℕ). b ∷ m) rest
+
+-- ---- how long it is
+
+-- no longer than m
+abbrev pub Within : ℕ → List ℕ → Type 0
+Within m l = length l ≤ m
+
+pub length-joined : (m : ℕ) (f : List ℕ) (fs : List (List ℕ)) → Each (Within m) (f ∷ fs) → length (joined (f ∷ fs)) ≤ m + length fs * suc m
+unfolding joined
+length-joined m f [] h = let k = h f (List·Memᴰ·head refl) in omega arith
+length-joined m f (g ∷ gs) h =
+    let k = h f (List·Memᴰ·head refl) in
+    let r = length-joined m g gs (λ e n. h e (List·Memᴰ·tail n)) in
+    simp length-append (omega arith)
+
+pub length-ended : (m : ℕ) (ls : List (List ℕ)) → Each (Within m) ls → length (endEach ls) ≤ length ls * suc m
+unfolding endEach
+length-ended m [] h = omega arith
+length-ended m (l ∷ ls) h =
+    let k = h l (List·Memᴰ·head refl) in
+    let r = length-ended m ls (λ e n. h e (List·Memᴰ·tail n)) in
+    simp length-append (omega arith)
+
+pub length-parts : (a b : List (List ℕ)) → length (endEach (a ++ b)) ≡ length (endEach a) + length (endEach b)
+unfolding endEach
+length-parts [] b = omega arith
+length-parts (l ∷ a) b = let r = length-parts a b in simp length-append (omega arith)
