@@ -123,7 +123,8 @@ one-digit : (b : ℕ) → T (isDigit b) → decimal (b - 48) ≡ b ∷ []
 unfolding digit
 one-digit b h =
     let k = digit-within b h in
-    decimal-one (b - 48) (omega arith) ∙ ap (λ (x : ℕ). x ∷ []) (let e : 48 + (b - 48) ≡ b = omega arith in e)
+    let same : 48 + (b - 48) ≡ b = omega arith in
+    decimal-one (b - 48) (omega arith) ∙ ap (λ (x : ℕ). x ∷ []) same
 
 -- one digit more behind a number that is not 0
 next-digit : (n b : ℕ) → 1 ≤ n → T (isDigit b) → decimal (n * 10 + (b - 48)) ≡ decimal n ++ b ∷ []
