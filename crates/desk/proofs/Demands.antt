@@ -7,8 +7,10 @@ use Rattle.theory.specs.Executable.Label.{labels}
 use Rattle.model.specs.Limits.{mostPartitions}
 use Rattle.query.specs.Text.{Reading}
 use Rattle.query.proofs.Accepted.{accepted-well-read}
+use Rattle.query.proofs.Printed.{reads-exactly}
 use Rattle.policy.specs.Text.{load}
 use Rattle.policy.proofs.Loaded.{loaded-well-formed}
+use Rattle.policy.proofs.Loads.{loads-exactly}
 use Rattle.validity.specs.Loadable.{Loadable}
 use Rattle.desk.specs.declared.opening.Opening.{Opening}
 use Rattle.desk.specs.Session.{allOpen}
@@ -24,6 +26,8 @@ use Rattle.desk.proofs.Rewriting.{labels-rewrite}
 
 pub demand-1 : Demand1
 demand-1 = record {
+  policies = loads-exactly;
+  queries = reads-exactly;
   one-loading = λ text r t x y. x ∙ sym y;
   one-opening = opened-unique;
   one-decision = decided-unique;

@@ -13,7 +13,11 @@ use Rattle.model.specs.declared.Policy.{Policy}
 use Rattle.model.specs.declared.Outcome.the-variants.{Accepted}
 use Rattle.query.specs.Text.{read}
 use Rattle.query.specs.Text.{accepted as readAs}
+use Rattle.query.specs.Print.{queryText}
+use Rattle.query.specs.WellRead.{WellRead}
 use Rattle.policy.specs.Text.{Declared, load, accepted}
+use Rattle.policy.specs.Value.{WellFormed}
+use Rattle.policy.specs.Print.{print}
 use Rattle.policy.specs.Determining.{PartitionDetermines}
 use Rattle.validity.specs.Loadable.{Loadable}
 use Rattle.load.specs.Value.{loadingValue}
@@ -38,6 +42,10 @@ use Rattle.desk.specs.Explaining.{saidExplaining, ExplanationGiven}
 -- Everything else is turned back by one of its listed numbers, under exactly that number's condition": each contract says which; of
 -- every call it leaves one outcome. "… with the session and every lent buffer unchanged".
 pub record Demand1 : Type 0 where
+  -- the texts that are accepted, from the other side: what is well formed, printed
+  pub policies : (text : List ℕ) (d : Declared) → (load text ≡ accepted d) ↔ (WellFormed d × (text ≡ print d))
+  pub queries : (widths text : List ℕ) (Q : Query) → (read widths text ≡ readAs Q) ↔ (WellRead widths Q × (text ≡ queryText Q))
+  -- one outcome of each call
   pub one-loading : (text : List ℕ) (r t : Loading) → r ≡ loadingValue (load text) → t ≡ loadingValue (load text) → r ≡ t
   pub one-opening : (p : Policy) (r t : Opening) → Opened p r → Opened p t → r ≡ t
   pub one-decision : (p : Policy) (s : Session) (text : List ℕ) (r t : Decision) → Decided p s text r → Decided p s text t → r ≡ t
@@ -45,9 +53,11 @@ pub record Demand1 : Type 0 where
       → LabelsGiven p text before r after → LabelsGiven p text before t then → (r ≡ t) × (after ≡ then)
   pub one-explanation : (p : Policy) (n : ℕ) (text before : List ℕ) (r t : Explaining) (after then : List ℕ)
       → ExplanationGiven p n text before r after → ExplanationGiven p n text before t then → (r ≡ t) × (after ≡ then)
+  -- a well-formed policy, session and query
   pub yes-or-no : (p : Policy) (l : Loadable p) (s : Session) (text : List ℕ) (r : Decision) → Decided p s text r
       → unfit (l .declared) (s .mask) ≡ false → (Q : Query) → read (l .declared .widths) text ≡ readAs Q
       → (said (r .reply) .word ≡ yes) ⊎ (said (r .reply) .word ≡ no)
+  -- a refusal
   pub session-stays : (p : Policy) (s : Session) (text : List ℕ) (r : Decision) → Decided p s text r
       → said (r .reply) .word ≡ refused → r .session ≡ s
   pub labels-buffer-stays : (p : Policy) (text before : List ℕ) (r : Listing) (after : List ℕ) → LabelsGiven p text before r after
