@@ -10,8 +10,8 @@ use lib.Dec.{T, ltb}
 use lib.ListN.{length, take, drop, length-drop, drop-of-length-le, take-append-drop}
 use lib.Seq.{take-all, drop-drop, length-take-le, take-length, drop-length}
 use borrow.Author.Tests.{ltb-true, ltb-false}
-use Rattle.text.specs.Lines.{Split, lines, before}
-use Rattle.text.specs.Names.{tableTerms, sameBytes}
+use Rattle.text.specs.Lines.{Split, lines, before, sameBytes}
+use Rattle.text.specs.Names.{tableTerms}
 use Rattle.text.proofs.Lines.{split-none, split-found, before-le}
 use Rattle.text.proofs.Names.{same-bytes-iff}
 use Rattle.cutting.specs.Cut.{piece, cutFrom, cut}

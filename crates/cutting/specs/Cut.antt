@@ -2,8 +2,8 @@
 use mathlib.Core.Bool.{cond}
 use mathlib.Core.List.{List, [], _∷_, _++_}
 use Prim.Native.Nat.{ℕ}
-use Rattle.text.specs.Lines.{lines}
-use Rattle.text.specs.Names.{tableTerms, sameBytes}
+use Rattle.text.specs.Lines.{lines, sameBytes}
+use Rattle.text.specs.Names.{tableTerms}
 
 -- a text of some bytes is a query of its own; no bytes are none
 unfoldable pub piece : List ℕ → List (List ℕ)

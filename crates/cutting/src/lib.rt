@@ -5,7 +5,8 @@ ghost use mathlib.Core.Bool.{_&&_};
 ghost use Prim.Native.Nat.{_<_};
 ghost use lib.Dec.{ltb};
 ghost use lib.ListN.{length};
-ghost use Rattle.text.specs.Names.{tableTerms, sameBytes};
+ghost use Rattle.text.specs.Names.{tableTerms};
+ghost use Rattle.text.specs.Lines.{sameBytes};
 ghost use Rattle.cutting.specs.NextCut.{NextCut};
 
 // Whether a query starts at this line: the first line is part of the first query, whatever it says.

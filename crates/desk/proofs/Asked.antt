@@ -17,8 +17,8 @@ use Rattle.model.specs.declared.Outcome.the-variants.{Refused}
 use Rattle.model.specs.declared.Policy.{Policy}
 use Rattle.query.specs.Text.{refused, accepted, read}
 use Rattle.query.proofs.Accepted.{accepted-well-read}
-use Rattle.policy.specs.Text.{Declared}
-use Rattle.policy.specs.Value.{WellFormed}
+use Rattle.policy.specs.Declared.{Declared}
+use Rattle.policy.specs.WellFormed.{WellFormed}
 use Rattle.validity.specs.Loadable.{Loadable}
 use Rattle.labels.specs.Posed.{labelsValue}
 use Rattle.labels.specs.Text.{LoadedTo, askedValue}

@@ -8,15 +8,16 @@ use lib.Pow.{pow-mono}
 use Rattle.words.proofs.ClearBits.{low-bits-set, low-bits-below}
 use Rattle.model.specs.declared.Policy.{Policy}
 use Rattle.model.specs.declared.Outcome.the-variants.{Accepted, Refused}
-use Rattle.policy.specs.Text.{Declared, refused, accepted, load}
+use Rattle.policy.specs.Text.{refused, accepted, load}
+use Rattle.policy.specs.Declared.{Declared}
 use Rattle.policy.specs.Text.{Loading as TheLoading}
-use Rattle.policy.specs.Value.{WellFormed}
+use Rattle.policy.specs.WellFormed.{WellFormed}
 use Rattle.policy.specs.Policy.{policyValue}
 use Rattle.validity.specs.Loadable.{Loadable}
 use Rattle.load.specs.Value.{loadingValue}
 use Rattle.load.specs.declared.Loading.{Loading}
 use Rattle.desk.specs.declared.opening.Session.{Session}
-use Rattle.desk.specs.Session.{allOpen}
+use Rattle.desk.specs.Opening.{allOpen}
 use Rattle.desk.specs.Calls.{Call, Calls, none-left, one-call}
 use Rattle.desk.specs.Demands.{Right}
 use Rattle.desk.proofs.Loaded.{loaded-to}

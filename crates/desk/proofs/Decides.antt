@@ -7,10 +7,9 @@ use lib.Dec.{eqb, leb}
 use Rattle.theory.specs.Query.{Query}
 use Rattle.model.specs.declared.Policy.{Policy}
 use Rattle.query.specs.Text.{refused, accepted, read}
-use Rattle.policy.specs.Text.{Declared}
+use Rattle.policy.specs.Declared.{Declared}
 use Rattle.labels.specs.Text.{LoadedTo}
-use Rattle.desk.specs.Session.{unfit, stillOpen}
-use Rattle.desk.specs.Deciding.{turnedBack, answered, decideQuery, decideUnder}
+use Rattle.desk.specs.Deciding.{unfit, stillOpen, turnedBack, answered, decideQuery, decideUnder}
 use Rattle.desk.proofs.Loaded.{partition-count}
 
 -- 9, by the policy value

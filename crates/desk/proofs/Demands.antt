@@ -13,7 +13,7 @@ use Rattle.policy.proofs.Loaded.{loaded-well-formed}
 use Rattle.policy.proofs.Loads.{loads-exactly}
 use Rattle.validity.specs.Loadable.{Loadable}
 use Rattle.desk.specs.declared.opening.Opening.{Opening}
-use Rattle.desk.specs.Session.{allOpen}
+use Rattle.desk.specs.Opening.{allOpen}
 use Rattle.desk.specs.Listing.{listReading, Lists}
 use Rattle.desk.specs.Demands.{Demand1, Demand2, Demand3}
 use Rattle.desk.proofs.Loaded.{loaded-to}

@@ -6,7 +6,7 @@ use Prim.Native.Nat.{ℕ}
 use lib.Dec.{eqb}
 use Rattle.model.specs.declared.Policy.{Policy}
 use Rattle.query.specs.Text.{Reading, refused, accepted, read}
-use Rattle.policy.specs.Text.{Declared}
+use Rattle.policy.specs.Declared.{Declared}
 use Rattle.policy.specs.Abstract.{declaredBy}
 use Rattle.policy.proofs.Bridge.{stands-for}
 use Rattle.policy.proofs.Loaded.{loaded-well-formed}
@@ -15,8 +15,8 @@ use Rattle.desk.specs.declared.opening.Session.{Session}
 use Rattle.desk.specs.declared.deciding.Reply.the-variants.{Yes, No, Refused}
 use Rattle.desk.specs.declared.deciding.Decision.{Decision}
 use Rattle.desk.specs.Reply.{said, yes, no}
-use Rattle.desk.specs.Session.{openCount, unfit, stillOpen}
-use Rattle.desk.specs.Deciding.{Verdict, turnedBack, answered, decideQuery, decideUnder, Gives, Decided}
+use Rattle.desk.specs.Session.{openCount}
+use Rattle.desk.specs.Deciding.{unfit, stillOpen, Verdict, turnedBack, answered, decideQuery, decideUnder, Gives, Decided}
 use Rattle.desk.specs.Calls.{Call, Calls, none-left, one-call}
 use Rattle.desk.specs.Demands.{Demand3Met}
 

@@ -7,7 +7,7 @@ use lib.ListN.{length, getD, List·getD-map}
 use Rattle.model.specs.Limits.{mostPartitions}
 use Rattle.model.specs.declared.Policy.{Policy}
 use Rattle.model.proofs.Pad.{pad-get}
-use Rattle.policy.specs.Text.{Declared}
+use Rattle.policy.specs.Declared.{Declared}
 use Rattle.policy.specs.Policy.{viewsAfter, policyValue}
 use Rattle.policy.proofs.Loaded.{loaded-well-formed}
 use Rattle.validity.specs.Loadable.{Loadable}

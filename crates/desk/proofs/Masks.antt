@@ -12,7 +12,8 @@ use lib.Pow.{pow-mono}
 use Rattle.theory.specs.Count.{Counts, none-below, one-more, no-more}
 use Rattle.words.specs.Bits.{bit, onesBelow}
 use Rattle.words.proofs.Bits.{bit-zero, bit-cases, bit-half, bit-lowest, bit-beyond}
-use Rattle.desk.specs.Session.{openCount, passing}
+use Rattle.desk.specs.Session.{openCount}
+use Rattle.desk.specs.Deciding.{passing}
 
 -- ---- the bits of the word
 

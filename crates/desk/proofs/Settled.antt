@@ -15,15 +15,16 @@ use Rattle.theory.specs.Archive.{AllFit}
 use Rattle.theory.specs.Executable.Label.{labels, settles}
 use Rattle.theory.proofs.Tuples.{getD-mem}
 use Rattle.theory.proofs.Executable.Test.{and-iff}
-use Rattle.words.specs.Bits.{isSet, setBit, Upto}
+use Rattle.words.specs.Bits.{isSet}
+use Rattle.words.specs.Sets.{setBit, Upto}
 use Rattle.words.proofs.Marks.{upto-more}
 use Rattle.model.specs.declared.Policy.{Policy}
-use Rattle.policy.specs.Text.{Declared}
+use Rattle.policy.specs.Declared.{Declared}
 use Rattle.words.proofs.Bits.{same-bits}
 use Rattle.labels.specs.Settled.{settled, granted}
 use Rattle.labels.specs.Text.{LoadedTo}
 use Rattle.labels.proofs.Partitions.{settled-settles}
-use Rattle.desk.specs.Session.{passing, stillOpen}
+use Rattle.desk.specs.Deciding.{passing, stillOpen}
 use Rattle.desk.specs.Settling.{Settles, Settling}
 use Rattle.desk.proofs.Loaded.{partition-word}
 use Rattle.desk.proofs.Masks.{passing-iff}

@@ -13,14 +13,14 @@ use Rattle.model.specs.Limits.{upTo}
 use Rattle.model.proofs.Limits.{up-to-iff}
 use Rattle.query.specs.Text.{read, accepted}
 use Rattle.query.proofs.Accepted.{accepted-well-read}
-use Rattle.policy.specs.Text.{Declared}
+use Rattle.policy.specs.Declared.{Declared}
 use Rattle.policy.specs.Policy.{viewsAfter}
 use Rattle.labels.specs.Settled.{settled}
 use Rattle.labels.proofs.Partitions.{settled-iff-partition}
 use Rattle.explain.specs.Explanation.{explained}
 use Rattle.desk.specs.Buffer.{tooShort}
 use Rattle.desk.specs.Explaining.{SaidExplaining, saidExplaining, notExplained, explainedBy, explainReading, explainUnder, Explained}
-use Rattle.desk.specs.Demands.{SettledExactly}
+use Rattle.desk.specs.Outcomes.{SettledExactly}
 use Rattle.desk.proofs.Loaded.{loaded-to}
 use Rattle.desk.proofs.Stays.{either}
 

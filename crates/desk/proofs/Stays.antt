@@ -12,7 +12,7 @@ use Rattle.theory.specs.Executable.Label.{labels}
 use Rattle.model.specs.Limits.{upTo}
 use Rattle.model.specs.declared.Policy.{Policy}
 use Rattle.query.specs.Text.{Reading, refused, accepted, read}
-use Rattle.policy.specs.Text.{Declared}
+use Rattle.policy.specs.Declared.{Declared}
 use Rattle.policy.specs.Policy.{viewsAfter}
 use Rattle.validity.specs.Loadable.{Loadable}
 use Rattle.explain.specs.Explanation.{explained}
@@ -22,8 +22,7 @@ use Rattle.desk.specs.declared.listing.Listing.{Listing}
 use Rattle.desk.specs.declared.explaining.Explaining.{Explaining}
 use Rattle.desk.specs.Reply.{Said, said}
 use Rattle.desk.specs.Reply.{yes as affirmed, no as denied, refused as turned}
-use Rattle.desk.specs.Session.{unfit, stillOpen}
-use Rattle.desk.specs.Deciding.{Verdict, turnedBack, answered, decideQuery, decideUnder, Decided}
+use Rattle.desk.specs.Deciding.{unfit, stillOpen, Verdict, turnedBack, answered, decideQuery, decideUnder, Decided}
 use Rattle.desk.specs.Buffer.{tooShort}
 use Rattle.desk.specs.Listing.{SaidListing, saidListing, Listed, notListed, given, listed, listReading, LabelsGiven}
 use Rattle.desk.specs.Explaining.{SaidExplaining, saidExplaining, Explained, notExplained, explainedBy, explainReading, explainUnder, ExplanationGiven}

@@ -19,15 +19,14 @@ use Rattle.words.proofs.Bits.{bit-zero}
 use Rattle.words.proofs.Lowest.{trailing-least}
 use Rattle.query.specs.Text.{Reading, refused, accepted, read}
 use Rattle.query.proofs.Accepted.{accepted-well-read}
-use Rattle.policy.specs.Text.{Declared}
-use Rattle.policy.specs.Value.{WellFormed}
-use Rattle.policy.specs.Determining.{PartitionDetermines}
+use Rattle.policy.specs.Declared.{Declared, PartitionDetermines}
+use Rattle.policy.specs.WellFormed.{WellFormed}
 use Rattle.labels.specs.Settled.{granted}
 use Rattle.labels.proofs.Partitions.{settles-iff-partition}
 use Rattle.desk.specs.Reply.{Word, Said, said}
 use Rattle.desk.specs.Reply.{yes as affirmed, no as denied, refused as turned}
-use Rattle.desk.specs.Session.{openCount, unfit, stillOpen}
-use Rattle.desk.specs.Deciding.{Verdict, turnedBack, answered, decideQuery, decideUnder, Gives}
+use Rattle.desk.specs.Session.{openCount}
+use Rattle.desk.specs.Deciding.{unfit, stillOpen, Verdict, turnedBack, answered, decideQuery, decideUnder, Gives}
 use Rattle.desk.specs.Calls.{Call, Says, Asks, DeterminesAll, Answerable}
 use Rattle.desk.specs.Demands.{Right}
 use Rattle.desk.proofs.Masks.{passing-iff, passing-below}

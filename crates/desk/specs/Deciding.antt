@@ -1,18 +1,36 @@
 -- Document 01, "Session" and "Deciding".
 use mathlib.Core.Path.{_≡_}
-use mathlib.Core.Bool.{cond}
-use mathlib.Core.List.{List}
-use Prim.Native.Nat.{ℕ}
-use lib.Dec.{eqb}
+use mathlib.Core.Bool.{Bool, cond, _||_}
+use mathlib.Core.List.{List, [], _∷_}
+use Prim.Native.Nat.{ℕ, _+_, _*_, _/_, _%_, _^_}
+use lib.Dec.{eqb, leb}
+use lib.ListN.{length}
+use Rattle.theory.specs.Query.{Query}
+use Rattle.theory.specs.Executable.Label.{settles}
 use Rattle.model.specs.declared.Policy.{Policy}
 use Rattle.query.specs.Text.{Reading, refused, accepted, read}
-use Rattle.policy.specs.Text.{Declared}
+use Rattle.policy.specs.Declared.{Declared}
 use Rattle.validity.specs.Loadable.{Loadable}
+use Rattle.labels.specs.Settled.{granted}
 use Rattle.desk.specs.declared.opening.Session.{Session}
 use Rattle.desk.specs.declared.deciding.Decision.{Decision}
 use Rattle.desk.specs.Reply.{Said, said, yes, no}
 use Rattle.desk.specs.Reply.{refused as turned}
-use Rattle.desk.specs.Session.{openCount, unfit, stillOpen}
+use Rattle.desk.specs.Session.{openCount}
+
+-- 9: "a session with no partition open, or one beyond the policy's": from bit n on a word of n bits has none
+unfoldable pub unfit : Declared → ℕ → Bool
+unfit d mask = eqb mask 0 || leb (2 ^ length (d .partitions)) mask
+
+-- the partitions of a word that pass a test
+unfoldable pub passing : (List ℕ → Bool) → List (List ℕ) → ℕ → ℕ
+passing f [] mask = 0
+passing f (vs ∷ ps) mask = cond (f vs) (mask % 2) 0 + 2 * passing f ps (mask / 2)
+
+-- "The decision keeps open only those that settle the query"
+unfoldable pub stillOpen : Declared → Query → ℕ → ℕ
+unfolding passing settles granted
+stillOpen d Q mask = passing (λ vs. settles (granted (d .views) vs) Q) (d .partitions) mask
 
 -- what a call says, and the session that it leaves
 pub record Verdict : Type 0 where

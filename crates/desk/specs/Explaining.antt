@@ -8,7 +8,7 @@ use Rattle.theory.specs.Executable.Label.{labels}
 use Rattle.model.specs.Limits.{upTo}
 use Rattle.model.specs.declared.Policy.{Policy}
 use Rattle.query.specs.Text.{Reading, refused, accepted, read}
-use Rattle.policy.specs.Text.{Declared}
+use Rattle.policy.specs.Declared.{Declared}
 use Rattle.policy.specs.Policy.{viewsAfter}
 use Rattle.validity.specs.Loadable.{Loadable}
 use Rattle.labels.specs.Settled.{settled}

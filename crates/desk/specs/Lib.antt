@@ -9,4 +9,5 @@ pub mod Listing
 pub mod Rewriting
 pub mod HoldsLabels
 pub mod Explaining
+pub mod Outcomes
 pub mod Demands

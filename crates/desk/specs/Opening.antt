@@ -1,10 +1,16 @@
 -- Document 01, "Opening".
 use mathlib.Core.Path.{_≡_}
+use Prim.Native.Nat.{ℕ, _-_, _^_}
+use lib.ListN.{length}
 use Rattle.model.specs.declared.Policy.{Policy}
 use Rattle.model.specs.declared.Outcome.the-variants.{Accepted, Refused}
+use Rattle.policy.specs.Declared.{Declared}
 use Rattle.validity.specs.Loadable.{Loadable}
 use Rattle.desk.specs.declared.opening.Opening.{Opening}
-use Rattle.desk.specs.Session.{allOpen}
+
+-- "every partition is open"
+unfoldable pub allOpen : Declared → ℕ
+allOpen d = 2 ^ length (d .partitions) - 1
 
 -- "8: a policy value that no loading gives. Otherwise every partition is open."; beside a refusal "no partition open"
 pub record Opened (p : Policy) (r : Opening) : Type 0 where

@@ -6,7 +6,7 @@ ghost use mathlib.Core.List.{List};
 ghost use Prim.Native.Nat.{ℕ, _^_, _≤_};
 ghost use lib.Dec.{eqb, leb};
 ghost use Rattle.label.specs.Labelled.{TableMasks, ViewsLaid};
-ghost use Rattle.policy.specs.Text.{Declared};
+ghost use Rattle.policy.specs.Declared.{Declared};
 ghost use Rattle.labels.specs.Posed.{labelsValue};
 ghost use Rattle.labels.specs.Settled.{settled};
 ghost use Rattle.labels.specs.Text.{LoadedTo, SomePolicy};

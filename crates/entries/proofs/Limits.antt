@@ -10,7 +10,7 @@ use Rattle.theory.specs.Query.{Line}
 use Rattle.theory.specs.Executable.Test.{all}
 use Rattle.model.specs.Fields.{Numbered}
 use Rattle.model.specs.Limits.{mostTables, mostColumns, mostViews, mostPartitions, upTo, termWithin, lineWithin}
-use Rattle.model.specs.Value.{goodValue}
+use Rattle.model.specs.Parsed.{goodValue}
 use Rattle.entries.specs.Value.{noTable, tableValue, noView, viewValue, noPartition, partitionValue}
 use Rattle.entries.specs.declared.TableLine.{TableLine}
 use Rattle.entries.specs.declared.ViewLine.{ViewLine}

@@ -16,7 +16,7 @@ use Rattle.text.specs.declared.Numeral.{Numeral}
 use Rattle.text.specs.declared.Numeral.the-variants.{Malformed, Large, Value}
 use Rattle.model.specs.Fields.{both, Numbered, numbered}
 use Rattle.model.specs.Limits.{upTo}
-use Rattle.model.specs.Value.{upToValue}
+use Rattle.model.specs.Parsed.{upToValue}
 use Rattle.text.proofs.Parts.{to-end}
 use Rattle.text.proofs.FieldsFrom.{from-first, from-none, from-some, from-next}
 use Rattle.model.proofs.UpTo.{up-to-past, up-to-within}

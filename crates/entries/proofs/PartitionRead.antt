@@ -14,7 +14,7 @@ use Rattle.text.specs.declared.Numeral.{Numeral}
 use Rattle.text.specs.declared.Numeral.the-variants.{Malformed}
 use Rattle.model.specs.Fields.{Numbered, every, partitionLine}
 use Rattle.model.specs.Limits.{mostViews, mostPartitions, upTo}
-use Rattle.model.specs.Value.{upToValue}
+use Rattle.model.specs.Parsed.{upToValue}
 use Rattle.entries.specs.Value.{noViews, viewList, viewListValue, noPartition, partitionValue}
 use Rattle.entries.specs.declared.ViewList.{ViewList}
 use Rattle.entries.proofs.Numbered.{NumberRead, number-read, unnumbered}

@@ -8,7 +8,7 @@ use Rattle.text.specs.declared.Numeral.{Numeral}
 use Rattle.text.specs.declared.Numeral.the-variants.{Malformed}
 use Rattle.model.specs.Fields.{Numbered}
 use Rattle.model.specs.Limits.{upTo}
-use Rattle.model.specs.Value.{upToValue}
+use Rattle.model.specs.Parsed.{upToValue}
 use Rattle.entries.proofs.Numbered.{NumberRead, nothing-read, numbered-formed, numbered-past, numbered-within}
 
 pub data Told {X : Type 0} (good : X → Bool) (q : Option X) (ok outside : Bool) : Type 0 where

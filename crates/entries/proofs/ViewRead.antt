@@ -13,7 +13,7 @@ use Rattle.text.specs.declared.Numeral.{Numeral}
 use Rattle.text.specs.declared.Numeral.the-variants.{Malformed}
 use Rattle.model.specs.Fields.{Numbered, lineOfFields, queryLine, viewLine}
 use Rattle.model.specs.Limits.{mostViews, lineWithin}
-use Rattle.model.specs.Value.{blankValue, goodValue, parsedLine, upToValue}
+use Rattle.model.specs.Parsed.{blankValue, goodValue, parsedLine, upToValue}
 use Rattle.model.specs.declared.Parsed.{Parsed}
 use Rattle.entries.specs.Value.{noView, viewValue}
 use Rattle.entries.proofs.Numbered.{NumberRead, number-alone, number-read, unnumbered, from-rest}

@@ -5,8 +5,8 @@ use mathlib.Core.List.{List, [], _∷_, _++_}
 use Prim.Native.Nat.{ℕ, _-_, _≤_}
 use lib.Dec.{ltb}
 use borrow.Author.Tests.{lt-ltb}
-use Rattle.words.specs.Bits.{setBit}
-use Rattle.policy.specs.Text.{ascend}
+use Rattle.words.specs.Sets.{setBit}
+use Rattle.policy.specs.WellFormed.{ascend}
 use Rattle.policy.specs.Policy.{viewsAfter}
 use Rattle.entries.specs.Value.{lastAfter, viewList}
 use Rattle.entries.specs.declared.ViewList.{ViewList}

@@ -15,7 +15,7 @@ use Rattle.text.specs.declared.Numeral.{Numeral}
 use Rattle.text.specs.declared.Numeral.the-variants.{Malformed}
 use Rattle.model.specs.Fields.{every}
 use Rattle.model.specs.Limits.{mostViews, upTo}
-use Rattle.model.specs.Value.{upToValue}
+use Rattle.model.specs.Parsed.{upToValue}
 use Rattle.model.proofs.FieldsRead.{FieldsRead, Next, next-none, next-past, next-held, all-read, some-past, none-past}
 use Rattle.entries.specs.Value.{noViews, viewList, viewListValue}
 use Rattle.entries.specs.declared.ViewList.{ViewList}

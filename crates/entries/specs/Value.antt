@@ -8,8 +8,8 @@ use Rattle.theory.specs.Query.{Line}
 use Rattle.theory.specs.Executable.Test.{all}
 use Rattle.model.specs.Fields.{Numbered}
 use Rattle.model.specs.Limits.{mostTables, mostColumns, mostViews, mostPartitions, upTo, lineWithin}
-use Rattle.model.specs.Value.{blankValue, goodValue}
-use Rattle.policy.specs.Text.{ascend}
+use Rattle.model.specs.Parsed.{blankValue, goodValue}
+use Rattle.policy.specs.WellFormed.{ascend}
 use Rattle.policy.specs.Policy.{viewsAfter}
 use Rattle.entries.specs.declared.TableLine.{TableLine}
 use Rattle.entries.specs.declared.ViewLine.{ViewLine}

@@ -8,7 +8,7 @@ use lib.Bits.{bitAnd}
 use lib.Dec.{eqb}
 use lib.ListN.{length, getD, drop, drop-of-length-le}
 use Rattle.theory.specs.Executable.Test.{any}
-use Rattle.words.specs.Bits.{meet}
+use Rattle.words.specs.Sets.{meet}
 use Rattle.labels.specs.Posed.{labelsValue}
 use Rattle.labels.specs.Settled.{holdsOne}
 use Rattle.labels.specs.declared.Labels.{Labels}

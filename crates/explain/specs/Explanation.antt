@@ -5,7 +5,7 @@ use Prim.Native.Nat.{ℕ, _/_, _^_}
 use lib.Bits.{bitAnd}
 use lib.Dec.{eqb, ltb}
 use Rattle.theory.specs.Executable.Test.{any}
-use Rattle.words.specs.Bits.{include}
+use Rattle.words.specs.Sets.{include}
 use Rattle.labels.specs.Settled.{holdsOne, settled}
 
 -- the views of a label, "view n at bit n − 1"

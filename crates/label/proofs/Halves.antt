@@ -4,7 +4,7 @@ use mathlib.Core.Bool.{false}
 use Prim.Native.Nat.{ℕ, _/_, _%_, _^_, _≤_, _<_}
 use native.Mathlib.Omega.{arith}
 use borrow.Author.Tests.{eq-eqb, ne-eqb}
-use Rattle.words.specs.Bits.{include}
+use Rattle.words.specs.Sets.{include}
 use Rattle.words.proofs.Tests.{include-iff}
 use Rattle.label.specs.Order.{atOrBelow}
 use Rattle.words.proofs.Answers.{same-answer}

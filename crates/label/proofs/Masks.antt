@@ -7,7 +7,7 @@ use native.Mathlib.Decide.{ℕ-discrete}
 use native.Mathlib.Omega.{arith}
 use lib.ListN.{length, getD, set, length-set}
 use lib.Seq.{getD-set-same, getD-set-other}
-use Rattle.words.specs.Bits.{setBit, Upto}
+use Rattle.words.specs.Sets.{setBit, Upto}
 use Rattle.words.proofs.Marks.{upto-none, upto-more}
 use Rattle.words.proofs.SetBits.{set-bit-below}
 use Rattle.model.specs.Value.{pad}

@@ -9,7 +9,8 @@ use native.Mathlib.Nat.{lt-of-lt-of-le}
 use native.Mathlib.Omega.{arith}
 use lib.ListN.{length, getD, getElem?, replicate}
 use lib.Pow.{pow-mono}
-use Rattle.words.specs.Bits.{bit, Upto}
+use Rattle.words.specs.Bits.{bit}
+use Rattle.words.specs.Sets.{Upto}
 use Rattle.theory.specs.Query.{Line as TheLine}
 use Rattle.theory.specs.Cover.{Covers}
 use Rattle.theory.specs.Executable.Cover.{covers}

@@ -2,7 +2,7 @@
 use mathlib.Core.Bool.{Bool, _&&_}
 use Prim.Native.Nat.{ℕ, _/_, _%_, _^_}
 use lib.Dec.{eqb}
-use Rattle.words.specs.Bits.{include}
+use Rattle.words.specs.Sets.{include}
 
 -- "Word X is at or below Y when their low halves are equal and X's high bits include all of Y's."
 unfoldable pub atOrBelow : ℕ → ℕ → Bool

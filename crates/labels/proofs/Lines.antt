@@ -4,7 +4,6 @@ use mathlib.Core.Bool.{true, false}
 use mathlib.Core.List.{List, [], map, map-map, map-append, append-nil, Memᴰ·of-map}
 use Prim.Native.Nat.{ℕ, _+_, _-_, _≤_, _<_}
 use native.Mathlib.Omega.{arith}
-use lib.Dec.{eqb→eq}
 use lib.ListN.{length, take, getD, set, length-map, length-append}
 use lib.Seq.{take-all}
 use borrow.Author.Tests.{eqb-true}
@@ -17,13 +16,14 @@ use Rattle.theory.proofs.Reduce.{reduced-subset}
 use Rattle.theory.proofs.Executable.Reduce.{reduce-reduces}
 use Rattle.theory.proofs.Tuples.{getD-mem, fits-over}
 use Rattle.words.specs.Bits.{isSet}
-use Rattle.model.specs.Limits.{mostColumns, mostTables, mostViews, wide}
+use Rattle.model.specs.Limits.{mostColumns, mostTables, mostViews}
+use Rattle.model.specs.Checks.{wide}
 use Rattle.model.specs.Rows.{laidTable, LaidAt}
 use Rattle.model.specs.Value.{pad, lineValue}
 use Rattle.model.specs.declared.Tables.{Tables}
 use Rattle.model.specs.declared.Query.{Query as QueryValue}
 use Rattle.model.proofs.Pad.{pad-more}
-use Rattle.policy.specs.Text.{Declared}
+use Rattle.policy.specs.Declared.{Declared}
 use Rattle.model.proofs.Limits.{up-to-iff}
 use Rattle.label.specs.Labelled.{Labelled}
 use Rattle.reduce.specs.Agree.{lineAt}
@@ -73,7 +73,7 @@ module _ {d : Declared} {tables : Tables} {masks views : List ℕ} (ready : Read
         bits = rw (sym table-is) (ready .bits table first-table last-table);
         lineWidth = sym (w ∙ width-is);
         viewWidths = λ v m e.
-            eqb→eq _ _ (ready .good .views .each v m .fitting) ∙ ap (λ (t : ℕ). getD (d .widths) (t - 1) 0) (e ∙ sym table-is) ∙ sym w;
+            ready .good .views .each v m .fits .width ∙ ap (λ (t : ℕ). getD (d .widths) (t - 1) 0) (e ∙ sym table-is) ∙ sym w;
       }
 
 -- ---- the lines of a query, shown

@@ -21,16 +21,16 @@ use Rattle.theory.proofs.Executable.Test.{same-test, any-iff}
 use Rattle.theory.proofs.Executable.Cover.{covers-iff}
 use Rattle.theory.proofs.Executable.Label.{viewBits-bit}
 use Rattle.theory.proofs.Determine.{settles-iff-determines, no-view-determines}
-use Rattle.words.specs.Bits.{bit, meet}
+use Rattle.words.specs.Bits.{bit}
+use Rattle.words.specs.Sets.{meet}
 use Rattle.words.proofs.Bits.{bit-zero}
 use Rattle.words.proofs.Parts.{high-part}
 use Rattle.words.proofs.Tests.{meet-iff}
 use Rattle.model.specs.Limits.{mostTables, mostViews}
 use Rattle.query.specs.Text.{accepted, read}
 use Rattle.query.proofs.Accepted.{accepted-well-read}
-use Rattle.policy.specs.Text.{Declared}
-use Rattle.policy.specs.Determining.{Grants, PartitionDetermines}
-use Rattle.policy.specs.Value.{WellFormed, GoodPartition}
+use Rattle.policy.specs.Declared.{Declared, Grants, PartitionDetermines}
+use Rattle.policy.specs.WellFormed.{WellFormed, GoodPartition}
 use Rattle.policy.specs.Policy.{viewsAfter}
 use Rattle.policy.proofs.PartitionWords.{after-bit, good-below}
 use Rattle.words.proofs.Answers.{true-holds, holds-true}

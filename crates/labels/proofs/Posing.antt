@@ -24,8 +24,8 @@ use Rattle.model.proofs.Values.{few-terms}
 use Rattle.query.specs.Text.{read, accepted}
 use Rattle.query.specs.WellRead.{WellRead}
 use Rattle.query.proofs.Accepted.{accepted-well-read}
-use Rattle.policy.specs.Text.{Declared}
-use Rattle.policy.specs.Value.{WellFormed}
+use Rattle.policy.specs.Declared.{Declared}
+use Rattle.policy.specs.WellFormed.{WellFormed}
 use Rattle.policy.specs.Policy.{policyValue}
 use Rattle.model.proofs.Limits.{up-to-iff}
 use Rattle.label.specs.Labelled.{Holds, TableMasks, ViewsLaid}

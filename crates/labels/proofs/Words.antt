@@ -9,7 +9,7 @@ use lib.ListN.{length, take, getD}
 use lib.Seq.{take-suc, take-all}
 use Rattle.theory.specs.Executable.Test.{all}
 use Rattle.theory.proofs.Executable.Test.{all-more}
-use Rattle.words.specs.Bits.{meet}
+use Rattle.words.specs.Sets.{meet}
 use Rattle.model.proofs.Pad.{pad-get}
 use Rattle.labels.specs.Posed.{labelsValue}
 use Rattle.labels.specs.Settled.{holdsOne, settled}

@@ -10,8 +10,8 @@ use Rattle.model.specs.Rows.{LaidAt}
 use Rattle.model.specs.Value.{pad, lineValue, tablesValue}
 use Rattle.model.specs.declared.Query.{Query}
 use Rattle.model.specs.declared.Tables.{Tables}
-use Rattle.policy.specs.Text.{Declared}
-use Rattle.policy.specs.Value.{WellFormed}
+use Rattle.policy.specs.Declared.{Declared}
+use Rattle.policy.specs.WellFormed.{WellFormed}
 use Rattle.label.specs.Labelled.{OfTable, LaidViews}
 use Rattle.reduce.specs.Agree.{lineAt}
 use Rattle.reduce.specs.Laid.{HoldsQuery}

@@ -4,7 +4,7 @@ use mathlib.Core.List.{List, map}
 use Prim.Native.Nat.{ℕ, _-_, _/_, _^_}
 use Rattle.theory.specs.Query.{Line}
 use Rattle.theory.specs.Executable.Test.{all}
-use Rattle.words.specs.Bits.{meet}
+use Rattle.words.specs.Sets.{meet}
 use Rattle.reduce.specs.Agree.{lineAt}
 
 -- a label holds one of a partition's views

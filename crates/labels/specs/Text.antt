@@ -6,8 +6,8 @@ use Rattle.theory.specs.Executable.Label.{labels}
 use Rattle.model.specs.declared.Policy.{Policy}
 use Rattle.model.specs.declared.Outcome.the-variants.{Accepted, Refused}
 use Rattle.query.specs.Text.{Reading, refused, accepted}
-use Rattle.policy.specs.Text.{Declared}
-use Rattle.policy.specs.Value.{WellFormed}
+use Rattle.policy.specs.Declared.{Declared}
+use Rattle.policy.specs.WellFormed.{WellFormed}
 use Rattle.policy.specs.Policy.{policyValue}
 use Rattle.labels.specs.declared.Asked.{Asked}
 use Rattle.labels.specs.Posed.{labelsValue}

@@ -9,7 +9,7 @@ ghost use Rattle.theory.specs.Executable.Label.{label, labels};
 ghost use Rattle.theory.specs.Executable.Show.{show};
 ghost use Rattle.model.specs.Value.{tablesValue};
 ghost use Rattle.query.specs.Text.{read};
-ghost use Rattle.policy.specs.Text.{Declared};
+ghost use Rattle.policy.specs.Declared.{Declared};
 ghost use Rattle.reduce.specs.Left.{linesAt};
 ghost use Rattle.reduce.specs.Showing.{SharedWord};
 ghost use Rattle.labels.specs.Posed.{Ready, SomeReady, LineOf, Posed, Rows, labelsValue};

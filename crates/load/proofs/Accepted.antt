@@ -8,9 +8,10 @@ use types.Run.{OneOf}
 use Rattle.model.specs.declared.Outcome.{Outcome}
 use Rattle.model.specs.declared.Outcome.the-variants.{Refused}
 use Rattle.model.proofs.Outcome.{the-type}
-use Rattle.policy.specs.Text.{Declared as TheDeclared, refused, accepted, load}
+use Rattle.policy.specs.Text.{refused, accepted, load}
+use Rattle.policy.specs.Declared.{Declared as TheDeclared}
 use Rattle.policy.specs.Text.{Loading as TheLoading}
-use Rattle.policy.specs.Value.{WellFormed}
+use Rattle.policy.specs.WellFormed.{WellFormed}
 use Rattle.policy.specs.Policy.{policyValue}
 use Rattle.policy.proofs.Loaded.{loaded-well-formed}
 use Rattle.load.specs.Value.{loadingValue}

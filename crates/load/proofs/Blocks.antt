@@ -4,8 +4,10 @@ use mathlib.Core.Bool.{Bool, true, false, _&&_, false≢true}
 use mathlib.Core.List.{List}
 use Prim.Native.Nat.{ℕ, _+_}
 use native.Mathlib.Omega.{arith}
-use Rattle.text.specs.Names.{viewTableTerms, partitionViews, sameBytes}
-use Rattle.policy.specs.Text.{Declared, Block, tables, views, partitions, isNext, nextBlock, enter, faulty, entered}
+use Rattle.text.specs.Names.{viewTableTerms, partitionViews}
+use Rattle.text.specs.Lines.{sameBytes}
+use Rattle.policy.specs.Text.{Block, tables, views, partitions, isNext, nextBlock, enter, faulty, entered}
+use Rattle.policy.specs.Declared.{Declared}
 use Rattle.policy.specs.Text.{Entered as TheEntered}
 use Rattle.policy.specs.Policy.{policyValue}
 use Rattle.load.specs.Steps.{blockNumber, enteredValue, progressValue, afterEntry, steppedValue}

@@ -4,12 +4,13 @@ use mathlib.Core.List.{List, [], _∷_, _++_, map, map-append}
 use Prim.Native.Nat.{ℕ, _+_, _<_}
 use lib.ListN.{length, set, length-append, length-map}
 use Rattle.theory.specs.Query.{Line}
-use Rattle.model.specs.Value.{pad, tablesValue, unusedLine, lineValue, goodValue}
+use Rattle.model.specs.Value.{pad, tablesValue, unusedLine, lineValue}
+use Rattle.model.specs.Parsed.{goodValue}
 use Rattle.model.specs.declared.Policy.{Policy}
 use Rattle.model.specs.declared.Parsed.{Parsed}
 use Rattle.model.specs.declared.Line.{Line as LineValue}
 use Rattle.model.proofs.Pad.{pad-more}
-use Rattle.policy.specs.Text.{Declared}
+use Rattle.policy.specs.Declared.{Declared}
 use Rattle.policy.specs.Policy.{policyValue, viewsAfter}
 use Rattle.entries.specs.Value.{viewList}
 use Rattle.load.specs.Steps.{moreTables, moreViews, morePartitions}

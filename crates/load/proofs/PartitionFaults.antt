@@ -11,8 +11,11 @@ use lib.ListN.{length}
 use borrow.Author.Tests.{ltb-true, lt-ltb, le-ltb}
 use Rattle.theory.specs.Executable.Test.{all, any}
 use Rattle.model.specs.Fields.{Numbered, partitionLine}
-use Rattle.model.specs.Limits.{upTo, mostViews, mostPartitions, firstFault}
-use Rattle.policy.specs.Text.{Declared, ascend, partitionFault, faulty, entered, enter, partitions as partitionBlock}
+use Rattle.model.specs.Limits.{upTo, mostViews, mostPartitions}
+use Rattle.model.specs.Checks.{firstFault}
+use Rattle.policy.specs.Text.{partitionFault, faulty, entered, enter, partitions as partitionBlock}
+use Rattle.policy.specs.WellFormed.{ascend}
+use Rattle.policy.specs.Declared.{Declared}
 use Rattle.entries.specs.Value.{partitionValue, noPartition, viewList, lastAfter}
 use Rattle.entries.specs.declared.PartitionLine.{PartitionLine}
 use Rattle.load.specs.Steps.{lineFault, morePartitions}

@@ -5,8 +5,8 @@ use mathlib.Core.List.{List}
 use Prim.Native.Nat.{ℕ, suc, _≤_, _<_}
 use lib.ListN.{length, take, drop}
 use borrow.Author.Tests.{lt-ltb, le-ltb}
-use Rattle.text.specs.Lines.{Split, lines, before}
-use Rattle.text.specs.Names.{tableColumns, sameBytes}
+use Rattle.text.specs.Lines.{Split, lines, before, sameBytes}
+use Rattle.text.specs.Names.{tableColumns}
 use Rattle.text.proofs.Lines.{split-none, split-found}
 use Rattle.policy.specs.Text.{refused, nothing, tables, loadFrom, loadLines, load, mostBytes}
 

@@ -7,10 +7,12 @@ use lib.Dec.{eqb}
 use lib.ListN.{length}
 use mathlib.Core.List.{List}
 use Rattle.model.specs.Fields.{Numbered, tableLine}
-use Rattle.model.specs.Limits.{upTo, mostTables, mostColumns, firstFault}
+use Rattle.model.specs.Limits.{upTo, mostTables, mostColumns}
+use Rattle.model.specs.Checks.{firstFault}
 use Rattle.model.specs.Value.{tablesValue}
 use Rattle.model.specs.declared.Tables.{Tables}
-use Rattle.policy.specs.Text.{Declared, tableFault, faulty, entered, enter, tables as tableBlock}
+use Rattle.policy.specs.Text.{tableFault, faulty, entered, enter, tables as tableBlock}
+use Rattle.policy.specs.Declared.{Declared}
 use Rattle.entries.specs.Value.{tableValue, noTable}
 use Rattle.entries.specs.declared.TableLine.{TableLine}
 use Rattle.load.specs.Steps.{lineFault, moreTables}

@@ -8,9 +8,11 @@ use lib.Dec.{eqb}
 use lib.ListN.{length}
 use Rattle.theory.specs.Query.{Line}
 use Rattle.model.specs.Fields.{Numbered, viewLine}
-use Rattle.model.specs.Limits.{upTo, mostViews, lineWithin, firstFault, misfit}
-use Rattle.model.specs.Value.{goodValue}
-use Rattle.policy.specs.Text.{Declared, viewFault, faulty, entered, enter, views as viewBlock}
+use Rattle.model.specs.Limits.{upTo, mostViews, lineWithin}
+use Rattle.model.specs.Checks.{firstFault, misfit}
+use Rattle.model.specs.Parsed.{goodValue}
+use Rattle.policy.specs.Text.{viewFault, faulty, entered, enter, views as viewBlock}
+use Rattle.policy.specs.Declared.{Declared}
 use Rattle.entries.specs.Value.{viewValue, noView}
 use Rattle.entries.specs.declared.ViewLine.{ViewLine}
 use Rattle.load.specs.Steps.{lineFault, moreViews}

@@ -1,7 +1,7 @@
 // A query labelled again and again.
 
 ghost use Rattle.theory.specs.Query.{Query as TheQuery};
-ghost use Rattle.policy.specs.Text.{Declared};
+ghost use Rattle.policy.specs.Declared.{Declared};
 ghost use Rattle.labels.specs.Posed.{Ready, Posed};
 ghost use Rattle.labels.specs.Text.{SomePolicy};
 use labels::Labels;

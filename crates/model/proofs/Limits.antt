@@ -2,15 +2,17 @@
 use mathlib.Core.Path.{_≡_, refl, sym, subst}
 use mathlib.Core.Logic.{_↔_, ⊎-elim}
 use mathlib.Core.Bool.{Bool, true, false, cond, not}
-use mathlib.Core.List.{List, [], _∷_, _++_, List·Memᴰ·head, List·Memᴰ·tail, List·Memᴰ·cases-cons, List·Memᴰ·append-cases, List·Memᴰ·eq-of-singleton}
+use mathlib.Core.List.{List, [], _∷_, _++_, List·Memᴰ·head, List·Memᴰ·tail, List·Memᴰ·not-nil, List·Memᴰ·cases-cons, List·Memᴰ·append-cases, List·Memᴰ·eq-of-singleton}
 use Prim.Native.Nat.{ℕ, suc, _≤_}
 use native.Mathlib.Nat.{suc-ne-zero}
 use lib.Dec.{T, leb, eqb→eq, leb→le, le→leb, T-not, not-T}
 use lib.ListN.{length}
+use mir.Facts.{yes-eqb}
 use Rattle.theory.specs.Query.{Term, constant, shown, hidden, Line, _∈_, NoClash, Fits}
 use Rattle.theory.specs.Executable.Test.{all, any}
 use Rattle.theory.proofs.Executable.Test.{and-iff, any-iff, same-iff}
-use Rattle.model.specs.Limits.{upTo, lineWithin, termWithin, mostTables, known, wide, opposite, clashing}
+use Rattle.model.specs.Limits.{upTo, lineWithin, termWithin, mostTables}
+use Rattle.model.specs.Checks.{known, wide, opposite, clashing}
 
 -- a fault of 0 is the fault of no check
 pub no-fault : (b : Bool) (n rest : ℕ) → cond b (suc n) rest ≡ 0 → T (not b) × (rest ≡ 0)
@@ -87,3 +89,15 @@ clear-line Q earlier A clear a others = not-T (clashing earlier A) found
         let (B, b, s) = any-iff (λ C. any (opposite t) (C .columns)) (A ∷ earlier) .0 r in
         let (u, j, o) = any-iff (opposite t) (B .columns) .0 s in
         not-opposite Q A B t u clear a (there B b) i j o
+
+-- a line by itself
+pub clear-alone : (A : Line) → T (not (clashing [] A)) ↔ NoClash (A ∷ [])
+clear-alone A = (
+  λ h. clear-more [] A (λ n B C b. absurd (List·Memᴰ·not-nil b)) h,
+  λ clear. clear-line (A ∷ []) [] A clear (List·Memᴰ·head refl) (λ B b. absurd (List·Memᴰ·not-nil b)),
+)
+
+-- what fits passes the checks 4 and 5
+pub fits-checked : (widths : List ℕ) (A : Line) → Fits widths A → T (known widths A) × T (wide widths A)
+unfolding known wide
+fits-checked widths A f = (le→leb (A .table) (length widths) (f .last), yes-eqb (f .width))

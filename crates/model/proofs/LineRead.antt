@@ -19,7 +19,7 @@ use Rattle.text.specs.declared.Numeral.the-variants.{Malformed, Large, Value}
 use Rattle.text.proofs.Lines.{before-le, fields-last, fields-more}
 use Rattle.model.specs.Fields.{both, every, term, lineOfFields, queryLine}
 use Rattle.model.specs.Limits.{mostTables, upTo, termWithin, lineWithin}
-use Rattle.model.specs.Value.{blankValue, goodValue, parsedTerms, parsedLine, upToValue}
+use Rattle.model.specs.Parsed.{blankValue, goodValue, parsedTerms, parsedLine, upToValue}
 use Rattle.model.specs.declared.Parsed.{Parsed}
 use Rattle.text.proofs.Parts.{to-end}
 use Rattle.model.proofs.UpTo.{up-to-past, up-to-within}

@@ -8,9 +8,11 @@ use lib.Bits.{bitOr}
 use lib.ListN.{length, getD}
 use borrow.Author.Tests.{le-leb, lt-leb, eq-eqb, ne-eqb}
 use Rattle.theory.specs.Query.{Line}
-use Rattle.words.specs.Bits.{meet}
-use Rattle.model.specs.Limits.{lineWithin, known, wide, clashing, firstFault, misfit}
-use Rattle.model.specs.Value.{goodValue, tablesValue}
+use Rattle.words.specs.Sets.{meet}
+use Rattle.model.specs.Limits.{lineWithin}
+use Rattle.model.specs.Checks.{known, wide, clashing, firstFault, misfit}
+use Rattle.model.specs.Value.{tablesValue}
+use Rattle.model.specs.Parsed.{goodValue}
 use Rattle.model.specs.Variables.{Marked}
 use Rattle.model.specs.declared.Tables.{Tables}
 use Rattle.model.specs.declared.Parsed.{Parsed}

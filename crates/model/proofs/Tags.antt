@@ -9,7 +9,7 @@ use types.Run.{OneOf}
 use Rattle.text.specs.declared.Numeral.{Numeral}
 use Rattle.text.specs.declared.Numeral.the-variants.{Malformed, Large, Value}
 use Rattle.text.proofs.Numeral.{the-type}
-use Rattle.model.specs.Value.{upToValue}
+use Rattle.model.specs.Parsed.{upToValue}
 
 -- the first two variants hold no number
 pub tag-numberless : (n : Numeral) (most : ℕ) → OneOf (0 ∷ 1 ∷ []) (Declared.tagOf the-type n) → 0 ≡ upToValue n most

@@ -18,7 +18,8 @@ use Rattle.model.specs.declared.Field.{Field}
 use Rattle.model.specs.declared.Field.the-variants.{Malformed as MalformedField, Outside, Within}
 use Rattle.model.specs.Fields.{mapped, term}
 use Rattle.model.specs.Limits.{termWithin, lastVariable}
-use Rattle.model.specs.Value.{termValue, fieldValue}
+use Rattle.model.specs.Value.{termValue}
+use Rattle.model.specs.Parsed.{fieldValue}
 use Rattle.model.specs.Marks.{markOf, numberWithin}
 
 -- what the field says by its mark and its numeral

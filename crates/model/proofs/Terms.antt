@@ -8,7 +8,8 @@ use lib.ListN.{length, take, set, length-append, length-take, length-map}
 use lib.Seq.{take-all, take-append-le, set-out}
 use Rattle.theory.specs.Query.{constant, shown, hidden}
 use Rattle.theory.specs.Query.{Term as TheTerm}
-use Rattle.model.specs.Value.{pad, unusedTerm, termValue, termsValue, withShown, withHidden, bitsOf, goodValue}
+use Rattle.model.specs.Value.{pad, unusedTerm, termValue, termsValue}
+use Rattle.model.specs.Parsed.{withShown, withHidden, bitsOf, goodValue}
 use Rattle.model.specs.Marks.{withMark, Behind}
 use Rattle.model.specs.declared.Term.{Term}
 use Rattle.model.specs.declared.Parsed.{Parsed}

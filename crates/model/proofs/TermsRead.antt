@@ -9,7 +9,7 @@ use Rattle.text.specs.Lines.{fields}
 use Rattle.model.specs.Fields.{every, term}
 use Rattle.model.specs.Limits.{termWithin}
 use Rattle.model.specs.Marks.{Behind}
-use Rattle.model.specs.Value.{blankValue, goodValue, fieldValue, parsedTerms}
+use Rattle.model.specs.Parsed.{blankValue, goodValue, fieldValue, parsedTerms}
 use Rattle.model.specs.declared.Term.{Term as TermValue}
 use Rattle.model.specs.declared.Parsed.{Parsed}
 use Rattle.model.specs.declared.Field.the-variants.{Malformed, Outside, Within}

@@ -13,7 +13,7 @@ use Rattle.text.specs.Numeral.{constantLimit}
 use Rattle.text.specs.Value.{limited}
 use Rattle.text.specs.declared.Numeral.the-variants.{Large, Value}
 use Rattle.model.specs.Limits.{upTo}
-use Rattle.model.specs.Value.{upToValue}
+use Rattle.model.specs.Parsed.{upToValue}
 
 module _ (most : ℕ) (small : most ≤ 4_294_967_295) (n : ℕ) where
   -- a large number is past the most

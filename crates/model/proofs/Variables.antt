@@ -10,13 +10,15 @@ use lib.Dec.{T, leb→le}
 use Rattle.theory.specs.Query.{Term, constant, shown, hidden, Line, _∈_}
 use Rattle.theory.specs.Executable.Test.{all, any}
 use Rattle.theory.proofs.Executable.Test.{and-iff, all-iff, any-iff, same-iff, or-iff, same-test}
-use Rattle.words.specs.Bits.{bit, meet}
+use Rattle.words.specs.Bits.{bit}
+use Rattle.words.specs.Sets.{meet}
 use Rattle.words.proofs.Bits.{bit-zero}
 use Rattle.words.proofs.Masks.{bit-or-iff}
 use Rattle.words.proofs.SetBits.{set-bit-iff}
 use Rattle.words.proofs.Tests.{meet-iff}
-use Rattle.model.specs.Limits.{mostTables, upTo, termWithin, lineWithin, opposite, clashing}
-use Rattle.model.specs.Value.{withShown, withHidden, bitsOf}
+use Rattle.model.specs.Limits.{mostTables, upTo, termWithin, lineWithin}
+use Rattle.model.specs.Checks.{opposite, clashing}
+use Rattle.model.specs.Parsed.{withShown, withHidden, bitsOf}
 use Rattle.model.specs.Variables.{Bits, Marked}
 
 -- ---- on truth values

@@ -2,8 +2,10 @@
 pub mod Abstract
 pub mod Fields
 pub mod Limits
+pub mod Checks
 pub mod Marks
 pub mod Print
 pub mod Value
+pub mod Parsed
 pub mod Variables
 pub mod Rows

@@ -1,12 +1,9 @@
--- Document 01, the limits, and the checks that turn a line back: each a test on what the line says and what earlier lines
--- declared.
-use mathlib.Core.Bool.{Bool, false, cond, not, _&&_}
-use mathlib.Core.List.{List, [], _∷_}
-use Prim.Native.Nat.{ℕ, _-_}
-use lib.Dec.{leb, eqb}
-use lib.ListN.{length, getD}
+-- Document 01, the limits of numbers (2).
+use mathlib.Core.Bool.{Bool, _&&_}
+use Prim.Native.Nat.{ℕ}
+use lib.Dec.{leb}
 use Rattle.theory.specs.Query.{Term, constant, shown, hidden, Line}
-use Rattle.theory.specs.Executable.Test.{all, any, same}
+use Rattle.theory.specs.Executable.Test.{all}
 use Rattle.text.specs.Numeral.{constantLimit}
 
 -- "Tables 1 to 16; columns 1 to 8; views 1 to 32 in all; partitions 1 to 32; lines in a query 1 to 8; variables 0 to 63"
@@ -42,45 +39,3 @@ termWithin (hidden n) = leb n lastVariable
 unfoldable pub lineWithin : Line → Bool
 unfolding upTo mostTables termWithin all
 lineWithin A = upTo mostTables (A .table) && all termWithin (A .columns)
-
--- the table is declared (4)
-unfoldable pub known : List ℕ → Line → Bool
-known widths A = leb (A .table) (length widths)
-
--- the terms are as many as the table's columns (5)
-unfoldable pub wide : List ℕ → Line → Bool
-wide widths A = eqb (length (A .columns)) (getD widths (A .table - 1) 0)
-
--- the same number with the other mark
-unfoldable pub opposite : Term → Term → Bool
-opposite (constant c) u = false
-opposite (shown n) u = same u (hidden n)
-opposite (hidden n) u = same u (shown n)
-
--- a term of the line stands with the other mark in the line or an earlier one (6)
-unfoldable pub clashing : List Line → Line → Bool
-unfolding any opposite
-clashing earlier A = any (λ t. any (λ B. any (opposite t) (B .columns)) (A ∷ earlier)) (A .columns)
-
--- the number of the first check that turns a line back, 0 where none does
-pub record Check : Type 0 where
-  pub broken : Bool
-  pub number : ℕ
-
-unfoldable pub firstFault : List Check → ℕ
-firstFault [] = 0
-firstFault (c ∷ cs) = cond (c .broken) (c .number) (firstFault cs)
-
--- the checks of a line against the tables and the lines before it: "4: an unknown table or view. 5: terms fewer or more than the
--- columns. 6: one variable number both shown and hidden."
-abbrev pub fitting : List ℕ → List Line → Line → List Check
-fitting widths earlier A =
-    record { broken = not (known widths A); number = 4 }
-    ∷ record { broken = not (wide widths A); number = 5 }
-    ∷ record { broken = clashing earlier A; number = 6 }
-    ∷ []
-
--- what turns back a line within its limits that stands behind the lines `earlier`: 4, 5, 6, or nothing
-unfoldable pub misfit : List ℕ → List Line → Line → ℕ
-unfolding firstFault known wide clashing
-misfit widths earlier A = firstFault (fitting widths earlier A)

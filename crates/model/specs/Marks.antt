@@ -5,9 +5,10 @@ use mathlib.Core.List.{List, [], _∷_, _++_}
 use Prim.Native.Nat.{ℕ, _+_}
 use lib.Dec.{leb, eqb}
 use Rattle.theory.specs.Query.{Term as TheTerm}
-use Rattle.words.specs.Bits.{setBit}
+use Rattle.words.specs.Sets.{setBit}
 use Rattle.model.specs.Limits.{lastVariable}
-use Rattle.model.specs.Value.{termValue, goodValue}
+use Rattle.model.specs.Value.{termValue}
+use Rattle.model.specs.Parsed.{goodValue}
 use Rattle.model.specs.declared.Term.{Term}
 use Rattle.model.specs.declared.Parsed.{Parsed}
 

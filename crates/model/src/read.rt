@@ -4,7 +4,7 @@ ghost use lib.ListN.{length};
 ghost use Rattle.text.specs.Lines.{fields};
 ghost use Rattle.model.specs.Fields.{term, every, queryLine};
 ghost use Rattle.model.specs.Marks.{markOf, numberWithin, withMark, Behind};
-ghost use Rattle.model.specs.Value.{fieldValue, blankValue, parsedTerms, parsedLine, upToValue};
+ghost use Rattle.model.specs.Parsed.{fieldValue, blankValue, parsedTerms, parsedLine, upToValue};
 use crate::CONSTANT;
 use crate::Field;
 use crate::HIDDEN;

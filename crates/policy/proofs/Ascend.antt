@@ -7,7 +7,7 @@ use native.Mathlib.Omega.{arith}
 use lib.Dec.{T, ltb, ltb→lt, lt→ltb}
 use Rattle.theory.specs.Query.{_∈_}
 use Rattle.theory.proofs.Executable.Test.{and-iff}
-use Rattle.policy.specs.Text.{ascend}
+use Rattle.policy.specs.WellFormed.{ascend}
 
 -- the first of views that ascend is below the others
 below-rest : (v : ℕ) (vs : List ℕ) → T (ascend (v ∷ vs)) → (w : ℕ) → w ∈ vs → v < w

@@ -13,7 +13,7 @@ use Rattle.text.proofs.Each.{Each, each-cons, each-append}
 use Rattle.text.proofs.Joined.{Printable, Clean, decimal-clean, joined-clean, table-columns-clean, view-table-terms-clean, partition-views-clean, lines-ended, ended-bytes}
 use Rattle.model.specs.Print.{tableFields, lineFields, partitionFields, printLine}
 use Rattle.model.proofs.Printed.{table-clean, line-clean, partition-clean}
-use Rattle.policy.specs.Text.{Declared}
+use Rattle.policy.specs.Declared.{Declared}
 use Rattle.policy.specs.Print.{printBlock, printLines, print}
 
 -- ---- a block

@@ -3,15 +3,16 @@ use mathlib.Core.Path.{_≡_, refl, sym, ap, ap₂, _∙_}
 use mathlib.Core.List.{List, [], _∷_, map, List·Memᴰ·head, List·Memᴰ·tail}
 use Prim.Native.Nat.{ℕ, _≤_}
 use lib.ListN.{length, take, length-map}
-use Rattle.theory.specs.Query.{Line, _∈_, Fits}
+use Rattle.theory.specs.Query.{_∈_}
 use Rattle.model.specs.Limits.{mostViews, mostColumns}
 use Rattle.model.specs.Value.{pad, lineValue, unusedLine, tablesValue}
 use Rattle.model.specs.Abstract.{asLine}
 use Rattle.model.proofs.Pad.{pad-take}
 use Rattle.model.proofs.Values.{few-terms, as-line}
-use Rattle.model.proofs.Limits.{checked-fits, up-to-iff}
-use Rattle.policy.specs.Text.{Declared, load, accepted}
-use Rattle.policy.specs.Value.{WellFormed, GoodView}
+use Rattle.model.proofs.Limits.{up-to-iff}
+use Rattle.policy.specs.Text.{load, accepted}
+use Rattle.policy.specs.Declared.{Declared}
+use Rattle.policy.specs.WellFormed.{WellFormed}
 use Rattle.policy.specs.Policy.{policyValue, viewsAfter}
 use Rattle.policy.specs.Abstract.{viewsIn, declaredBy}
 use Rattle.policy.proofs.Loaded.{loaded-well-formed}
@@ -34,16 +35,13 @@ unfolding declaredBy policyValue tablesValue mostColumns
 stands-for d w =
     let widths = pad-take 16 0 (d .widths) in
     let views = entries-back 32 unusedLine lineValue asLine (d .views)
-    (λ A i. as-line A (few-terms (d .widths) narrow A (fits A (w .views .each A i)))) in
+    (λ A i. as-line A (few-terms (d .widths) narrow A (w .views .each A i .fits))) in
     let partitions = entries-back 32 0 (viewsAfter 0) (viewsIn mostViews) (d .partitions)
     (λ vs i. in-after (length (d .views)) vs (w .partitions .each vs i)) in
     λ i. record { widths = widths i; views = views i; partitions = partitions i }
   where
     narrow : (n : ℕ) → n ∈ d .widths → n ≤ 8
     narrow n i = up-to-iff mostColumns n .0 (w .tables .each n i) .1
-
-    fits : (A : Line) → GoodView (d .widths) A → Fits (d .widths) A
-    fits A g = checked-fits (d .widths) A (g .within) (g .declared) (g .fitting)
 
 pub load-stands-for : (text : List ℕ) (d : Declared) → load text ≡ accepted d → declaredBy (policyValue d) ≡ d
 load-stands-for text d e = stands-for d (loaded-well-formed text d e)

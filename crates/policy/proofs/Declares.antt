@@ -8,7 +8,8 @@ use Rattle.text.specs.Names.{tableColumns, viewTableTerms, partitionViews}
 use Rattle.model.specs.Fields.{tableLine, viewLine, partitionLine}
 use Rattle.model.specs.Print.{tableFields, lineFields, partitionFields, printLine}
 use Rattle.model.proofs.ReadLines.{table-read, view-read, partition-read}
-use Rattle.policy.specs.Text.{Declared, entered, Block, tables, views, partitions, enter}
+use Rattle.policy.specs.Text.{entered, Block, tables, views, partitions, enter}
+use Rattle.policy.specs.Declared.{Declared}
 use Rattle.policy.specs.Print.{printBlock, printLines}
 use Rattle.policy.proofs.Faults.{table-taken, view-taken, partition-taken, entry-only-taken}
 

@@ -6,17 +6,19 @@ use mathlib.Core.Option.{Option, none, some}
 use mathlib.Core.List.{List, []}
 use Prim.Native.Nat.{ℕ, zero, suc, _≤_}
 use native.Mathlib.Omega.{arith}
-use lib.Dec.{T, eqb, ltb}
+use lib.Dec.{T, eqb, ltb, ltb→lt, nltb→le, T-not, not-T}
 use lib.ListN.{length}
 use mir.Facts.{eqb-yes, yes-eqb, T-not-not}
-use Rattle.theory.specs.Query.{Line}
+use Rattle.theory.specs.Query.{Line, _∈_}
 use Rattle.theory.specs.Executable.Test.{all, any}
-use Rattle.theory.proofs.Executable.Test.{and-iff}
+use Rattle.theory.proofs.Executable.Test.{and-iff, all-iff, any-iff}
 use Rattle.model.specs.Fields.{Numbered}
-use Rattle.model.specs.Limits.{mostTables, mostColumns, mostViews, mostPartitions, upTo, lineWithin, known, wide, clashing, firstFault}
-use Rattle.policy.specs.Text.{Declared, ascend, tableFault, viewFault, partitionFault, entered, faulty, unless, entry}
-use Rattle.policy.specs.Value.{GoodWidth, GoodView, GoodPartition}
-use Rattle.model.proofs.Limits.{up-to-iff}
+use Rattle.model.specs.Limits.{mostTables, mostColumns, mostViews, mostPartitions, upTo, lineWithin}
+use Rattle.model.specs.Checks.{known, wide, clashing, firstFault}
+use Rattle.policy.specs.Text.{tableFault, viewFault, partitionFault, entered, faulty, unless, entry}
+use Rattle.policy.specs.WellFormed.{ascend, GoodWidth, GoodView, GoodPartition}
+use Rattle.policy.specs.Declared.{Declared}
+use Rattle.model.proofs.Limits.{up-to-iff, checked-fits, fits-checked, clear-alone}
 
 -- a line that is taken behind that many lines of its block
 pub record Taken {X : Type 0} (most : ℕ) (Good : X → Type 0) (before : ℕ) (e : Numbered X) : Type 0 where
@@ -75,14 +77,23 @@ view-taken d e = (
       record {
         turn = eqb-yes (b .0);
         limit = up-to-iff mostViews (e .number) .0 (k .0) .1;
-        good = record { within = k .1; declared = c .0; fitting = f .0; clear = g .0 };
+        good = record { within = k .1; fits = checked-fits (d .widths) (e .value) (k .1) (c .0) (f .0); clear = clear-alone (e .value) .0 (g .0) };
       },
-  λ t. passed-from (upTo mostViews (e .number) && lineWithin (e .value)) 2 _
+  λ t.
+      let (c, f) = fits-checked (d .widths) (e .value) (t .good .fits) in
+      passed-from (upTo mostViews (e .number) && lineWithin (e .value)) 2 _
       (and-iff (upTo mostViews (e .number)) _ .1 (taken-within _ _ _ e t, t .good .within))
       (passed-from (eqb (e .number) (suc (length (d .views)))) 3 _ (yes-eqb (t .turn))
-      (passed-from (known (d .widths) (e .value)) 4 _ (t .good .declared)
-      (passed-from (wide (d .widths) (e .value)) 5 _ (t .good .fitting)
-      (unbroken-from (clashing [] (e .value)) 6 0 (t .good .clear) refl)))),
+      (passed-from (known (d .widths) (e .value)) 4 _ c
+      (passed-from (wide (d .widths) (e .value)) 5 _ f
+      (unbroken-from (clashing [] (e .value)) 6 0 (clear-alone (e .value) .1 (t .good .clear)) refl)))),
+)
+
+-- none is past the most
+none-past : (most : ℕ) (vs : List ℕ) → T (not (any (ltb most) vs)) ↔ ((v : ℕ) → v ∈ vs → v ≤ most)
+none-past most vs = (
+  λ h v i. nltb→le most v (not-T (ltb most v) (λ p. T-not (any (ltb most) vs) h (any-iff (ltb most) vs .1 (v, i, p)))),
+  λ f. not-T (any (ltb most) vs) (λ h. let (v, i, p) = any-iff (ltb most) vs .0 h in omega (arith, ltb→lt most v p, f v i)),
 )
 
 pub partition-taken : (d : Declared) (e : Numbered (List ℕ))
@@ -97,13 +108,17 @@ partition-taken d e = (
       record {
         turn = eqb-yes (f .0);
         limit = up-to-iff mostPartitions (e .number) .0 (k .0) .1;
-        good = record { within = k .1; ascending = f .1; declared = c .0 };
+        good = record {
+          within = all-iff (upTo mostViews) (e .value) .0 (k .1);
+          ascending = f .1;
+          declared = none-past (length (d .views)) (e .value) .0 (c .0);
+        };
       },
   λ t. passed-from (upTo mostPartitions (e .number) && all (upTo mostViews) (e .value)) 2 _
-      (and-iff (upTo mostPartitions (e .number)) _ .1 (taken-within _ _ _ e t, t .good .within))
+      (and-iff (upTo mostPartitions (e .number)) _ .1 (taken-within _ _ _ e t, all-iff (upTo mostViews) (e .value) .1 (t .good .within)))
       (passed-from (eqb (e .number) (suc (length (d .partitions))) && ascend (e .value)) 3 _
       (and-iff (eqb (e .number) (suc (length (d .partitions)))) _ .1 (yes-eqb (t .turn), t .good .ascending))
-      (unbroken-from (any (ltb (length (d .views))) (e .value)) 4 0 (t .good .declared) refl)),
+      (unbroken-from (any (ltb (length (d .views))) (e .value)) 4 0 (none-past (length (d .views)) (e .value) .1 (t .good .declared)) refl)),
 )
 
 -- ---- what a line declares

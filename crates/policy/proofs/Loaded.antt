@@ -8,14 +8,15 @@ use lib.Dec.{T, ltb}
 use lib.ListN.{length, length-append}
 use Rattle.theory.specs.Query.{Line, _∈_}
 use Rattle.theory.proofs.Executable.Test.{and-iff}
-use Rattle.text.specs.Lines.{lines}
-use Rattle.text.specs.Names.{sameBytes, tableColumns, viewTableTerms, partitionViews}
+use Rattle.text.specs.Lines.{lines, sameBytes}
+use Rattle.text.specs.Names.{tableColumns, viewTableTerms, partitionViews}
 use Rattle.text.specs.Print.{endEach}
 use Rattle.model.specs.Fields.{Numbered, tableLine, viewLine, partitionLine}
 use Rattle.model.specs.Limits.{mostTables, mostViews, mostPartitions}
 use Rattle.model.specs.Print.{lineFields, partitionFields}
-use Rattle.policy.specs.Text.{Declared, nothing, refused, accepted, mostBytes, Entered, faulty, entered, Block, tables, views, partitions, enter, isNext, nextBlock, ends, goOn, loadFrom, loadLines, load}
-use Rattle.policy.specs.Value.{OneToMost, GoodWidth, GoodView, GoodPartition, WellFormed}
+use Rattle.policy.specs.Text.{nothing, refused, accepted, mostBytes, Entered, faulty, entered, Block, tables, views, partitions, enter, isNext, nextBlock, ends, goOn, loadFrom, loadLines, load}
+use Rattle.policy.specs.Declared.{Declared}
+use Rattle.policy.specs.WellFormed.{OneToMost, GoodWidth, GoodView, GoodPartition, WellFormed}
 use Rattle.policy.specs.Print.{printBlock, printLines, print}
 use Rattle.text.proofs.Each.{each-nil, each-cons, each-append}
 use Rattle.text.proofs.Names.{same-bytes-iff}

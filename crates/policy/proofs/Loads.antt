@@ -8,14 +8,15 @@ use native.Mathlib.Omega.{arith}
 use lib.ListN.{length}
 use borrow.Author.Tests.{le-ltb}
 use Rattle.theory.specs.Query.{Line}
-use Rattle.text.specs.Lines.{lines}
-use Rattle.text.specs.Names.{sameBytes, tableColumns, viewTableTerms, partitionViews}
+use Rattle.text.specs.Lines.{lines, sameBytes}
+use Rattle.text.specs.Names.{tableColumns, viewTableTerms, partitionViews}
 use Rattle.model.specs.Fields.{Numbered}
 use Rattle.model.specs.Limits.{mostTables, mostColumns, mostViews, mostPartitions}
 use Rattle.model.specs.Print.{tableFields, lineFields, partitionFields, printLine}
 use Rattle.model.proofs.Printed.{table-printed, view-printed, partition-printed}
-use Rattle.policy.specs.Text.{Declared, nothing, accepted, mostBytes, entered, tables, views, partitions, enter, isNext, nextBlock, ends, loadFrom, loadLines, load}
-use Rattle.policy.specs.Value.{OneToMost, GoodWidth, GoodView, GoodPartition, WellFormed}
+use Rattle.policy.specs.Text.{nothing, accepted, mostBytes, entered, tables, views, partitions, enter, isNext, nextBlock, ends, loadFrom, loadLines, load}
+use Rattle.policy.specs.Declared.{Declared}
+use Rattle.policy.specs.WellFormed.{OneToMost, GoodWidth, GoodView, GoodPartition, WellFormed}
 use Rattle.policy.specs.Print.{printBlock, printLines, print}
 use Rattle.model.proofs.Limits.{up-to-iff}
 use Rattle.policy.proofs.Faults.{table-taken, view-taken, partition-taken}

@@ -6,16 +6,14 @@ use mathlib.Core.List.{List, [], _∷_, _++_, append-nil, List·Memᴰ·head, Li
 use Prim.Native.Nat.{ℕ, zero, suc, _-_, _≤_}
 use native.Mathlib.Decide.{ℕ-discrete}
 use native.Mathlib.Omega.{arith}
-use lib.Dec.{T, ltb, T-not, not-T, nltb→le}
+use lib.Dec.{T}
 use Rattle.theory.specs.Query.{_∈_}
-use Rattle.theory.specs.Executable.Test.{any}
-use Rattle.theory.proofs.Executable.Test.{all-iff, any-iff}
-use Rattle.words.specs.Bits.{bit, isSet, setBit}
+use Rattle.words.specs.Bits.{bit, isSet}
+use Rattle.words.specs.Sets.{setBit}
 use Rattle.words.proofs.Bits.{bit-zero, bit-cases, is-set, is-clear}
 use Rattle.words.proofs.SetBits.{set-bit-iff}
-use Rattle.model.specs.Limits.{upTo, mostViews}
-use Rattle.policy.specs.Text.{ascend}
-use Rattle.policy.specs.Value.{GoodPartition}
+use Rattle.model.specs.Limits.{mostViews}
+use Rattle.policy.specs.WellFormed.{ascend, GoodPartition}
 use Rattle.policy.specs.Policy.{viewsAfter}
 use Rattle.policy.specs.Abstract.{viewsIn}
 use Rattle.model.proofs.Limits.{up-to-iff}
@@ -90,10 +88,7 @@ after-bit m (w ∷ vs) pos v h =
 
 -- a partition's views are what stands in its word
 pub good-below : (n : ℕ) (vs : List ℕ) → GoodPartition n vs → (v : ℕ) → v ∈ vs → (1 ≤ v) × (v ≤ n)
-good-below n vs g v i = (
-  up-to-iff mostViews v .0 (all-iff (upTo mostViews) vs .0 (g .within) v i) .0,
-  nltb→le n v (not-T (ltb n v) (λ h. T-not (any (ltb n) vs) (g .declared) (any-iff (ltb n) vs .1 (v, i, h)))),
-)
+good-below n vs g v i = (up-to-iff mostViews v .0 (g .within v i) .0, g .declared v i)
 
 pub in-after : (n : ℕ) (vs : List ℕ) → GoodPartition n vs → viewsIn mostViews (viewsAfter 0 vs) ≡ vs
 in-after n vs g = ascend-unique (viewsIn mostViews (viewsAfter 0 vs)) vs (in-ascend mostViews (viewsAfter 0 vs)) (g .ascending) same
@@ -108,6 +103,6 @@ in-after n vs g = ascend-unique (viewsIn mostViews (viewsAfter 0 vs)) vs (in-asc
           ⊎-elim (λ e. absurd (omega (arith, e, bit-zero (v - 1)))) (λ j. j)
           (after-bit 0 vs pos v h .0 (in-set mostViews (viewsAfter 0 vs) v i)),
       λ i.
-          let h = up-to-iff mostViews v .0 (all-iff (upTo mostViews) vs .0 (g .within) v i) in
+          let h = up-to-iff mostViews v .0 (g .within v i) in
           set-in mostViews (viewsAfter 0 vs) v (h .0) (h .1) (after-bit 0 vs pos v (h .0) .1 (inr i)),
     )

@@ -14,8 +14,8 @@ use Rattle.text.proofs.Joined.{Within, length-joined, length-ended, length-part
 use Rattle.model.specs.Limits.{mostTables, mostColumns, mostViews, mostPartitions}
 use Rattle.model.specs.Print.{tableFields, lineFields, partitionFields, printLine}
 use Rattle.model.proofs.Printed.{view-short}
-use Rattle.policy.specs.Text.{Declared}
-use Rattle.policy.specs.Value.{OneToMost, GoodWidth, WellFormed}
+use Rattle.policy.specs.Declared.{Declared}
+use Rattle.policy.specs.WellFormed.{OneToMost, GoodWidth, WellFormed}
 use Rattle.policy.specs.Print.{printBlock, printLines, print}
 use Rattle.policy.proofs.Blocks.{block-line, length-block}
 use Rattle.policy.proofs.Sizes.{view-size, PartitionSize, partition-size}

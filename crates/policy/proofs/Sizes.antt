@@ -6,11 +6,10 @@ use native.Mathlib.Omega.{arith}
 use lib.Dec.{T, ltb, ltb→lt}
 use lib.ListN.{length}
 use Rattle.theory.specs.Query.{Line, _∈_}
-use Rattle.theory.proofs.Executable.Test.{and-iff, all-iff}
-use Rattle.model.specs.Limits.{mostTables, mostColumns, mostViews, upTo}
-use Rattle.policy.specs.Text.{ascend}
-use Rattle.policy.specs.Value.{OneToMost, GoodWidth, GoodView, GoodPartition}
-use Rattle.model.proofs.Limits.{up-to-iff, checked-fits}
+use Rattle.theory.proofs.Executable.Test.{and-iff}
+use Rattle.model.specs.Limits.{mostTables, mostColumns, mostViews}
+use Rattle.policy.specs.WellFormed.{ascend, OneToMost, GoodWidth, GoodView, GoodPartition}
+use Rattle.model.proofs.Limits.{up-to-iff}
 use Rattle.model.proofs.Values.{width-is}
 use Rattle.model.proofs.Printed.{Writable, within-writable}
 
@@ -24,8 +23,7 @@ pub view-size : (widths : List ℕ) (A : Line)
     → OneToMost mostTables GoodWidth widths → GoodView widths A → ViewSize A
 unfolding mostColumns
 view-size widths A tables g =
-    let fits = checked-fits widths A (g .within) (g .declared) (g .fitting) in
-    let columns = up-to-iff mostColumns (length (A .columns)) .0 (width-is GoodWidth widths (tables .each) A fits) in
+    let columns = up-to-iff mostColumns (length (A .columns)) .0 (width-is GoodWidth widths (tables .each) A (g .fits)) in
     record { writable = within-writable A (g .within); least = columns .0; most = columns .1 }
 
 -- numbers that ascend from v and end at or below the most
@@ -54,4 +52,4 @@ partition-size views vs g =
     record { numbers = λ v m. let k = within v m in omega arith; most = ascend-short 32 vs (g .ascending) within }
   where
     within : (v : ℕ) → v ∈ vs → (1 ≤ v) × (v ≤ 32)
-    within v m = up-to-iff 32 v .0 (all-iff (upTo 32) vs .0 (g .within) v m)
+    within v m = up-to-iff 32 v .0 (g .within v m)

@@ -9,9 +9,11 @@ use lib.Dec.{not-T}
 use lib.Ieee.Bits.{is-false}
 use lib.ListN.{length, length-append}
 use Rattle.theory.specs.Query.{_∈_}
-use Rattle.text.specs.Names.{sameBytes, viewTableTerms, partitionViews}
-use Rattle.policy.specs.Text.{Declared, accepted, entered, Block, tables, views, partitions, enter, isNext, nextBlock, goOn, loadFrom}
-use Rattle.policy.specs.Value.{OneToMost}
+use Rattle.text.specs.Names.{viewTableTerms, partitionViews}
+use Rattle.text.specs.Lines.{sameBytes}
+use Rattle.policy.specs.Text.{accepted, entered, Block, tables, views, partitions, enter, isNext, nextBlock, goOn, loadFrom}
+use Rattle.policy.specs.Declared.{Declared}
+use Rattle.policy.specs.WellFormed.{OneToMost}
 use Rattle.model.specs.Print.{printLine}
 use Rattle.policy.specs.Print.{printBlock}
 use Rattle.text.proofs.Names.{same-bytes-iff}

@@ -7,7 +7,7 @@ use Rattle.words.specs.Bits.{isSet}
 use Rattle.model.specs.Abstract.{asLine}
 use Rattle.model.specs.Limits.{mostViews}
 use Rattle.model.specs.declared.Policy.{Policy}
-use Rattle.policy.specs.Text.{Declared}
+use Rattle.policy.specs.Declared.{Declared}
 
 -- the views up to n that stand in the word, view n at bit n - 1
 unfoldable pub viewsIn : ℕ → ℕ → List ℕ

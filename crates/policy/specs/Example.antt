@@ -3,7 +3,7 @@ use mathlib.Core.List.{List, [], _∷_, _++_}
 use Prim.Native.Nat.{ℕ}
 use Rattle.theory.specs.Printed.{widths, views}
 use Rattle.text.specs.Names.{bytes}
-use Rattle.policy.specs.Text.{Declared}
+use Rattle.policy.specs.Declared.{Declared}
 
 unfoldable pub exampleText : List ℕ
 unfolding bytes

@@ -1,6 +1,6 @@
+pub mod Declared
 pub mod Text
-pub mod Determining
-pub mod Value
+pub mod WellFormed
 pub mod Print
 pub mod Example
 pub mod Policy

@@ -2,10 +2,10 @@
 use mathlib.Core.List.{List, [], _∷_, map}
 use Prim.Native.Nat.{ℕ, _-_}
 use lib.ListN.{length}
-use Rattle.words.specs.Bits.{setBit}
+use Rattle.words.specs.Sets.{setBit}
 use Rattle.model.specs.Value.{pad, lineValue, unusedLine, tablesValue}
 use Rattle.model.specs.declared.Policy.{Policy}
-use Rattle.policy.specs.Text.{Declared}
+use Rattle.policy.specs.Declared.{Declared}
 
 -- the views of a partition as bits behind a word, view n at bit n - 1
 unfoldable pub viewsAfter : ℕ → List ℕ → ℕ

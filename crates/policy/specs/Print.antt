@@ -4,7 +4,7 @@ use Prim.Native.Nat.{ℕ, suc}
 use Rattle.text.specs.Names.{tableColumns, viewTableTerms, partitionViews}
 use Rattle.text.specs.Print.{endEach}
 use Rattle.model.specs.Print.{tableFields, lineFields, partitionFields, printLine}
-use Rattle.policy.specs.Text.{Declared}
+use Rattle.policy.specs.Declared.{Declared}
 
 -- a block's lines of values: "numbered 1, 2, 3 and so on in file order", here from n on
 unfoldable pub printBlock : {X : Type 0} → (X → List (List ℕ)) → ℕ → List X → List (List ℕ)

@@ -7,16 +7,13 @@ use lib.Dec.{ltb, eqb}
 use lib.ListN.{length}
 use Rattle.theory.specs.Query.{Line}
 use Rattle.theory.specs.Executable.Test.{all, any}
-use Rattle.text.specs.Lines.{lines}
-use Rattle.text.specs.Names.{tableColumns, viewTableTerms, partitionViews, sameBytes}
+use Rattle.text.specs.Lines.{lines, sameBytes}
+use Rattle.text.specs.Names.{tableColumns, viewTableTerms, partitionViews}
 use Rattle.model.specs.Fields.{Numbered, tableLine, viewLine, partitionLine}
-use Rattle.model.specs.Limits.{mostTables, mostColumns, mostViews, mostPartitions, upTo, lineWithin, known, wide, clashing, firstFault, fitting}
-
--- the text's tables (their columns), views and partitions (the numbers of their views), in file order
-pub record Declared : Type 0 where
-  pub widths : List ℕ
-  pub views : List Line
-  pub partitions : List (List ℕ)
+use Rattle.policy.specs.Declared.{Declared}
+use Rattle.policy.specs.WellFormed.{ascend}
+use Rattle.model.specs.Limits.{mostTables, mostColumns, mostViews, mostPartitions, upTo, lineWithin}
+use Rattle.model.specs.Checks.{known, wide, clashing, firstFault, fitting}
 
 -- "it is the empty one: no table, view or partition"
 unfoldable pub nothing : Declared
@@ -30,12 +27,6 @@ pub data Loading : Type 0 where
 -- "Policy text at most 16,384 bytes"
 unfoldable pub mostBytes : ℕ
 mostBytes = 16384
-
--- "Views in a partition ascend strictly."
-unfoldable pub ascend : List ℕ → Bool
-ascend [] = true
-ascend (v ∷ []) = true
-ascend (v ∷ w ∷ l) = ltb v w && ascend (w ∷ l)
 
 -- ---- one line: what turns it back apart from its form (1), and what it declares
 

@@ -10,14 +10,15 @@ use lib.ListN.{length, length-append}
 use borrow.Author.Tests.{ltb-false}
 use Rattle.theory.specs.Query.{Line, Query, _∈_, NoClash, Fits}
 use Rattle.theory.specs.Archive.{AllFit}
-use Rattle.text.specs.Lines.{lines}
-use Rattle.text.specs.Names.{tableTerms, sameBytes}
+use Rattle.text.specs.Lines.{lines, sameBytes}
+use Rattle.text.specs.Names.{tableTerms}
 use Rattle.text.specs.Print.{endEach}
 use Rattle.text.proofs.Each.{each-nil, each-cons, each-append}
 use Rattle.text.proofs.Names.{same-bytes-iff}
 use Rattle.text.proofs.Joined.{ended-lines}
 use Rattle.model.specs.Fields.{queryLine}
-use Rattle.model.specs.Limits.{mostLines, lineWithin, known, wide, clashing, firstFault}
+use Rattle.model.specs.Limits.{mostLines, lineWithin}
+use Rattle.model.specs.Checks.{known, wide, clashing, firstFault}
 use Rattle.model.specs.Print.{printQueryLine}
 use Rattle.model.proofs.Limits.{no-fault, not-not, checked-fits, clear-more}
 use Rattle.model.proofs.ReadLines.{query-line-read}

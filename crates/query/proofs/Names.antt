@@ -5,8 +5,8 @@ use mathlib.Core.List.{List, []}
 use Prim.Native.Nat.{ℕ, _≤_, _<_}
 use lib.ListN.{length}
 use borrow.Author.Tests.{lt-ltb, le-ltb}
-use Rattle.text.specs.Lines.{Split, lines, before}
-use Rattle.text.specs.Names.{tableTerms, sameBytes}
+use Rattle.text.specs.Lines.{Split, lines, before, sameBytes}
+use Rattle.text.specs.Names.{tableTerms}
 use Rattle.text.proofs.Lines.{split-none, split-found}
 use Rattle.query.specs.Text.{refused, mostBytes, readLines, read}
 use Rattle.query.proofs.Walk.{behind, front, back}

@@ -11,12 +11,13 @@ use lib.ListN.{length, length-append, length-map}
 use borrow.Author.Tests.{lt-leb, le-leb, eq-eqb, le-ltb}
 use Rattle.theory.specs.Query.{Line, Query, _∈_, NoClash}
 use Rattle.theory.specs.Archive.{AllFit}
-use Rattle.text.specs.Lines.{lines}
-use Rattle.text.specs.Names.{tableTerms, sameBytes}
+use Rattle.text.specs.Lines.{lines, sameBytes}
+use Rattle.text.specs.Names.{tableTerms}
 use Rattle.text.specs.Print.{endEach}
 use Rattle.text.proofs.Each.{Each, each-cons, each-map}
 use Rattle.text.proofs.Joined.{Printable, joined-clean, table-terms-clean, lines-ended, ended-bytes, Within, length-ended}
-use Rattle.model.specs.Limits.{mostLines, mostColumns, upTo, lineWithin, known, wide, clashing, firstFault}
+use Rattle.model.specs.Limits.{mostLines, mostColumns, upTo, lineWithin}
+use Rattle.model.specs.Checks.{known, wide, clashing, firstFault}
 use Rattle.model.specs.Print.{printQueryLine, lineFields}
 use Rattle.model.proofs.Limits.{clear-line, up-to-iff}
 use Rattle.model.proofs.Printed.{line-clean, within-writable, query-line-printed, query-line-short}

@@ -12,7 +12,8 @@ use Rattle.theory.specs.Query.{Line}
 use Rattle.text.specs.Lines.{Split, lines, before}
 use Rattle.text.proofs.Lines.{split-none, split-found}
 use Rattle.model.specs.Fields.{queryLine}
-use Rattle.model.specs.Value.{pad, unusedLine, lineValue, queryValue, tablesValue, goodValue}
+use Rattle.model.specs.Value.{pad, unusedLine, lineValue, queryValue, tablesValue}
+use Rattle.model.specs.Parsed.{goodValue}
 use Rattle.model.specs.declared.Tables.{Tables}
 use Rattle.model.specs.declared.Parsed.{Parsed}
 use Rattle.model.specs.declared.Query.{Query as QueryValue}

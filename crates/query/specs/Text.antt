@@ -6,10 +6,11 @@ use Prim.Native.Nat.{ℕ, zero, suc}
 use lib.Dec.{leb, ltb}
 use lib.ListN.{length}
 use Rattle.theory.specs.Query.{Line, Query}
-use Rattle.text.specs.Lines.{lines}
-use Rattle.text.specs.Names.{tableTerms, sameBytes}
+use Rattle.text.specs.Lines.{lines, sameBytes}
+use Rattle.text.specs.Names.{tableTerms}
 use Rattle.model.specs.Fields.{queryLine}
-use Rattle.model.specs.Limits.{mostLines, lineWithin, known, wide, clashing, firstFault, fitting}
+use Rattle.model.specs.Limits.{mostLines, lineWithin}
+use Rattle.model.specs.Checks.{known, wide, clashing, firstFault, fitting}
 
 -- a query text's query, or the number that turns it back and the line
 pub data Reading : Type 0 where

@@ -11,7 +11,8 @@ use Rattle.theory.specs.Query.{Line as TheLine}
 use Rattle.theory.specs.Cover.{at}
 use Rattle.theory.specs.Executable.Test.{same}
 use Rattle.theory.proofs.Executable.Test.{same-iff}
-use Rattle.words.specs.Bits.{bit, setBit, Upto}
+use Rattle.words.specs.Bits.{bit}
+use Rattle.words.specs.Sets.{setBit, Upto}
 use Rattle.words.proofs.Marks.{upto-more, upto-all, by-test}
 use Rattle.model.specs.Value.{sameTerm, unusedTerm, termValue, lineValue}
 use Rattle.model.proofs.Same.{same-value}

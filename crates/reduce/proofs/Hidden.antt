@@ -13,7 +13,8 @@ use Rattle.theory.specs.Query.{Term as TheTerm, Line as TheLine}
 use Rattle.theory.specs.Executable.Test.{kind, number}
 use Rattle.theory.proofs.Tuples.{getD-mem, mem-getD}
 use Rattle.theory.proofs.Executable.Test.{and-iff}
-use Rattle.words.specs.Bits.{bit, setBit}
+use Rattle.words.specs.Bits.{bit}
+use Rattle.words.specs.Sets.{setBit}
 use Rattle.words.proofs.Bits.{bit-zero}
 use Rattle.words.proofs.SetBits.{set-bit-same, set-bit-other}
 use Rattle.model.specs.Value.{unusedTerm, termValue, lineValue}

@@ -11,7 +11,8 @@ use mir.Facts.{eqb-yes, yes-eqb}
 use Rattle.theory.specs.Query.{Line, Query, _∈_}
 use Rattle.theory.specs.Reduce.{without}
 use Rattle.theory.proofs.Tuples.{getD-mem}
-use Rattle.words.specs.Bits.{bit, isSet, clearBit}
+use Rattle.words.specs.Bits.{bit, isSet}
+use Rattle.words.specs.Sets.{clearBit}
 use Rattle.words.proofs.Bits.{is-clear}
 use Rattle.words.proofs.ClearBits.{clear-bit-same, clear-bit-other, low-bits-set}
 use Rattle.reduce.specs.Agree.{lineAt}

@@ -12,7 +12,7 @@ use lib.ListN.{length, getD, set, length-set}
 use lib.Seq.{getD-set-same, getD-set-other}
 use Rattle.theory.specs.Query.{Query}
 use Rattle.theory.proofs.Executable.Test.{and-iff}
-use Rattle.words.specs.Bits.{setBit, Upto}
+use Rattle.words.specs.Sets.{setBit, Upto}
 use Rattle.words.proofs.Answers.{true-iff}
 use Rattle.words.proofs.Marks.{upto-more, upto-all, by-test}
 use Rattle.reduce.specs.Agree.{goes, lineAt}

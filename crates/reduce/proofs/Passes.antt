@@ -14,7 +14,8 @@ use Rattle.theory.specs.Reduce.{image, without, Sends}
 use Rattle.theory.specs.Executable.Reduce.{mayGo, reduceBelow, reduce}
 use Rattle.theory.proofs.Reduce.{sends-self, sends-twice}
 use Rattle.theory.proofs.Executable.Test.{same-test}
-use Rattle.words.specs.Bits.{bit, clearBit}
+use Rattle.words.specs.Bits.{bit}
+use Rattle.words.specs.Sets.{clearBit}
 use Rattle.words.proofs.ClearBits.{clear-bit-le, clear-bit-other, low-bits-set, low-bits-below}
 use Rattle.reduce.specs.Extends.{Extends}
 use Rattle.reduce.specs.Left.{linesAt, Folds}

@@ -10,7 +10,8 @@ use lib.Bits.{bitAnd}
 use lib.Dec.{eqb}
 use lib.ListN.{getD}
 use lib.Pow.{shr-shr}
-use Rattle.words.specs.Bits.{bit, Least, LeastDropped}
+use Rattle.words.specs.Bits.{bit}
+use Rattle.words.specs.Sets.{Least, LeastDropped}
 use Rattle.words.proofs.Bits.{bit-zero}
 use Rattle.words.proofs.Masks.{bit-and-iff}
 use Rattle.words.proofs.Lowest.{dropped-same, dropped-other}

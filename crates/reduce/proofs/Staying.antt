@@ -13,7 +13,8 @@ use Rattle.theory.specs.Reduce.{image, without}
 use Rattle.theory.specs.Executable.Test.{allBelow}
 use Rattle.theory.specs.Executable.Reduce.{mayGo, reduceBelow, reduce}
 use Rattle.theory.proofs.Executable.Test.{or-iff, allBelow-iff, same-test}
-use Rattle.words.specs.Bits.{bit, isSet, clearBit, meet}
+use Rattle.words.specs.Bits.{bit, isSet}
+use Rattle.words.specs.Sets.{clearBit, meet}
 use Rattle.words.proofs.ClearBits.{clear-bit-iff, low-bits-set}
 use Rattle.words.proofs.Tests.{meet-iff}
 use Rattle.reduce.specs.Agree.{goes, lineAt}

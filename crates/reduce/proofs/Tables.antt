@@ -9,7 +9,8 @@ use lib.ListN.{length, getD}
 use Rattle.theory.specs.Query.{constant, Line, Query}
 use Rattle.theory.specs.Cover.{at}
 use Rattle.theory.proofs.Tuples.{zip-place, place-zip}
-use Rattle.words.specs.Bits.{bit, include}
+use Rattle.words.specs.Bits.{bit}
+use Rattle.words.specs.Sets.{include}
 use Rattle.words.proofs.Answers.{true-iff}
 use Rattle.words.proofs.Tests.{include-iff}
 use Rattle.reduce.specs.Agree.{lineAt}

@@ -7,7 +7,8 @@ use Prim.Native.Nat.{ℕ, _+_, _*_, _/_, _%_, _≤_, _<_}
 use lib.Dec.{T}
 use lib.ListN.{length, getD}
 use Rattle.theory.specs.Query.{Query}
-use Rattle.words.specs.Bits.{bit, include}
+use Rattle.words.specs.Bits.{bit}
+use Rattle.words.specs.Sets.{include}
 use Rattle.reduce.specs.Agree.{goes, agree, lineAt}
 use Rattle.reduce.specs.Columns.{SameColumns}
 

@@ -9,7 +9,8 @@ use lib.Dec.{T, eqb, leb}
 use Rattle.theory.specs.Query.{hidden, Query, _∈_}
 use Rattle.theory.specs.Query.{Line as TheLine}
 use Rattle.theory.specs.Executable.Show.{shared}
-use Rattle.words.specs.Bits.{bit, isSet, setBit}
+use Rattle.words.specs.Bits.{bit, isSet}
+use Rattle.words.specs.Sets.{setBit}
 use Rattle.model.specs.Rows.{termAt, laidTable, laidTerm}
 use Rattle.model.specs.declared.Term.{Term}
 use Rattle.model.specs.declared.Line.{Line}

@@ -4,7 +4,7 @@ ghost use mathlib.Core.Path.{_≡_};
 ghost use Prim.Native.Nat.{_*_, _+_, _≤_, _<_};
 ghost use lib.ListN.{length};
 ghost use Rattle.theory.specs.Query.{Line as TheLine};
-ghost use Rattle.words.specs.Bits.{Upto};
+ghost use Rattle.words.specs.Sets.{Upto};
 ghost use Rattle.model.specs.Rows.{termAt, LaidAt};
 ghost use Rattle.model.specs.Value.{lineValue};
 ghost use Rattle.reduce.specs.Columns.{keepsTerm, goesRow, SameColumn, SameColumns};

@@ -4,7 +4,8 @@ use mathlib.Core.List.{List, [], _∷_, _++_, map}
 use Prim.Native.Nat.{ℕ, suc}
 use Rattle.model.specs.declared.Policy.{Policy}
 use Rattle.model.specs.declared.Outcome.the-variants.{Accepted}
-use Rattle.policy.specs.Text.{Declared, load}
+use Rattle.policy.specs.Text.{load}
+use Rattle.policy.specs.Declared.{Declared}
 use Rattle.policy.specs.Text.{accepted as acceptedPolicy}
 use Rattle.policy.specs.Policy.{policyValue}
 use Rattle.validity.specs.Loadable.{Loadable}
@@ -12,8 +13,7 @@ use Rattle.load.specs.Value.{loadingValue}
 use Rattle.desk.specs.declared.opening.Session.{Session}
 use Rattle.desk.specs.declared.opening.Opening.{Opening}
 use Rattle.desk.specs.declared.deciding.Decision.{Decision}
-use Rattle.desk.specs.Session.{allOpen}
-use Rattle.desk.specs.Opening.{Opened}
+use Rattle.desk.specs.Opening.{allOpen, Opened}
 use Rattle.desk.specs.Deciding.{Verdict, decideUnder, Gives}
 use Rattle.desk.specs.Calls.{Call, Calls, none-left, one-call}
 use Rattle.desk.specs.Demands.{AsDemanded}

@@ -3,7 +3,8 @@
 use mathlib.Core.Path.{_≡_}
 use mathlib.Core.List.{List, [], _∷_, _++_, map}
 use Prim.Native.Nat.{ℕ, suc}
-use Rattle.policy.specs.Text.{Declared, load}
+use Rattle.policy.specs.Text.{load}
+use Rattle.policy.specs.Declared.{Declared}
 use Rattle.policy.specs.Text.{refused as refusedPolicy, accepted as acceptedPolicy}
 use Rattle.policy.specs.Policy.{policyValue}
 use Rattle.desk.specs.declared.opening.Session.{Session}

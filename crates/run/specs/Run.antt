@@ -1,10 +1,12 @@
 -- Document 01, "The program and its first file": the bytes written for a policy text and the bytes of standard input.
 use mathlib.Core.List.{List, [], _∷_, _++_}
 use Prim.Native.Nat.{ℕ, suc}
-use Rattle.policy.specs.Text.{Declared, Loading, load}
+use Rattle.policy.specs.Text.{Loading, load}
+use Rattle.policy.specs.Declared.{Declared}
 use Rattle.policy.specs.Text.{refused as refusedPolicy, accepted as acceptedPolicy}
 use Rattle.desk.specs.Reply.{refused}
-use Rattle.desk.specs.Session.{allOpen, openCount}
+use Rattle.desk.specs.Session.{openCount}
+use Rattle.desk.specs.Opening.{allOpen}
 use Rattle.desk.specs.Deciding.{Verdict, decideUnder}
 use Rattle.cutting.specs.Cut.{cut}
 use Rattle.run.specs.Output.{outputNames, outputLine}

@@ -4,7 +4,7 @@ ghost use mathlib.Core.Path.{_≡_};
 ghost use Prim.Native.Nat.{_+_, _≤_};
 ghost use lib.ListN.{length};
 ghost use Rattle.label.specs.Labelled.{TableMasks, ViewsLaid};
-ghost use Rattle.policy.specs.Text.{Declared};
+ghost use Rattle.policy.specs.Declared.{Declared};
 ghost use Rattle.labels.specs.Text.{LoadedTo, SomePolicy};
 ghost use Rattle.desk.specs.Reply.{Word, said};
 ghost use Rattle.writing.specs.Wrote.{Wrote};

@@ -12,9 +12,39 @@ use lib.Dec.{T, leb, eqb, le→leb, leb→le, T-not}
 use lib.Ieee.Bits.{is-true}
 use lib.ListN.{length, length-append}
 use mir.Facts.{and-yes, yes-and, or-yes, eqb-yes, yes-eqb}
-use borrow.Author.Tests.{ne-eqb}
+use borrow.Author.Tests.{ne-eqb, lt-ltb, le-ltb}
 use Rattle.text.specs.Numeral.{allDigits, isDigit, leads, isNumeral, mostDigits, digitsAfter, numeral}
-use Rattle.text.specs.Print.{digit, decimal, decimal-one, decimal-more}
+use Rattle.text.specs.Print.{digit, digits, decimal}
+
+-- ---- the equations a reader expects
+
+digits-one : (count n : ℕ) → n < 10 → digits (suc count) n ≡ digit n ∷ []
+unfolding digits
+digits-one count n h = rw (lt-ltb n 10 h)
+
+digits-more : (count n : ℕ) → 10 ≤ n → digits (suc count) n ≡ digits count (n / 10) ++ digit (n % 10) ∷ []
+unfolding digits
+digits-more count n h = rw (le-ltb n 10 h)
+
+-- two counts that are large enough give the same digits
+same-digits : (j k n : ℕ) → n < j → n < k → digits j n ≡ digits k n
+same-digits zero k n h g = absurd (not-suc-le-zero h)
+same-digits (suc j) zero n h g = absurd (not-suc-le-zero g)
+same-digits (suc j) (suc k) n h g =
+    by-cases (decLt n 10) (λ s. digits-one j n s ∙ sym (digits-one k n s))
+    (λ m. digits-more j n (omega arith)
+    ∙ ap (λ (l : List ℕ). l ++ digit (n % 10) ∷ []) (same-digits j k (n / 10) (omega arith) (omega arith))
+    ∙ sym (digits-more k n (omega arith)))
+
+pub decimal-one : (n : ℕ) → n < 10 → decimal n ≡ digit n ∷ []
+unfolding decimal
+decimal-one n h = digits-one n n h
+
+pub decimal-more : (n : ℕ) → 10 ≤ n → decimal n ≡ decimal (n / 10) ++ digit (n % 10) ∷ []
+unfolding decimal
+decimal-more n h =
+    digits-more n n h
+    ∙ ap (λ (l : List ℕ). l ++ digit (n % 10) ∷ []) (same-digits n (suc (n / 10)) (n / 10) (omega arith) (omega arith))
 
 -- what holds of each digit, and of n where it holds of n without its last digit, holds of every number
 by-digits : (P : ℕ → Type 0) → ((n : ℕ) → n < 10 → P n) → ((n : ℕ) → 10 ≤ n → P (n / 10) → P n) → (n : ℕ) → P n

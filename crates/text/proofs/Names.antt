@@ -6,7 +6,7 @@ use mathlib.Core.List.{List, [], _∷_}
 use Prim.Native.Nat.{ℕ}
 use lib.Dec.{T, eqb, eqb→eq, eqb-refl}
 use mir.Facts.{and-yes, yes-and}
-use Rattle.text.specs.Names.{sameBytes}
+use Rattle.text.specs.Lines.{sameBytes}
 
 same-self : (l : List ℕ) → T (sameBytes l l)
 unfolding sameBytes

@@ -1,5 +1,5 @@
 -- Lines and fields. A text is a list of bytes.
-use mathlib.Core.Bool.{cond}
+use mathlib.Core.Bool.{Bool, true, false, cond, _&&_}
 use mathlib.Core.List.{List, [], _∷_, _++_}
 use Prim.Native.Nat.{ℕ, suc}
 use lib.Dec.{eqb, leb}
@@ -38,3 +38,10 @@ fieldsFrom line i = cond (leb i (length line)) (fields (drop i line)) []
 unfoldable pub before : ℕ → List ℕ → ℕ
 before b [] = 0
 before b (x ∷ l) = cond (eqb x b) 0 (suc (before b l))
+
+-- the two lines have the same bytes
+unfoldable pub sameBytes : List ℕ → List ℕ → Bool
+sameBytes [] [] = true
+sameBytes [] (c ∷ m) = false
+sameBytes (b ∷ l) [] = false
+sameBytes (b ∷ l) (c ∷ m) = eqb b c && sameBytes l m

@@ -1,10 +1,8 @@
 -- "Each block is a line of names": the names lines, each written once.
-use mathlib.Core.Bool.{Bool, true, false, _&&_}
 use mathlib.Core.List.{List, [], _∷_}
 use Prim.Native.Nat.{ℕ}
 use Prim.Native.Char.{code}
 use Prim.Native.String.{String, [] as no-text, _∷_ as _then_}
-use lib.Dec.{eqb}
 
 -- the bytes of an ASCII text
 unfoldable pub bytes : String → List ℕ
@@ -26,10 +24,3 @@ partitionViews = bytes "partition views"
 unfoldable pub tableTerms : List ℕ
 unfolding bytes
 tableTerms = bytes "table terms"
-
--- the two lines have the same bytes
-unfoldable pub sameBytes : List ℕ → List ℕ → Bool
-sameBytes [] [] = true
-sameBytes [] (c ∷ m) = false
-sameBytes (b ∷ l) [] = false
-sameBytes (b ∷ l) (c ∷ m) = eqb b c && sameBytes l m

@@ -4,8 +4,7 @@ ghost use mathlib.Core.Bool.{not};
 ghost use mathlib.Core.Path.{_≡_};
 ghost use Prim.Native.Nat.{_-_, _<_, _≤_};
 ghost use lib.ListN.{length};
-ghost use Rattle.text.specs.Lines.{before};
-ghost use Rattle.text.specs.Names.{sameBytes};
+ghost use Rattle.text.specs.Lines.{before, sameBytes};
 ghost use Rattle.text.specs.Numeral.{leads};
 ghost use Rattle.text.specs.Value.{numeralValue};
 

@@ -16,7 +16,7 @@ use Rattle.theory.specs.Query.{shown, hidden, _∈_}
 use Rattle.theory.specs.Query.{Term as TheTerm}
 use Rattle.theory.specs.Executable.Test.{same, kind, number}
 use Rattle.theory.proofs.Executable.Test.{and-iff, same-iff}
-use Rattle.words.specs.Bits.{setBit, meet}
+use Rattle.words.specs.Sets.{setBit, meet}
 use Rattle.words.proofs.Tests.{meet-iff}
 use Rattle.model.specs.Limits.{mostColumns, termWithin, lastVariable}
 use Rattle.model.specs.Value.{termValue, unusedTerm}

@@ -6,8 +6,9 @@ use native.Mathlib.Omega.{arith}
 use Rattle.model.specs.Limits.{mostViews, mostPartitions}
 use Rattle.model.specs.Value.{tablesValue}
 use Rattle.model.specs.declared.Policy.{Policy}
-use Rattle.policy.specs.Text.{Declared, nothing}
-use Rattle.policy.specs.Value.{WellFormed}
+use Rattle.policy.specs.Text.{nothing}
+use Rattle.policy.specs.Declared.{Declared}
+use Rattle.policy.specs.WellFormed.{WellFormed}
 use Rattle.policy.specs.Policy.{policyValue}
 use Rattle.policy.proofs.Loads.{loadable-iff}
 use Rattle.validity.specs.Loadable.{Loadable}

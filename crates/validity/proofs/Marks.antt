@@ -5,7 +5,8 @@ use Prim.Native.Nat.{ℕ, _+_, _<_}
 use native.Mathlib.Nat.{eq-or-lt-of-le}
 use native.Mathlib.Decide.{ℕ-discrete}
 use native.Mathlib.Omega.{arith}
-use Rattle.words.specs.Bits.{bit, setBit}
+use Rattle.words.specs.Bits.{bit}
+use Rattle.words.specs.Sets.{setBit}
 use Rattle.words.proofs.Bits.{bit-zero}
 use Rattle.words.proofs.SetBits.{set-bit-same, set-bit-other}
 use Rattle.model.specs.declared.Term.{Term}

@@ -8,17 +8,16 @@ use native.Mathlib.Nat.{zero-mul, one-mul, zero-add, add-comm, mod-lt, mod-eq-of
 use native.Mathlib.Numerals.{one-add}
 use native.Mathlib.Omega.{arith}
 use borrow.Author.Tests.{eqb-true, eq-eqb}
-use lib.Dec.{eqb, ltb, not-T, ltb→lt}
+use lib.Dec.{eqb}
 use lib.ListN.{length}
 use lib.Pow.{pow-pos, mod-pow-add}
 use Rattle.theory.specs.Query.{_∈_}
-use Rattle.theory.specs.Executable.Test.{any}
-use Rattle.theory.proofs.Executable.Test.{all-iff, any-iff}
-use Rattle.words.specs.Bits.{bit, setBit}
+use Rattle.words.specs.Bits.{bit}
+use Rattle.words.specs.Sets.{setBit}
 use Rattle.words.proofs.Bits.{bit-cases, is-set, is-clear, bit-beyond}
 use Rattle.words.proofs.SetBits.{set-bit-adds, set-bit-below}
-use Rattle.model.specs.Limits.{mostViews, mostPartitions, upTo}
-use Rattle.policy.specs.Value.{GoodPartition}
+use Rattle.model.specs.Limits.{mostViews, mostPartitions}
+use Rattle.policy.specs.WellFormed.{GoodPartition}
 use Rattle.policy.specs.Policy.{viewsAfter}
 use Rattle.policy.specs.Abstract.{viewsIn}
 use Rattle.model.proofs.Limits.{up-to-iff}
@@ -57,10 +56,9 @@ module _ (n m : ℕ) (few : n ≤ 32) where
   unfolding mostViews
   of-good =
       record {
-        within = all-iff (upTo 32) (viewsIn n m) .1 (λ v i. let k = in-below n m v i in up-to-iff 32 v .1 (k .0, omega (arith, k .1)));
+        within = λ v i. let k = in-below n m v i in up-to-iff 32 v .1 (k .0, omega (arith, k .1));
         ascending = in-ascend n m;
-        declared = not-T (any (ltb n) (viewsIn n m)) (λ h.
-            let r = any-iff (ltb n) (viewsIn n m) .0 h in omega (arith, ltb→lt n (r .0) (r .2), in-below n m (r .0) (r .1) .1));
+        declared = λ v i. in-below n m v i .1;
       }
 
   after-below : (k : ℕ) (vs : List ℕ) → k < 2 ^ n → ((v : ℕ) → v ∈ vs → (1 ≤ v) × (v ≤ n)) → viewsAfter k vs < 2 ^ n

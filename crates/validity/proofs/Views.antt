@@ -4,25 +4,23 @@ use mathlib.Core.Logic.{_↔_}
 use mathlib.Core.List.{List, [], map}
 use Prim.Native.Nat.{ℕ, _-_, _≤_, _<_}
 use native.Mathlib.Omega.{arith}
-use lib.Dec.{leb→le, le→leb, eqb→eq}
 use lib.ListN.{length, getD, take, length-map}
 use lib.Seq.{take-all}
-use mir.Facts.{yes-eqb}
 use Rattle.theory.specs.Query.{Line as TheLine}
 use Rattle.theory.proofs.Executable.Test.{and-iff, all-iff}
-use Rattle.model.specs.Limits.{mostTables, mostColumns, mostViews, upTo, termWithin, lineWithin, known, wide}
+use Rattle.model.specs.Limits.{mostTables, mostColumns, mostViews, upTo, termWithin, lineWithin}
+use Rattle.model.specs.Checks.{known, wide}
 use Rattle.model.specs.Value.{pad, unusedTerm, termValue, termsValue, unusedLine, lineValue, tablesValue}
 use Rattle.model.specs.declared.Line.{Line}
 use Rattle.model.specs.declared.Tables.{Tables}
 use Rattle.model.specs.declared.Term.{Term}
-use Rattle.policy.specs.Value.{GoodView}
+use Rattle.policy.specs.WellFormed.{GoodView, GoodWidth}
 use Rattle.model.proofs.Limits.{up-to-iff}
-use Rattle.policy.specs.Value.{GoodWidth}
 use Rattle.validity.specs.Parts.{ValueOf, TablesOf, TermsHeld, ViewOf, ViewPlace, ViewsHeld}
 use Rattle.model.proofs.Pad.{pad-get}
 use Rattle.validity.proofs.Held.{Checked, checked-default, checked-held, held-checked, held-length, place-used}
 use Rattle.validity.proofs.Tables.{width-iff, tables-checked}
-use Rattle.validity.proofs.Clash.{clear-iff}
+use Rattle.validity.proofs.Clash.{apart-iff}
 
 -- eight terms or fewer are all kept
 kept : (l : List Term) → length l ≤ 8 → pad 8 unusedTerm (take 8 l) ≡ pad 8 unusedTerm l
@@ -52,9 +50,7 @@ module _ (widths : List ℕ) (t : Tables) (tables : TablesOf widths t) where
     view-table v =
         let A = v .thing in
         let same = ap (λ (x : Line). x .table) (v .is) in
-        let number = up-to-iff mostTables (A .table) .0 (and-iff (upTo mostTables (A .table)) _ .0 (v .good .within) .0) in
-        let last = leb→le (A .table) (length widths) (v .good .declared) in
-        (omega (arith, same, number .0), omega (arith, same, last, tables-count))
+        (omega (arith, same, v .good .fits .first), omega (arith, same, v .good .fits .last, tables-count))
 
     terms-view : 1 ≤ l .table → l .table ≤ t .count → TermsHeld (getD (t .columns) (l .table - 1) 0) (l .terms) → ViewOf widths l
     unfolding lineWithin known wide lineValue termsValue mostTables mostColumns
@@ -69,9 +65,8 @@ module _ (widths : List ℕ) (t : Tables) (tables : TablesOf widths t) where
                   up-to-iff 16 (l .table) .1 (some, omega (arith, tables-few)),
                   all-iff termWithin (A .columns) .1 (d .held .listed .each),
                 );
-                declared = le→leb (l .table) (length widths) (omega (arith, tables-count));
-                fitting = yes-eqb (sym (d .held .count) ∙ tables-width (l .table - 1));
-                clear = clear-iff A .1 (d .clear);
+                fits = record { first = some; last = omega (arith, tables-count); width = sym (d .held .count) ∙ tables-width (l .table - 1) };
+                clear = apart-iff A .1 (d .clear);
               };
           is = λ i. record { table = l .table; terms = terms i };
         }
@@ -84,7 +79,7 @@ module _ (widths : List ℕ) (t : Tables) (tables : TablesOf widths t) where
         let same : l .table ≡ A .table = ap (λ (x : Line). x .table) (v .is) in
         let w = width-within (l .table - 1) (omega (arith, at .0, at .1)) in
         let count : getD (t .columns) (l .table - 1) 0 ≡ length (A .columns) =
-        tables-width (l .table - 1) ∙ ap (λ (k : ℕ). getD widths (k - 1) 0) same ∙ sym (eqb→eq _ _ (v .good .fitting))
+        tables-width (l .table - 1) ∙ ap (λ (k : ℕ). getD widths (k - 1) 0) same ∙ sym (v .good .fits .width)
         in
         record {
           held =
@@ -100,7 +95,7 @@ module _ (widths : List ℕ) (t : Tables) (tables : TablesOf widths t) where
                 is = ap (λ (x : Line). x .terms) (v .is)
                     ∙ kept (map termValue (A .columns)) (rw length-map (omega (arith, w .1, count)));
               };
-          clear = clear-iff A .0 (v .good .clear);
+          clear = apart-iff A .0 (v .good .clear);
         }
 
     pub terms-iff : 1 ≤ l .table → l .table ≤ t .count

@@ -3,7 +3,8 @@ use mathlib.Core.Path.{_≡_}
 use mathlib.Core.List.{List}
 use Prim.Native.Nat.{ℕ}
 use Rattle.model.specs.declared.Policy.{Policy}
-use Rattle.policy.specs.Text.{Declared, load, accepted}
+use Rattle.policy.specs.Text.{load, accepted}
+use Rattle.policy.specs.Declared.{Declared}
 use Rattle.policy.specs.Policy.{policyValue}
 
 -- some text loads to the value

@@ -13,7 +13,7 @@ use Rattle.model.specs.Value.{pad, unusedTerm, termValue, unusedLine, lineValue
 use Rattle.model.specs.declared.Term.{Term}
 use Rattle.model.specs.declared.Line.{Line}
 use Rattle.model.specs.declared.Tables.{Tables}
-use Rattle.policy.specs.Value.{OneToMost, GoodWidth, GoodView, GoodPartition}
+use Rattle.policy.specs.WellFormed.{OneToMost, GoodWidth, GoodView, GoodPartition}
 use Rattle.policy.specs.Policy.{viewsAfter}
 
 -- ---- any part

@@ -5,7 +5,7 @@ ghost use mathlib.Core.Logic.{_↔_};
 ghost use mathlib.Core.Bool.{true};
 ghost use mathlib.Core.List.{List};
 ghost use Prim.Native.Nat.{ℕ, _≤_, _<_};
-ghost use Rattle.words.specs.Bits.{setBit};
+ghost use Rattle.words.specs.Sets.{setBit};
 ghost use Rattle.model.specs.Value.{unusedTerm, unusedLine};
 ghost use Rattle.validity.specs.Loadable.{Loadable};
 ghost use Rattle.validity.specs.Parts.{WidthPlace, TablesOf, TermOf, TermPlace, TermsHeld, ViewOf, ViewPlace, ViewsHeld, PartitionPlace, PartitionsHeld};

@@ -7,7 +7,8 @@ use native.Mathlib.Decide.{ℕ-discrete}
 use native.Mathlib.Omega.{arith}
 use lib.Bits.{bitXor, differ, xor-add-and, xor-shr, xor-step}
 use lib.Pow.{pow-lt, pow-pos, pow-mono}
-use Rattle.words.specs.Bits.{bit, setBit, clearBit}
+use Rattle.words.specs.Bits.{bit}
+use Rattle.words.specs.Sets.{setBit, clearBit}
 use Rattle.words.proofs.Bits.{bit-cases, bit-half, bit-lowest, is-set, is-clear}
 use Rattle.words.proofs.Masks.{bit-power-same, bit-power-other, and-power}
 use Rattle.words.proofs.SetBits.{set-bit-same, set-bit-other}

@@ -7,7 +7,8 @@ use native.Mathlib.Decide.{ℕ-discrete}
 use native.Mathlib.Omega.{arith}
 use lib.Arith.{lt-one}
 use lib.Count.{ones, ones-step}
-use Rattle.words.specs.Bits.{bit, setBit, onesBelow, Least, LeastDropped}
+use Rattle.words.specs.Bits.{bit, onesBelow}
+use Rattle.words.specs.Sets.{setBit, Least, LeastDropped}
 use Rattle.words.proofs.Bits.{bit-cases, bit-le-one, bit-zero, bit-half, bit-lowest, half-below}
 use Rattle.words.proofs.SetBits.{set-bit-same, set-bit-other}
 use Rattle.words.proofs.Lowest.{dropped-same, dropped-other}

@@ -11,7 +11,8 @@ use lib.Bits.{bitAnd, and-step, and-self}
 use lib.Count.{trailingZeros}
 use lib.Dec.{eqb}
 use lib.Pow.{pow-pos}
-use Rattle.words.specs.Bits.{bit, Least, LeastDropped}
+use Rattle.words.specs.Bits.{bit}
+use Rattle.words.specs.Sets.{Least, LeastDropped}
 use Rattle.words.proofs.Bits.{bit-cases, bit-half, bit-lowest, half-below}
 use Rattle.words.proofs.SetBits.{set-bit-adds, set-bit-other}
 

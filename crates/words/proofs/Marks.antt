@@ -9,7 +9,8 @@ use native.Mathlib.Omega.{arith}
 use lib.Dec.{T}
 use lib.ListN.{length, getD, set, length-set}
 use lib.Seq.{getD-set-same, getD-set-other}
-use Rattle.words.specs.Bits.{bit, setBit, Upto, Least, LeastDropped}
+use Rattle.words.specs.Bits.{bit}
+use Rattle.words.specs.Sets.{setBit, Upto, Least, LeastDropped}
 use Rattle.words.proofs.Bits.{bit-zero, bit-cases}
 use Rattle.words.proofs.SetBits.{set-bit-same, set-bit-other}
 use Rattle.words.proofs.Lowest.{dropped-same, dropped-other}

@@ -7,7 +7,8 @@ use native.Mathlib.Decide.{ℕ-discrete}
 use native.Mathlib.Omega.{arith}
 use lib.Bits.{bitOr, or-disjoint, or-add-and, or-lt}
 use lib.Pow.{pow-lt}
-use Rattle.words.specs.Bits.{bit, setBit}
+use Rattle.words.specs.Bits.{bit}
+use Rattle.words.specs.Sets.{setBit}
 use Rattle.words.proofs.Bits.{bit-le-one, bit-cases, is-set, is-clear}
 use Rattle.words.proofs.Masks.{bit-or, bit-power-same, bit-power-other, and-power}
 

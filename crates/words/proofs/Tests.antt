@@ -9,7 +9,8 @@ use borrow.Author.Tests.{eqb-true, eqb-false, eq-eqb, ne-eqb, not-true}
 use lib.Bits.{bitAnd, and-le-l, and-le-r, and-mask}
 use lib.Count.{trailingZeros}
 use lib.Dec.{eqb}
-use Rattle.words.specs.Bits.{bit, isSet, meet, include}
+use Rattle.words.specs.Bits.{bit, isSet}
+use Rattle.words.specs.Sets.{meet, include}
 use Rattle.words.proofs.Bits.{bit-cases, bit-zero, bits-ext, is-set}
 use Rattle.words.proofs.Masks.{bit-and, bit-and-iff}
 use Rattle.words.proofs.Lowest.{trailing-least}

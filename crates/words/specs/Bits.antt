@@ -1,8 +1,6 @@
 -- Words as numbers: a word of w bits is a number below 2 ^ w, and bit 0 is its lowest.
-use mathlib.Core.Path.{_≡_}
-use mathlib.Core.Logic.{_↔_}
-use mathlib.Core.Bool.{Bool, true, false, cond, not, _&&_, _||_}
-use Prim.Native.Nat.{ℕ, zero, suc, _+_, _-_, _/_, _%_, _^_, _≤_, _<_}
+use mathlib.Core.Bool.{Bool}
+use Prim.Native.Nat.{ℕ, zero, suc, _+_, _/_, _%_, _^_}
 use lib.Dec.{eqb}
 
 -- bit k of a word
@@ -13,41 +11,7 @@ bit n k = n / 2 ^ k % 2
 abbrev pub isSet : ℕ → ℕ → Bool
 isSet n k = eqb (bit n k) 1
 
--- the word with bit k set
-unfoldable pub setBit : ℕ → ℕ → ℕ
-setBit n k = cond (isSet n k) n (n + 2 ^ k)
-
--- the word with bit k clear
-unfoldable pub clearBit : ℕ → ℕ → ℕ
-clearBit n k = cond (isSet n k) (n - 2 ^ k) n
-
--- some bit below w is set in both words
-unfoldable pub meet : ℕ → ℕ → ℕ → Bool
-meet zero a b = false
-meet (suc w) a b = (isSet a w && isSet b w) || meet w a b
-
--- every bit below w that is set in b is set in a
-unfoldable pub include : ℕ → ℕ → ℕ → Bool
-include zero a b = true
-include (suc w) a b = (not (isSet b w) || isSet a w) && include w a b
-
 -- how many bits below w are set
 unfoldable pub onesBelow : ℕ → ℕ → ℕ
 onesBelow zero n = zero
 onesBelow (suc w) n = bit n w + onesBelow w n
-
--- the bits below p are set exactly where P holds, and none from p on
-pub record Upto (P : ℕ → Type 0) (p m : ℕ) : Type 0 where
-  pub below : (b : ℕ) → b < p → (bit m b ≡ 1) ↔ P b
-  pub past : (b : ℕ) → p ≤ b → bit m b ≡ 0
-
--- k is the least of the set bits of n, and below w
-pub record Least (w n k : ℕ) : Type 0 where
-  pub below : k < w
-  pub set : bit n k ≡ 1
-  pub none : (j : ℕ) → j < k → bit n j ≡ 0
-
--- r is n with its least set bit cleared
-pub record LeastDropped (w n r : ℕ) : Type 0 where
-  pub bits : (k j : ℕ) → Least w n k → bit r j ≡ cond (eqb j k) 0 (bit n j)
-  pub less : r < n

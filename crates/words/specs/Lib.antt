@@ -1,2 +1,3 @@
 -- Words and their bits.
 pub mod Bits
+pub mod Sets

@@ -3,7 +3,8 @@
 ghost use mathlib.Core.Path.{_≡_};
 ghost use mathlib.Core.Bool.{cond};
 ghost use Prim.Native.Nat.{_+_, _*_, _/_, _%_, _^_, _-_, _<_};
-ghost use Rattle.words.specs.Bits.{isSet, setBit, clearBit, meet, include, onesBelow, Least, LeastDropped};
+ghost use Rattle.words.specs.Bits.{isSet, onesBelow};
+ghost use Rattle.words.specs.Sets.{setBit, clearBit, meet, include, Least, LeastDropped};
 
 // The word with bit `k` set.
 pub fn set_bit(m: u64, k: u64) -> u64

@@ -3,8 +3,8 @@ use mathlib.Core.List.{List, [], _∷_}
 use Prim.Native.Nat.{ℕ, _+_, _/_, _%_, _^_, _≤_, _<_}
 use native.Mathlib.Omega.{arith}
 use lib.ListN.{length}
-use Rattle.text.specs.Print.{digit, decimal, decimal-one, decimal-more}
-use Rattle.text.proofs.Decimals.{length-iff}
+use Rattle.text.specs.Print.{digit, decimal}
+use Rattle.text.proofs.Decimals.{decimal-one, decimal-more, length-iff}
 use Rattle.writing.specs.Wrote.{Wrote}
 use Rattle.writing.proofs.Wrote.{wrote-more}
 

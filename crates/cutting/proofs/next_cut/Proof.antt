@@ -7,8 +7,8 @@ use native.Mathlib.Omega.{arith}
 use borrow.Author.Needs.{needs}
 use lib.Dec.{ltb}
 use lib.ListN.{length, take, drop, length-take, length-drop}
-use Rattle.text.specs.Lines.{before}
-use Rattle.text.specs.Names.{tableTerms, sameBytes}
+use Rattle.text.specs.Lines.{before, sameBytes}
+use Rattle.text.specs.Names.{tableTerms}
 use Rattle.text.proofs.Parts.{found, found-le, found-line, found-none, found-some}
 use Rattle.cutting.proofs.Walk.{Walked, walked-none, stops, ends, cuts, walked-more}
 use Rattle.cutting.proofs.next_cut.Statement.{statement}

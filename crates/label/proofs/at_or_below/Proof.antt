@@ -1,6 +1,6 @@
 use mathlib.Core.Path.{sym, ap₂, _∙_}
 use borrow.Author.Needs.{needs}
-use Rattle.words.specs.Bits.{include}
+use Rattle.words.specs.Sets.{include}
 use Rattle.label.proofs.Halves.{other-table, same-table}
 use Rattle.label.proofs.at_or_below.Statement.{statement}
 use Rattle.label.proofs.at_or_below.Tie as tie

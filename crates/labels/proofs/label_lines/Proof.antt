@@ -10,7 +10,7 @@ use Rattle.theory.specs.Executable.Label.{label}
 use Rattle.theory.specs.Executable.Show.{showTerm}
 use Rattle.words.specs.Bits.{isSet}
 use Rattle.model.specs.Value.{pad}
-use Rattle.policy.specs.Text.{Declared}
+use Rattle.policy.specs.Declared.{Declared}
 use Rattle.reduce.specs.Left.{pick, linesAt}
 use Rattle.reduce.specs.Showing.{SharedWord}
 use Rattle.labels.specs.Posed.{Ready, Rows}

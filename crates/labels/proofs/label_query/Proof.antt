@@ -9,7 +9,7 @@ use Rattle.theory.specs.Query.{Query}
 use Rattle.theory.specs.Executable.Label.{label, labels}
 use Rattle.theory.specs.Executable.Show.{show}
 use Rattle.model.specs.declared.Query.{Query as QueryValue}
-use Rattle.policy.specs.Text.{Declared}
+use Rattle.policy.specs.Declared.{Declared}
 use Rattle.reduce.proofs.Lines.{held-count}
 use Rattle.labels.specs.Posed.{Posed, labelsValue}
 use Rattle.labels.proofs.Lines.{rows-shown}

@@ -7,7 +7,7 @@ use lib.ListN.{getD}
 use borrow.Author.Needs.{needs}
 use borrow.Author.Tests.{not-true, not-false}
 use Rattle.theory.specs.Executable.Test.{all}
-use Rattle.words.specs.Bits.{meet}
+use Rattle.words.specs.Sets.{meet}
 use Rattle.labels.specs.Posed.{labelsValue}
 use Rattle.labels.proofs.Words.{Passed, passed-more, one-fails, all-passed}
 use Rattle.labels.proofs.settles.Statement.{statement}

@@ -8,8 +8,8 @@ use lib.ListN.{length, take, drop, length-take, length-drop}
 use lib.Seq.{take-all}
 use borrow.Author.Needs.{needs}
 use borrow.Author.Tests.{not-true, not-false}
-use Rattle.text.specs.Lines.{lines, before}
-use Rattle.text.specs.Names.{tableColumns, sameBytes}
+use Rattle.text.specs.Lines.{lines, before, sameBytes}
+use Rattle.text.specs.Names.{tableColumns}
 use Rattle.text.proofs.Lines.{before-le}
 use Rattle.policy.specs.Text.{tables, nothing, loadFrom}
 use Rattle.load.specs.Value.{loadingValue}

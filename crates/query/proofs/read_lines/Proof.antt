@@ -11,7 +11,8 @@ use lib.ListN.{length, drop, length-take, length-drop}
 use Rattle.theory.specs.Query.{Line}
 use Rattle.text.specs.Lines.{before}
 use Rattle.model.specs.Fields.{queryLine}
-use Rattle.model.specs.Value.{parsedLine, tablesValue}
+use Rattle.model.specs.Value.{tablesValue}
+use Rattle.model.specs.Parsed.{parsedLine}
 use Rattle.query.specs.Text.{fault}
 use Rattle.query.specs.Value.{readingValue}
 use Rattle.query.proofs.Faults.{well-formed, malformed, is-good, is-tabled}

@@ -6,8 +6,8 @@ use native.Mathlib.Omega.{arith}
 use borrow.Author.Needs.{needs}
 use borrow.Author.Tests.{not-true, not-false}
 use lib.ListN.{length, take, drop, length-take}
-use Rattle.text.specs.Lines.{before}
-use Rattle.text.specs.Names.{tableTerms, sameBytes}
+use Rattle.text.specs.Lines.{before, sameBytes}
+use Rattle.text.specs.Names.{tableTerms}
 use Rattle.text.proofs.Lines.{before-le}
 use Rattle.query.specs.Value.{readingValue}
 use Rattle.query.proofs.Names.{too-long, unnamed, misnamed, well-named}

@@ -3,10 +3,11 @@ use mathlib.Core.Path.{_≡_, refl, ap, _∙_}
 use Prim.Native.Nat.{ℕ, _+_, _-_, _^_, _≤_}
 use native.Mathlib.Omega.{arith}
 use lib.ListN.{length}
-use Rattle.policy.specs.Text.{Declared, load, accepted}
+use Rattle.policy.specs.Text.{load, accepted}
+use Rattle.policy.specs.Declared.{Declared}
 use Rattle.labels.specs.Text.{LoadedTo}
 use Rattle.desk.specs.Reply.{refused}
-use Rattle.desk.specs.Session.{allOpen}
+use Rattle.desk.specs.Opening.{allOpen}
 use Rattle.desk.proofs.Loaded.{partition-count, few-partitions}
 use Rattle.run.specs.Output.{outputNames, wordBytes}
 use Rattle.run.proofs.Written.{loads-to, loads-not, behind-names, written-refused, written-accepted}

@@ -1,7 +1,7 @@
 use mathlib.Core.Logic.{Iff·trans}
 use borrow.Author.Needs.{needs}
 use borrow.Author.Tests.{eqb-true, eq-eqb}
-use Rattle.policy.specs.Value.{GoodPartition}
+use Rattle.policy.specs.WellFormed.{GoodPartition}
 use Rattle.policy.specs.Policy.{viewsAfter}
 use Rattle.validity.specs.Parts.{ValueOf}
 use Rattle.validity.proofs.Held.{used-iff, unused-iff}

@@ -50,9 +50,7 @@ use Rattle.desk.specs.declared.opening.Session.{Session}
 use Rattle.desk.specs.declared.deciding.Reply.{Reply}
 use Rattle.desk.specs.declared.deciding.Decision.{Decision}
 use Rattle.desk.specs.Deciding.{Decided}
-use Rattle.desk.proofs.MachineValues.{policy-val, session-val, decision-val, IsPolicy, IsSession, IsDecision}
-use Rattle.desk.proofs.MachineValues.{session-only, reply-only, session-at, reply-at, decision-of}
-use Rattle.desk.proofs.MachineValues.{policy-typed, session-typed, reply-typed, decision-typed, policy-made, session-made, decision-made}
+use Rattle.desk.proofs.MachineValues.{policy-val, session-val, decision-val, IsPolicy, IsSession, IsDecision, session-only, reply-only, session-at, reply-at, decision-of, policy-typed, session-typed, reply-typed, decision-typed, policy-made, session-made, decision-made}
 use Rattle.desk.proofs.opening.Session as S
 use Rattle.desk.proofs.opening.Session.Laws as S′
 use Rattle.desk.proofs.deciding.Decision as D

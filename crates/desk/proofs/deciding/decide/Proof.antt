@@ -48,8 +48,7 @@ use Rattle.model.proofs.Policy.Laws as P′
 use Rattle.desk.specs.declared.opening.Session.{Session}
 use Rattle.desk.specs.declared.deciding.Decision.{Decision}
 use Rattle.desk.specs.Deciding.{Decided}
-use Rattle.desk.proofs.MachineValues.{policy-val, session-val, reply-val, IsPolicy, IsReply, decision-only, reply-of, session-of}
-use Rattle.desk.proofs.MachineValues.{policy-typed, session-typed, reply-typed, decision-typed, policy-made, session-made, reply-made}
+use Rattle.desk.proofs.MachineValues.{policy-val, session-val, reply-val, IsPolicy, IsReply, decision-only, reply-of, session-of, policy-typed, session-typed, reply-typed, decision-typed, policy-made, session-made, reply-made}
 use Rattle.desk.proofs.opening.Session as S
 use Rattle.desk.proofs.opening.Session.Laws as S′
 use Rattle.desk.proofs.deciding.Decision as D

@@ -4,7 +4,7 @@ use mathlib.Core.List.{List}
 use Prim.Native.Nat.{ℕ, _-_, _≤_}
 use native.Mathlib.Omega.{arith}
 use lib.ListN.{getD}
-use Rattle.words.specs.Bits.{Upto}
+use Rattle.words.specs.Sets.{Upto}
 use Rattle.words.proofs.Marks.{upto-none, upto-all, by-test}
 use Rattle.labels.specs.Posed.{labelsValue}
 use Rattle.labels.specs.Settled.{settled}

@@ -4,7 +4,7 @@ use native.Mathlib.Omega.{arith}
 use Prim.Native.Nat.{ℕ, _-_, _^_}
 use Rattle.words.proofs.Answers.{passes, fails}
 use Rattle.model.specs.declared.Outcome.the-variants.{Accepted}
-use Rattle.desk.specs.Session.{allOpen}
+use Rattle.desk.specs.Opening.{allOpen}
 use Rattle.desk.proofs.Loaded.{loaded-to, partition-count, few-partitions}
 use Rattle.desk.proofs.opening.open_session.Statement.{statement}
 use Rattle.desk.proofs.opening.open_session.Tie as tie

@@ -1,6 +1,6 @@
 -- `model::read::blank`: the value is the definition's.
 use mathlib.Core.Path.{refl}
-use Rattle.model.specs.Value.{blankValue}
+use Rattle.model.specs.Parsed.{blankValue}
 use Rattle.model.proofs.read.blank.Statement.{statement}
 use Rattle.model.proofs.read.blank.Tie as tie
 

@@ -6,7 +6,7 @@ use borrow.Author.Needs.{needs}
 use Rattle.text.specs.Value.{numeralValue}
 use Rattle.model.specs.Fields.{term}
 use Rattle.model.specs.Marks.{markOf}
-use Rattle.model.specs.Value.{fieldValue}
+use Rattle.model.specs.Parsed.{fieldValue}
 use Rattle.text.proofs.Parts.{to-end}
 use Rattle.model.proofs.TermFields.{marked, value-within, value-outside, empty-read, unmarked-read, marked-read}
 use Rattle.model.proofs.read.read_term.Statement.{statement}

@@ -8,7 +8,7 @@ use lib.ListN.{length, take, drop}
 use Rattle.text.proofs.Parts.{first-length}
 use Rattle.model.specs.Fields.{term}
 use Rattle.model.specs.Limits.{termWithin}
-use Rattle.model.specs.Value.{goodValue}
+use Rattle.model.specs.Parsed.{goodValue}
 use Rattle.model.proofs.FieldsRead.{next-field, next-room}
 use Rattle.model.proofs.TermsRead.{TermsRead, NextTerm, no-terms, next-malformed, next-outside, next-small, next-within, all-outside, all-within}
 use Rattle.model.proofs.read.read_terms.Statement.{statement}

@@ -1,7 +1,7 @@
 -- `model::read::up_to`: a number that is not large is compared with the most.
 use borrow.Author.Needs.{needs}
 use borrow.Author.Tests.{le-leb, lt-leb}
-use Rattle.model.specs.Value.{upToValue}
+use Rattle.model.specs.Parsed.{upToValue}
 use Rattle.model.proofs.Tags.{tag-numberless}
 use Rattle.model.proofs.read.up_to.Statement.{statement}
 use Rattle.model.proofs.read.up_to.Tie as tie

@@ -5,7 +5,7 @@ use native.Mathlib.Omega.{arith}
 use borrow.Author.Tests.{not-true}
 use borrow.Fn.Kinds.{In}
 use borrow.Fn.PlainCycle.{Measures, is, falls, and}
-use Rattle.words.specs.Bits.{Least, LeastDropped}
+use Rattle.words.specs.Sets.{Least, LeastDropped}
 use Rattle.words.proofs.Bits.{bit-within}
 use Rattle.words.proofs.Answers.{yes-iff, no-iff}
 use Rattle.reduce.proofs.Rows.{Tried, extends-none, extends-join, empty-none, tried-none, tried-more, tried-all}

@@ -3,7 +3,7 @@ use Prim.Native.Nat.{_+_, _*_, _-_, _≤_}
 use native.Mathlib.Omega.{arith}
 use lib.ListN.{length}
 use Rattle.theory.specs.Query.{Line as TheLine}
-use Rattle.words.specs.Bits.{Upto}
+use Rattle.words.specs.Sets.{Upto}
 use Rattle.words.proofs.Marks.{upto-none}
 use Rattle.model.specs.Rows.{LaidAt}
 use Rattle.model.specs.Value.{lineValue}

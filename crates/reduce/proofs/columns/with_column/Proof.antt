@@ -4,7 +4,7 @@ use native.Mathlib.Nat.{add-zero}
 use native.Mathlib.Omega.{arith}
 use lib.ListN.{length}
 use Rattle.theory.specs.Query.{Line as TheLine}
-use Rattle.words.specs.Bits.{Upto}
+use Rattle.words.specs.Sets.{Upto}
 use Rattle.model.specs.Rows.{termAt, LaidAt}
 use Rattle.model.specs.Value.{lineValue}
 use Rattle.reduce.specs.Columns.{SameColumn}

@@ -1,4 +1,4 @@
--- Document 01, "Determining": a partition of what a policy text declares, and the queries that it determines.
+-- What a policy text declares, and document 01, "Determining": which queries a partition of it determines.
 use mathlib.Core.Path.{_≡_}
 use mathlib.Core.List.{List}
 use mathlib.Core.Option.{some}
@@ -6,7 +6,12 @@ use Prim.Native.Nat.{ℕ, _-_, _≤_}
 use lib.ListN.{getElem?}
 use Rattle.theory.specs.Query.{Line, Query, _∈_}
 use Rattle.theory.specs.Archive.{DeterminedBy}
-use Rattle.policy.specs.Text.{Declared}
+
+-- the text's tables (their columns), views and partitions (the numbers of their views), in file order
+pub record Declared : Type 0 where
+  pub widths : List ℕ
+  pub views : List Line
+  pub partitions : List (List ℕ)
 
 -- v is one of the views of partition n, which is counted from 0: the partition lists the view's number, counted from 1
 pub record Grants (d : Declared) (n : ℕ) (v : Line) : Type 0 where
