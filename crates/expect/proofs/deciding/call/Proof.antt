@@ -62,10 +62,10 @@ use Rattle.desk.proofs.decide as decide
 use Rattle.desk.proofs.decide.Symbol as decide-def
 use Rattle.desk.proofs.decide.Symbol.{name as #decide}
 use Rattle.desk.proofs.decide.Met as decide-thm
-use Rattle.decisions.proofs.expect.call.Key.{name as #call}
-use Rattle.decisions.proofs.expect.call as call
-use Rattle.decisions.proofs.expect.call.Statement as stated
-use Rattle.decisions.proofs.expect.call.Code as code
+use Rattle.expect.proofs.deciding.call.Key.{name as #call}
+use Rattle.expect.proofs.deciding.call as call
+use Rattle.expect.proofs.deciding.call.Statement as stated
+use Rattle.expect.proofs.deciding.call.Code as code
 
 -- the places of the parameters in the signature; each is handed on, and nothing of it is had at exit
 abbrev policy-slot : Slot 1
