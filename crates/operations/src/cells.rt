@@ -18,21 +18,35 @@ pub fn untouched_32() -> [u32; 10]
     [BEFORE as u32; 10]
 }
 
-// A list of one word at the head of the buffer, and one of two.
-pub fn one(a: u64) -> [u64; 10] {
-    let b = BEFORE;
-    [a, b, b, b, b, b, b, b, b, b]
+// A list at the head of the buffer: how many words it has, and the cells; those past it are as before.
+pub struct List {
+    pub count: u64,
+    pub cells: [u64; 10],
 }
 
-pub fn two(a: u64, b: u64) -> [u64; 10] {
+pub fn one(a: u64) -> List {
+    let b = BEFORE;
+    List {
+        count: 1,
+        cells: [a, b, b, b, b, b, b, b, b, b],
+    }
+}
+
+pub fn two(a: u64, b: u64) -> List {
     let c = BEFORE;
-    [a, b, c, c, c, c, c, c, c, c]
+    List {
+        count: 2,
+        cells: [a, b, c, c, c, c, c, c, c, c],
+    }
 }
 
 // Eight words, all of them equal but the seventh.
-pub fn eight(a: u64, seventh: u64) -> [u64; 10] {
+pub fn eight(a: u64, seventh: u64) -> List {
     let b = BEFORE;
-    [a, a, a, a, a, a, seventh, a, b, b]
+    List {
+        count: 8,
+        cells: [a, a, a, a, a, a, seventh, a, b, b],
+    }
 }
 
 // The cells of a buffer of 32-bit numbers.

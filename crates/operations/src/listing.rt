@@ -4,10 +4,8 @@
 use crate::cells::eight;
 use crate::cells::one;
 use crate::cells::two;
-use crate::cells::untouched;
 use crate::compare::labels;
-use expect::given;
-use expect::refused;
+use crate::compare::no_labels;
 use model::Policy;
 
 // Labels of table 1, with view 1 and with views 1 and 2.
@@ -23,25 +21,25 @@ const VIEWS_3_4: u64 = 51539607554;
 // The rows marked (P), in document 01's words.
 pub fn marked_of_table_1(p: Policy, start: u64) -> u64 {
     let text = b"table terms\n1 !1 #4 ?2\n";
-    let mut n = labels(start, p, text, 10, given(1), one(VIEWS_1_2));
+    let mut n = labels(start, p, text, 10, one(VIEWS_1_2));
     let text = b"table terms\n1 !1 !2 !3\n";
-    n = labels(n, p, text, 10, given(1), one(VIEW_1));
+    n = labels(n, p, text, 10, one(VIEW_1));
     let text = b"table terms\n1 !1 ?2 ?2\n";
-    n = labels(n, p, text, 10, given(1), one(VIEW_1));
+    n = labels(n, p, text, 10, one(VIEW_1));
     let text = b"table terms\n1 !1 !1 ?2\n";
-    n = labels(n, p, text, 10, given(1), one(VIEWS_1_2));
+    n = labels(n, p, text, 10, one(VIEWS_1_2));
     n
 }
 
 pub fn marked_of_table_2(p: Policy, start: u64) -> u64 {
     let text = b"table terms\n2 !1 ?2\n";
-    let mut n = labels(start, p, text, 10, given(1), one(VIEW_3));
+    let mut n = labels(start, p, text, 10, one(VIEW_3));
     let text = b"table terms\n2 !1 #7\n";
-    n = labels(n, p, text, 10, given(1), one(VIEWS_3_4));
+    n = labels(n, p, text, 10, one(VIEWS_3_4));
     let text = b"table terms\n2 !1 #8\n";
-    n = labels(n, p, text, 10, given(1), one(VIEW_3));
+    n = labels(n, p, text, 10, one(VIEW_3));
     let text = b"table terms\n2 ?1 ?2\n";
-    n = labels(n, p, text, 10, given(1), one(VIEW_3));
+    n = labels(n, p, text, 10, one(VIEW_3));
     n
 }
 
@@ -49,33 +47,33 @@ pub fn marked_of_table_2(p: Policy, start: u64) -> u64 {
 // have view 2 in each; and view 2 hides the third column, so it must not cover a line that asks for a constant there.
 pub fn astray(p: Policy, start: u64) -> u64 {
     let text = b"table terms\n1 !1 !2 ?3\n1 ?4 !2 ?3\n";
-    let mut n = labels(start, p, text, 10, given(1), one(VIEWS_1_2));
+    let mut n = labels(start, p, text, 10, one(VIEWS_1_2));
     let text = b"table terms\n1 !1 #4 ?2\n1 !3 #5 ?2\n";
-    n = labels(n, p, text, 10, given(2), two(VIEW_1, VIEW_1));
+    n = labels(n, p, text, 10, two(VIEW_1, VIEW_1));
     let text = b"table terms\n1 !1 !2 #5\n";
-    n = labels(n, p, text, 10, given(1), one(VIEW_1));
+    n = labels(n, p, text, 10, one(VIEW_1));
     n
 }
 
 // Two lines that stay, in either order: views 1 and 2, and views 3 and 4.
 pub fn two_tables(p: Policy, start: u64) -> u64 {
     let text = b"table terms\n1 !1 #4 ?2\n2 !1 #7\n";
-    let mut n = labels(start, p, text, 10, given(2), two(VIEWS_1_2, VIEWS_3_4));
+    let mut n = labels(start, p, text, 10, two(VIEWS_1_2, VIEWS_3_4));
     let text = b"table terms\n2 !1 #7\n1 !1 #4 ?2\n";
-    n = labels(n, p, text, 10, given(2), two(VIEWS_3_4, VIEWS_1_2));
+    n = labels(n, p, text, 10, two(VIEWS_3_4, VIEWS_1_2));
     n
 }
 
 // The list is taken at its exact length; with one cell less the call meets 10, and so does an empty buffer.
 pub fn rooms(p: Policy, start: u64) -> u64 {
     let text = b"table terms\n2 !1 ?2\n";
-    let mut n = labels(start, p, text, 0, refused(10, 0), untouched());
-    n = labels(n, p, text, 1, given(1), one(VIEW_3));
+    let mut n = no_labels(start, p, text, 0, 10, 0);
+    n = labels(n, p, text, 1, one(VIEW_3));
     let text = b"table terms\n1 !1 #4 ?2\n1 !3 #5 ?2\n";
-    n = labels(n, p, text, 0, refused(10, 0), untouched());
-    n = labels(n, p, text, 1, refused(10, 0), untouched());
-    n = labels(n, p, text, 2, given(2), two(VIEW_1, VIEW_1));
-    n = labels(n, p, text, 3, given(2), two(VIEW_1, VIEW_1));
+    n = no_labels(n, p, text, 0, 10, 0);
+    n = no_labels(n, p, text, 1, 10, 0);
+    n = labels(n, p, text, 2, two(VIEW_1, VIEW_1));
+    n = labels(n, p, text, 3, two(VIEW_1, VIEW_1));
     n
 }
 
@@ -84,39 +82,39 @@ pub fn eight_lines(p: Policy, start: u64) -> u64 {
     let text =
         b"table terms\n2 !1 #1\n2 !1 #2\n2 !1 #3\n2 !1 #4\n2 !1 #5\n2 !1 #6\n2 !1 #7\n2 !1 #8\n";
     let list = eight(VIEW_3, VIEWS_3_4);
-    let mut n = labels(start, p, text, 7, refused(10, 0), untouched());
-    n = labels(n, p, text, 8, given(8), list);
-    n = labels(n, p, text, 10, given(8), list);
+    let mut n = no_labels(start, p, text, 7, 10, 0);
+    n = labels(n, p, text, 8, list);
+    n = labels(n, p, text, 10, list);
     n
 }
 
 // A table without a view: its number is all of the label. The last of 32 views: bit 63, and view 5 at bit 36.
 pub fn edges(wider: Policy, widest: Policy, start: u64) -> u64 {
     let text = b"table terms\n3 !1\n";
-    let mut n = labels(start, wider, text, 10, given(1), one(3));
+    let mut n = labels(start, wider, text, 10, one(3));
     let text = b"table terms\n1 !1\n";
-    n = labels(n, widest, text, 10, given(1), one(9223372036854775809));
+    n = labels(n, widest, text, 10, one(9223372036854775809));
     let text = b"table terms\n1 #5\n";
-    n = labels(n, widest, text, 10, given(1), one(9223372105574252545));
+    n = labels(n, widest, text, 10, one(9223372105574252545));
     n
 }
 
 // Texts that are turned back.
 pub fn texts(p: Policy, start: u64) -> u64 {
-    let mut n = labels(start, p, b"", 10, refused(1, 1), untouched());
+    let mut n = no_labels(start, p, b"", 10, 1, 1);
     let text = b"table terms\n1 !1 #4 ?64\n";
-    n = labels(n, p, text, 10, refused(2, 2), untouched());
+    n = no_labels(n, p, text, 10, 2, 2);
     let text = b"table terms\n1 !1 #4 ?2\n3 !1\n";
-    n = labels(n, p, text, 10, refused(4, 3), untouched());
+    n = no_labels(n, p, text, 10, 4, 3);
     let text = b"table terms\n1 !1 !2\n";
-    n = labels(n, p, text, 10, refused(5, 2), untouched());
+    n = no_labels(n, p, text, 10, 5, 2);
     let text = b"table terms\n1 !1 !2 ?1\n";
-    n = labels(n, p, text, 10, refused(6, 2), untouched());
+    n = no_labels(n, p, text, 10, 6, 2);
     let text =
         b"table terms\n2 !1 #1\n2 !1 #2\n2 !1 #3\n2 !1 #4\n2 !1 #5\n2 !1 #6\n2 !1 #7\n2 !1 #8\n2 !1 #9\n";
-    n = labels(n, p, text, 10, refused(7, 10), untouched());
+    n = no_labels(n, p, text, 10, 7, 10);
     let long = [b'1'; 4097];
-    n = labels(n, p, &long, 10, refused(7, 0), untouched());
+    n = no_labels(n, p, &long, 10, 7, 0);
     n
 }
 
@@ -124,15 +122,15 @@ pub fn texts(p: Policy, start: u64) -> u64 {
 pub fn orders(p: Policy, altered: Policy, start: u64) -> u64 {
     let good = b"table terms\n2 !1 ?2\n";
     let wrong = b"table terms\n2 !1 ?64\n";
-    let mut n = labels(start, altered, good, 10, refused(8, 0), untouched());
-    n = labels(n, altered, wrong, 10, refused(8, 0), untouched());
-    n = labels(n, altered, good, 0, refused(8, 0), untouched());
-    n = labels(n, altered, wrong, 0, refused(8, 0), untouched());
-    n = labels(n, p, wrong, 0, refused(2, 2), untouched());
+    let mut n = no_labels(start, altered, good, 10, 8, 0);
+    n = no_labels(n, altered, wrong, 10, 8, 0);
+    n = no_labels(n, altered, good, 0, 8, 0);
+    n = no_labels(n, altered, wrong, 0, 8, 0);
+    n = no_labels(n, p, wrong, 0, 2, 2);
     let long = [b'1'; 4097];
-    n = labels(n, altered, &long, 0, refused(8, 0), untouched());
-    n = labels(n, p, &long, 0, refused(7, 0), untouched());
+    n = no_labels(n, altered, &long, 0, 8, 0);
+    n = no_labels(n, p, &long, 0, 7, 0);
     let empty = load::empty_policy();
-    n = labels(n, empty, wrong, 0, refused(8, 0), untouched());
+    n = no_labels(n, empty, wrong, 0, 8, 0);
     n
 }
