@@ -55,6 +55,44 @@ pub fn astray(p: Policy, start: u64) -> u64 {
     n
 }
 
+// Reducing: of two equal lines one goes; `?2` is sent to the constant, whichever line comes first. Lines with shown variables of
+// their own stay, and a hidden variable of both is shown: view 3 for each of two lines, and views 1 and 2 beside view 3.
+pub fn reducing(p: Policy, start: u64) -> u64 {
+    let text = b"table terms\n1 !1 #4 ?2\n1 !1 #4 ?2\n";
+    let mut n = labels(start, p, text, 10, one(VIEWS_1_2));
+    let text = b"table terms\n2 !1 #7\n2 !1 ?2\n";
+    n = labels(n, p, text, 10, one(VIEWS_3_4));
+    let text = b"table terms\n2 ?3 ?2\n2 !1 #7\n";
+    n = labels(n, p, text, 10, one(VIEWS_3_4));
+    let text = b"table terms\n2 !1 ?2\n2 !3 ?2\n";
+    n = labels(n, p, text, 10, two(VIEW_3, VIEW_3));
+    let text = b"table terms\n1 !1 ?2 ?3\n2 ?2 ?4\n";
+    n = labels(n, p, text, 10, two(VIEWS_1_2, VIEW_3));
+    // the second line by itself could be sent to the first, but the same map must keep `?2` for the first
+    let text = b"table terms\n2 !1 ?2\n2 ?2 ?3\n";
+    n = labels(n, p, text, 10, two(VIEW_3, VIEW_3));
+    // `?2` cannot be sent to two terms
+    let text = b"table terms\n2 ?2 ?2\n2 !1 #7\n";
+    n = labels(n, p, text, 10, two(VIEW_3, VIEWS_3_4));
+    n
+}
+
+// Equal terms, under the policy of equal columns: view 1 where the first two are equal, whatever they are; view 2 where the last
+// two are hidden, equal to each other and to no other; view 3 where they are hidden and equal to no other; else none.
+pub fn equal_terms(p: Policy, start: u64) -> u64 {
+    let mut n = labels(start, p, b"table terms\n1 !1 !1 !2\n", 10, one(4294967297));
+    n = labels(n, p, b"table terms\n1 !1 !2 !3\n", 10, one(1));
+    n = labels(n, p, b"table terms\n1 #4 #4 ?1\n", 10, one(4294967297));
+    n = labels(n, p, b"table terms\n1 #4 #5 ?1\n", 10, one(1));
+    n = labels(n, p, b"table terms\n1 ?1 ?1 !2\n", 10, one(4294967297));
+    n = labels(n, p, b"table terms\n1 ?1 ?1 ?2\n", 10, one(4294967297));
+    n = labels(n, p, b"table terms\n1 !1 ?2 ?2\n", 10, one(8589934593));
+    n = labels(n, p, b"table terms\n1 ?1 ?2 ?2\n", 10, one(8589934593));
+    n = labels(n, p, b"table terms\n1 !1 ?2 ?3\n", 10, one(17179869185));
+    n = labels(n, p, b"table terms\n1 ?2 ?2 ?2\n", 10, one(4294967297));
+    n
+}
+
 // Two lines that stay, in either order: views 1 and 2, and views 3 and 4.
 pub fn two_tables(p: Policy, start: u64) -> u64 {
     let text = b"table terms\n1 !1 #4 ?2\n2 !1 #7\n";

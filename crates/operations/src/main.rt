@@ -16,6 +16,8 @@ fn labels(p: Policy, wider: Policy, widest: Policy, altered: Policy, start: u64)
     let mut n = listing::marked_of_table_1(p, start);
     n = listing::marked_of_table_2(p, n);
     n = listing::astray(p, n);
+    n = listing::reducing(p, n);
+    n = listing::equal_terms(policies::equal_columns(), n);
     n = listing::two_tables(p, n);
     n = listing::rooms(p, n);
     n = listing::eight_lines(p, n);
@@ -43,7 +45,8 @@ fn explanations(p: Policy, wider: Policy, widest: Policy, altered: Policy, start
 fn sessions(p: Policy, wider: Policy, widest: Policy, altered: Policy, start: u64) -> u64 {
     let mut n = opening::of_loaded(p, wider, widest, start);
     n = opening::of_counts(p, n);
-    n = opening::of_entries(p, n);
+    n = opening::of_tables_and_partitions(p, wider, n);
+    n = opening::of_views(p, n);
     n = opening::of_terms(p, n);
     n = deciding::answers(p, n);
     n = deciding::of_32(widest, n);

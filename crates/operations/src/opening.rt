@@ -45,7 +45,7 @@ fn turned_back(n: u64, p: Policy) -> u64 {
 }
 
 // Two, three and 32 partitions; and values made by hand that a text gives: a third partition without views, view 4 with
-// another constant, and view 3 in partition 2 too.
+// another constant, view 3 in partition 2 too, and eight columns for a table without views.
 pub fn of_loaded(p: Policy, wider: Policy, widest: Policy, start: u64) -> u64 {
     let mut n = opens(start, p, 3);
     n = opens(n, wider, 7);
@@ -53,6 +53,7 @@ pub fn of_loaded(p: Policy, wider: Policy, widest: Policy, start: u64) -> u64 {
     n = opens(n, with_partition_count(p, 3), 7);
     n = opens(n, with_term(p, 3, 1, 1, 4294967295), 3);
     n = opens(n, with_partition(p, 1, 13), 3);
+    n = opens(n, with_columns(wider, 2, 8), 7);
     n
 }
 
@@ -73,17 +74,29 @@ pub fn of_counts(p: Policy, start: u64) -> u64 {
     n
 }
 
-// Columns of 0 and 9, and where there is no table; a partition with view 5, which is not declared (2 + 4 + 16), and one behind
-// the last; a view of no table, of an unknown one and behind the last.
-pub fn of_entries(p: Policy, start: u64) -> u64 {
+// Columns of 0 and 9, with views and without, and where there is no table; a partition with view 5, which is not declared (2 + 4 +
+// 16), with every bit, and behind the last.
+pub fn of_tables_and_partitions(p: Policy, wider: Policy, start: u64) -> u64 {
     let mut n = turned_back(start, with_columns(p, 0, 0));
     n = turned_back(n, with_columns(p, 0, 9));
+    n = turned_back(n, with_columns(wider, 2, 0));
+    n = turned_back(n, with_columns(wider, 2, 9));
     n = turned_back(n, with_columns(p, 2, 1));
     n = turned_back(n, with_partition(p, 0, 22));
     n = turned_back(n, with_partition(p, 0, 18446744073709551615));
     n = turned_back(n, with_partition(p, 2, 1));
-    n = turned_back(n, with_view_table(p, 0, 0));
+    n
+}
+
+// A view of no table, of an unknown one, with terms and without, and behind the last.
+pub fn of_views(p: Policy, start: u64) -> u64 {
+    let mut n = turned_back(start, with_view_table(p, 0, 0));
     n = turned_back(n, with_view_table(p, 0, 3));
+    n = turned_back(n, with_view_table(p, 0, 17));
+    n = turned_back(n, with_view_table(p, 0, 18446744073709551615));
+    let no_terms = with_term(with_term(p, 3, 0, 0, 0), 3, 1, 0, 0);
+    n = turned_back(n, no_terms);
+    n = turned_back(n, with_view_table(no_terms, 3, 3));
     n = turned_back(n, with_view_table(p, 4, 1));
     n
 }

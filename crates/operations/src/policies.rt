@@ -15,7 +15,17 @@ pub fn example() -> Policy {
 // The same with a third table, which has no view, and a third partition, which grants none.
 pub fn wider() -> Policy {
     let r = load::load(
-        b"table columns\n1 3\n2 2\n3 1\nview table terms\n1 1 !1 !2 !3\n2 1 !1 !2 ?3\n3 2 !1 !2\n4 2 !1 #7\npartition views\n1 2 3\n2 1 4\n3\n",
+        b"table columns\n1 3\n2 2\n3 1
+view table terms\n1 1 !1 !2 !3\n2 1 !1 !2 ?3\n3 2 !1 !2\n4 2 !1 #7\npartition views\n1 2 3\n2 1 4\n3\n",
+    );
+    r.policy
+}
+
+// Three views of a table of three columns: one with its first two columns equal, one with the last two hidden and equal, and one
+// with these hidden. Partition n grants view n.
+pub fn equal_columns() -> Policy {
+    let r = load::load(
+        b"table columns\n1 3\nview table terms\n1 1 !1 !1 !2\n2 1 !1 ?2 ?2\n3 1 !1 ?2 ?3\npartition views\n1 1\n2 2\n3 3\n",
     );
     r.policy
 }
