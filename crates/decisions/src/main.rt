@@ -2,7 +2,6 @@
 // and at the end the number of cases.
 
 mod example;
-mod expect;
 mod refusals;
 
 use model::Policy;

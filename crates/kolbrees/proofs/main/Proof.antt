@@ -1,17 +1,21 @@
+-- `kolbrees::main`: the output stands within its room.
 use mathlib.Core.Path.{sym}
 use lib.Seq.{length-take-le}
 use borrow.Author.Needs.{needs}
 use Rattle.kolbrees.proofs.main.Statement.{statement}
 use Rattle.kolbrees.proofs.main.Tie as tie
 
-policy-buffer-requires : tie.Need-policy-buffer-requires
-policy-buffer-requires c κs = search needs
+policy-room-requires : tie.Need-policy-room-requires
+policy-room-requires c κs = search needs
 
-slice-aggregate-read-policy : tie.Need-slice-aggregate-read-policy
-slice-aggregate-read-policy c = search needs
+slice-aggregate-read-file : tie.Need-slice-aggregate-read-file
+slice-aggregate-read-file c = search needs
 
-read-policy-requires : tie.Need-read-policy-requires
-read-policy-requires c κs = search needs
+slice-aggregate-read-file-2 : tie.Need-slice-aggregate-read-file-2
+slice-aggregate-read-file-2 c = search needs
+
+read-file-requires : tie.Need-read-file-requires
+read-file-requires c κs = search needs
 
 large-buffer-requires : tie.Need-large-buffer-requires
 large-buffer-requires c κs = search needs
@@ -22,8 +26,8 @@ slice-aggregate-read-full c = search needs
 read-full-requires : tie.Need-read-full-requires
 read-full-requires c κs = search needs
 
-output-buffer-requires : tie.Need-output-buffer-requires
-output-buffer-requires c κs = search needs
+output-room-requires : tie.Need-output-room-requires
+output-room-requires c κs = search needs
 
 array-share-prefix-policy : tie.Need-array-share-prefix-policy
 array-share-prefix-policy c = search needs
@@ -59,13 +63,14 @@ pub main-spec : {M : Type 1} → statement M
 main-spec =
     tie.close
     (tie.spec
-    policy-buffer-requires
-    slice-aggregate-read-policy
-    read-policy-requires
+    policy-room-requires
+    slice-aggregate-read-file
+    slice-aggregate-read-file-2
+    read-file-requires
     large-buffer-requires
     slice-aggregate-read-full
     read-full-requires
-    output-buffer-requires
+    output-room-requires
     array-share-prefix-policy
     slice-aggregate-run
     array-share-prefix-queries

@@ -1,0 +1,16 @@
+// What the test programs share: a reply as plain numbers, compared and printed, and deciding in a session that is lent.
+
+mod deciding;
+mod said;
+
+pub use deciding::decided;
+pub use said::Said;
+pub use said::counted;
+pub use said::given;
+pub use said::no;
+pub use said::print_case;
+pub use said::refused;
+pub use said::same;
+pub use said::settled;
+pub use said::unsettled;
+pub use said::yes;

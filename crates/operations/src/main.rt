@@ -1,0 +1,70 @@
+// Each operation of the desk but loading, called with values worked out from document 01. A line is printed for each case in
+// which the desk says another, or leaves another buffer or session, and at the end the number of cases.
+
+mod cells;
+mod compare;
+mod comparing;
+mod deciding;
+mod explaining;
+mod listing;
+mod opening;
+mod policies;
+
+use model::Policy;
+
+fn labels(p: Policy, wider: Policy, widest: Policy, altered: Policy, start: u64) -> u64 {
+    let mut n = listing::marked_of_table_1(p, start);
+    n = listing::marked_of_table_2(p, n);
+    n = listing::astray(p, n);
+    n = listing::reducing(p, n);
+    n = listing::equal_terms(policies::equal_columns(), n);
+    n = listing::two_tables(p, n);
+    n = listing::rooms(p, n);
+    n = listing::eight_lines(p, n);
+    n = listing::edges(wider, widest, n);
+    n = listing::texts(p, n);
+    n = listing::orders(p, altered, n);
+    n
+}
+
+fn explanations(p: Policy, wider: Policy, widest: Policy, altered: Policy, start: u64) -> u64 {
+    let mut n = explaining::example(p, start);
+    n = explaining::more(p, n);
+    n = explaining::repeats(p, n);
+    n = explaining::inclusions(wider, n);
+    n = explaining::no_view(wider, n);
+    n = explaining::rooms(wider, n);
+    n = explaining::eight_lines(p, n);
+    n = explaining::last_view(widest, n);
+    n = explaining::partitions(p, widest, n);
+    n = explaining::texts(p, n);
+    n = explaining::orders(p, altered, n);
+    n
+}
+
+fn sessions(p: Policy, wider: Policy, widest: Policy, altered: Policy, start: u64) -> u64 {
+    let mut n = opening::of_loaded(p, wider, widest, start);
+    n = opening::of_counts(p, n);
+    n = opening::of_tables_and_partitions(p, wider, n);
+    n = opening::of_views(p, n);
+    n = opening::of_terms(p, n);
+    n = deciding::answers(p, n);
+    n = deciding::of_32(widest, n);
+    n = deciding::never(wider, n);
+    n = deciding::orders(p, altered, n);
+    n
+}
+
+fn main() {
+    let p = policies::example();
+    let wider = policies::wider();
+    let widest = policies::widest();
+    let altered = policies::altered();
+    let mut n = labels(p, wider, widest, altered, 0);
+    n = explanations(p, wider, widest, altered, n);
+    n = sessions(p, wider, widest, altered, n);
+    n = comparing::of_labels(n);
+    n = comparing::of_words(n);
+    io::print_decimal(1, n);
+    io::write_all(1, b" cases\n");
+}

@@ -1,0 +1,111 @@
+// The policies that the operations are called under.
+
+ghost use Prim.Native.Nat.{_<_};
+use model::Policy;
+use model::Term;
+
+// Document 01's: partition 1 grants views 2 and 3, partition 2 views 1 and 4.
+pub fn example() -> Policy {
+    let r = load::load(
+        b"table columns\n1 3\n2 2\nview table terms\n1 1 !1 !2 !3\n2 1 !1 !2 ?3\n3 2 !1 !2\n4 2 !1 #7\npartition views\n1 2 3\n2 1 4\n",
+    );
+    r.policy
+}
+
+// The same with a third table, which has no view, and a third partition, which grants none.
+pub fn wider() -> Policy {
+    let r = load::load(
+        b"table columns\n1 3\n2 2\n3 1
+view table terms\n1 1 !1 !2 !3\n2 1 !1 !2 ?3\n3 2 !1 !2\n4 2 !1 #7\npartition views\n1 2 3\n2 1 4\n3\n",
+    );
+    r.policy
+}
+
+// Three views of a table of three columns: one with its first two columns equal, one with the last two hidden and equal, and one
+// with these hidden. Partition n grants view n.
+pub fn equal_columns() -> Policy {
+    let r = load::load(
+        b"table columns\n1 3\nview table terms\n1 1 !1 !1 !2\n2 1 !1 ?2 ?2\n3 1 !1 ?2 ?3\npartition views\n1 1\n2 2\n3 3\n",
+    );
+    r.policy
+}
+
+// A table of one column and 32 views of it: its rows with 1, with 2 and so on up to 31, and all rows. Partition n grants view n.
+pub fn widest() -> Policy {
+    let r = load::load(
+        b"table columns\n1 1\nview table terms\n1 1 #1\n2 1 #2\n3 1 #3\n4 1 #4\n5 1 #5\n6 1 #6\n7 1 #7\n8 1 #8\n9 1 #9
+10 1 #10\n11 1 #11\n12 1 #12\n13 1 #13\n14 1 #14\n15 1 #15\n16 1 #16\n17 1 #17\n18 1 #18\n19 1 #19\n20 1 #20
+21 1 #21\n22 1 #22\n23 1 #23\n24 1 #24\n25 1 #25\n26 1 #26\n27 1 #27\n28 1 #28\n29 1 #29\n30 1 #30\n31 1 #31
+32 1 !1
+partition views\n1 1\n2 2\n3 3\n4 4\n5 5\n6 6\n7 7\n8 8\n9 9\n10 10\n11 11\n12 12\n13 13\n14 14\n15 15\n16 16
+17 17\n18 18\n19 19\n20 20\n21 21\n22 22\n23 23\n24 24\n25 25\n26 26\n27 27\n28 28\n29 29\n30 30\n31 31\n32 32
+",
+    );
+    r.policy
+}
+
+// The policy with another count of tables, of views or of partitions.
+pub fn with_table_count(p: Policy, count: usize) -> Policy {
+    let mut q = p;
+    q.tables.count = count;
+    q
+}
+
+pub fn with_view_count(p: Policy, count: usize) -> Policy {
+    let mut q = p;
+    q.view_count = count;
+    q
+}
+
+pub fn with_partition_count(p: Policy, count: usize) -> Policy {
+    let mut q = p;
+    q.partition_count = count;
+    q
+}
+
+// The policy with other columns for the table in place i.
+pub fn with_columns(p: Policy, i: usize, columns: u64) -> Policy
+    requires { ⌜ i < 16 ⌝ }
+{
+    let mut q = p;
+    let mut t = p.tables;
+    t.columns[i] = columns;
+    q.tables = t;
+    q
+}
+
+// The policy with another partition in place i.
+pub fn with_partition(p: Policy, i: usize, views: u64) -> Policy
+    requires { ⌜ i < 32 ⌝ }
+{
+    let mut q = p;
+    q.partitions[i] = views;
+    q
+}
+
+// The policy with another table for the view in place i.
+pub fn with_view_table(p: Policy, i: usize, table: u64) -> Policy
+    requires { ⌜ i < 32 ⌝ }
+{
+    let mut q = p;
+    let mut v = p.views[i];
+    v.table = table;
+    q.views[i] = v;
+    q
+}
+
+// The policy with another term in a column of the view in place i.
+pub fn with_term(p: Policy, i: usize, column: usize, mark: u64, number: u64) -> Policy
+    requires { ⌜ (i < 32) × (column < 8) ⌝ }
+{
+    let mut q = p;
+    let mut v = p.views[i];
+    v.terms[column] = Term { mark, number };
+    q.views[i] = v;
+    q
+}
+
+// A value that no text gives: the partition in place 1 stands behind the last.
+pub fn altered() -> Policy {
+    with_partition_count(example(), 1)
+}
