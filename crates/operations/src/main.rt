@@ -1,4 +1,4 @@
-// Each operation of the desk but loading, called with values worked out from document 01. A line is printed for each case in
+// Each operation of the desk, called with values worked out from document 01. A line is printed for each case in
 // which the desk says another, or leaves another buffer or session, and at the end the number of cases.
 
 mod cells;
@@ -7,8 +7,10 @@ mod comparing;
 mod deciding;
 mod explaining;
 mod listing;
+mod loading;
 mod opening;
 mod policies;
+mod values;
 
 use model::Policy;
 
@@ -60,7 +62,9 @@ fn main() {
     let wider = policies::wider();
     let widest = policies::widest();
     let altered = policies::altered();
-    let mut n = labels(p, wider, widest, altered, 0);
+    let mut n = loading::taken(0);
+    n = loading::refused(n);
+    n = labels(p, wider, widest, altered, n);
     n = explanations(p, wider, widest, altered, n);
     n = sessions(p, wider, widest, altered, n);
     n = comparing::of_labels(n);
