@@ -6,7 +6,7 @@ mod folders;
 mod limits;
 
 fn main() {
-    let mut names = io::buffer();
+    let mut names = io::large_buffer();
     let n = files::read_file(b"cases.txt", &mut names);
     let folders = folders::run_all(&names[..n]);
     let limits = limits::run_all();
