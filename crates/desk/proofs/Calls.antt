@@ -35,9 +35,11 @@ module _ (p : Policy) (l : Loadable p) where
   none-right before [] c a e = absurd (nil≢cons e)
   none-right before (x ∷ b) c a e = absurd (nil≢cons e)
 
-  one-right : (before : List Call) (x : Call) (cs : List Call) → Right d before x → AllRight (before ++ x ∷ []) cs → AllRight before (x ∷ cs)
+  one-right : (before : List Call) (x : Call) (cs : List Call) → Right d before x → AllRight (before ++ x ∷ []) cs
+      → AllRight before (x ∷ cs)
   one-right before x cs r rest [] c a e =
-      subst (λ (y : Call). Right d (before ++ []) y) (head-eq-of-cons-eq e) (subst (λ (b : List Call). Right d b x) (sym (append-nil before)) r)
+      subst (λ (y : Call). Right d (before ++ []) y) (head-eq-of-cons-eq e)
+      (subst (λ (b : List Call). Right d b x) (sym (append-nil before)) r)
   one-right before x cs r rest (y ∷ b) c a e =
       subst (λ (z : List Call). Right d z c)
       (append-assoc before (x ∷ []) b ∙ ap (λ (z : Call). before ++ z ∷ b) (head-eq-of-cons-eq e)) (rest b c a (tail-eq-of-cons-eq e))

@@ -1,10 +1,10 @@
 -- The hypotheses of demand 3 can be met: whatever the texts, they are the texts of a list of calls.
 use mathlib.Core.Path.{_≡_, refl, sym, ap, subst, _∙_}
-use mathlib.Core.Bool.{Bool, true, false, cond}
 use mathlib.Core.List.{List, [], _∷_, map}
 use Prim.Native.Nat.{ℕ}
 use lib.Dec.{eqb}
 use Rattle.model.specs.declared.Policy.{Policy}
+use Rattle.words.proofs.Answers.{either}
 use Rattle.query.specs.Text.{Reading, refused, accepted, read}
 use Rattle.policy.specs.Declared.{Declared}
 use Rattle.policy.specs.Abstract.{declaredBy}
@@ -14,7 +14,7 @@ use Rattle.validity.specs.Loadable.{Loadable}
 use Rattle.desk.specs.declared.opening.Session.{Session}
 use Rattle.desk.specs.declared.deciding.Reply.the-variants.{Yes, No, Refused}
 use Rattle.desk.specs.declared.deciding.Decision.{Decision}
-use Rattle.desk.specs.Reply.{said, yes, no}
+use Rattle.desk.specs.Reply.{said}
 use Rattle.desk.specs.Session.{openCount}
 use Rattle.desk.specs.Deciding.{unfit, stillOpen, Verdict, turnedBack, answered, decideQuery, decideUnder, Gives, Decided}
 use Rattle.desk.specs.Calls.{Call, Calls, none-left, one-call}
@@ -27,20 +27,14 @@ turned-given : (mask n k : ℕ) → Given (turnedBack mask n k)
 unfolding turnedBack said
 turned-given mask n k = (record { reply = Refused n k; session = record { mask = mask } }, record { reply = refl; session = refl })
 
-by-left : (mask left : ℕ) (b : Bool) → Given (cond b (record { says = record { word = no; count = openCount mask; number = 0; line = 0 }; leaves = mask })
-    (record { says = record { word = yes; count = openCount left; number = 0; line = 0 }; leaves = left }))
-unfolding said
-by-left mask left true = (record { reply = No (openCount mask); session = record { mask = mask } }, record { reply = refl; session = refl })
-by-left mask left false = (record { reply = Yes (openCount left); session = record { mask = left } }, record { reply = refl; session = refl })
-
 query-given : (d : Declared) (mask : ℕ) (v : Reading) → Given (decideQuery d mask v)
-unfolding decideQuery answered
+unfolding decideQuery answered said
 query-given d mask (refused n k) = turned-given mask n k
-query-given d mask (accepted Q) = by-left mask (stillOpen d Q mask) (eqb (stillOpen d Q mask) 0)
-
-by-fit : (d : Declared) (mask : ℕ) (v : Reading) (b : Bool) → Given (cond b (turnedBack mask 9 0) (decideQuery d mask v))
-by-fit d mask v true = turned-given mask 9 0
-by-fit d mask v false = query-given d mask v
+query-given d mask (accepted Q) =
+    let left = stillOpen d Q mask in
+    either Given (eqb left 0)
+    (record { reply = No (openCount mask); session = record { mask = mask } }, record { reply = refl; session = refl })
+    (record { reply = Yes (openCount left); session = record { mask = left } }, record { reply = refl; session = refl })
 
 -- what is declared is fixed by the value
 pub declared-once : {p : Policy} (l k : Loadable p) → l .declared ≡ k .declared
@@ -52,7 +46,8 @@ declared-once l k =
 pub decides : (p : Policy) → Loadable p → (s : Session) (text : List ℕ) → (r : Decision) × Decided p s text r
 unfolding decideUnder
 decides p l s text =
-    let (r, g) = by-fit (l .declared) (s .mask) (read (l .declared .widths) text) (unfit (l .declared) (s .mask)) in (
+    let (r, g) = either Given (unfit (l .declared) (s .mask)) (turned-given (s .mask) 9 0)
+    (query-given (l .declared) (s .mask) (read (l .declared .widths) text)) in (
       r,
       record {
         unloaded = λ f. absurd (f l);

@@ -8,7 +8,7 @@ use lib.ListN.{length, getD}
 use Rattle.theory.specs.Query.{Query}
 use Rattle.theory.specs.Executable.Label.{labels}
 use Rattle.theory.proofs.Lists.{below-place, there}
-use Rattle.words.proofs.Answers.{true-holds, holds-true}
+use Rattle.words.proofs.Answers.{true-holds, holds-true, either}
 use Rattle.model.specs.Limits.{upTo}
 use Rattle.model.proofs.Limits.{up-to-iff}
 use Rattle.query.specs.Text.{read, accepted}
@@ -22,7 +22,6 @@ use Rattle.desk.specs.Buffer.{tooShort}
 use Rattle.desk.specs.Explaining.{SaidExplaining, saidExplaining, notExplained, explainedBy, explainReading, explainUnder, Explained}
 use Rattle.desk.specs.Outcomes.{SettledExactly}
 use Rattle.desk.proofs.Loaded.{loaded-to}
-use Rattle.desk.proofs.Stays.{either}
 
 module _ (d : Declared) (n : ℕ) (text before : List ℕ) (Q : Query) (reads : read (d .widths) text ≡ accepted Q) where
   abbrev is-settled : Bool
@@ -36,7 +35,8 @@ module _ (d : Declared) (n : ℕ) (text before : List ℕ) (Q : Query) (reads : 
   unfolding explainUnder explainReading explainedBy notExplained
   under-tells = rw reads (go (upTo (length (d .partitions)) n) refl)
     where
-      go : (b : Bool) → upTo (length (d .partitions)) n ≡ b → Tells (cond b (explainReading d n before (accepted Q)) (notExplained before 4 0))
+      go : (b : Bool) → upTo (length (d .partitions)) n ≡ b
+          → Tells (cond b (explainReading d n before (accepted Q)) (notExplained before 4 0))
       go true e =
           either Tells (tooShort before (explained (viewsAfter 0 (getD (d .partitions) (n - 1) [])) (labels (d .views) Q)))
           (λ g. absurd (false≢true g)) (λ g. (e, refl))

@@ -1,7 +1,7 @@
 -- Refusals leave the session and every lent buffer as they were; a fit session and a well-formed query get a yes or a no.
 use mathlib.Core.Path.{_≡_, refl, sym, ap, subst, _∙_}
 use mathlib.Core.Logic.{_⊎_, inl, inr}
-use mathlib.Core.Bool.{Bool, true, false, cond, false≢true}
+use mathlib.Core.Bool.{true, false, false≢true}
 use mathlib.Core.List.{List, [], List-discrete}
 use Prim.Native.Nat.{ℕ, _-_}
 use native.Mathlib.Decide.{ℕ-discrete}
@@ -9,6 +9,7 @@ use lib.Dec.{eqb}
 use lib.ListN.{length, getD}
 use Rattle.theory.specs.Query.{Query}
 use Rattle.theory.specs.Executable.Label.{labels}
+use Rattle.words.proofs.Answers.{either}
 use Rattle.model.specs.Limits.{upTo}
 use Rattle.model.specs.declared.Policy.{Policy}
 use Rattle.query.specs.Text.{Reading, refused, accepted, read}
@@ -29,11 +30,6 @@ use Rattle.desk.specs.Explaining.{SaidExplaining, saidExplaining, Explai
 use Rattle.desk.proofs.Steps.{turned-yes}
 use Rattle.desk.proofs.Unique.{either-way}
 
--- what holds in both cases holds
-pub either : {X : Type 0} (P : X → Type 0) (b : Bool) {x y : X} → P x → P y → P (cond b x y)
-either P true p q = p
-either P false p q = q
-
 -- ---- deciding
 
 abbrev Stays : ℕ → Verdict → Type 0
@@ -47,7 +43,8 @@ under-stays d mask text = either (Stays mask) (unfit d mask) (λ e. refl) (by-re
     by-reading (refused n k) = λ e. refl
     by-reading (accepted Q) = either (Stays mask) (eqb (stillOpen d Q mask) 0) (λ e. refl) (λ e. absurd (turned-yes refl (sym e)))
 
-pub session-stays : (p : Policy) (s : Session) (text : List ℕ) (r : Decision) → Decided p s text r → said (r .reply) .word ≡ turned → r .session ≡ s
+pub session-stays : (p : Policy) (s : Session) (text : List ℕ) (r : Decision) → Decided p s text r
+    → said (r .reply) .word ≡ turned → r .session ≡ s
 unfolding turnedBack
 session-stays p s text r g e =
     let same : r .session .mask ≡ s .mask =
@@ -85,7 +82,8 @@ unfolding notListed
 labels-buffer-stays p text before r after g e =
     either-way {L = Loadable p} (List-discrete ℕ-discrete after before)
     (λ l. let k = g .loaded l in
-    k .buffer ∙ reading-kept (l .declared) before (read (l .declared .widths) text) (sym (ap (λ (x : SaidListing). x .given) (k .reply)) ∙ e))
+    k .buffer
+    ∙ reading-kept (l .declared) before (read (l .declared .widths) text) (sym (ap (λ (x : SaidListing). x .given) (k .reply)) ∙ e))
     (λ f. g .unloaded f .buffer)
 
 -- ---- explanations

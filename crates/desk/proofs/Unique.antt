@@ -127,7 +127,8 @@ outcomes = record { code = outcome-code; apart = go }
 pub opened-unique : (p : Policy) (r t : Opening) → Opened p r → Opened p t → r ≡ t
 opened-unique p r t x y =
     let outcome : r .outcome ≡ t .outcome =
-    either-way {L = Loadable p} (same? outcomes (r .outcome) (t .outcome)) (λ l. ap (λ (o : Opening). o .outcome) (x .opened l ∙ sym (y .opened l)))
+    either-way {L = Loadable p} (same? outcomes (r .outcome) (t .outcome))
+    (λ l. ap (λ (o : Opening). o .outcome) (x .opened l ∙ sym (y .opened l)))
     (λ f. ap (λ (o : Opening). o .outcome) (x .turned f ∙ sym (y .turned f))) in
     let mask : r .session .mask ≡ t .session .mask =
     either-way {L = Loadable p} (ℕ-discrete (r .session .mask) (t .session .mask))

@@ -77,7 +77,11 @@ view-taken d e = (
       record {
         turn = eqb-yes (b .0);
         limit = up-to-iff mostViews (e .number) .0 (k .0) .1;
-        good = record { within = k .1; fits = checked-fits (d .widths) (e .value) (k .1) (c .0) (f .0); clear = clear-alone (e .value) .0 (g .0) };
+        good = record {
+          within = k .1;
+          fits = checked-fits (d .widths) (e .value) (k .1) (c .0) (f .0);
+          clear = clear-alone (e .value) .0 (g .0);
+        };
       },
   λ t.
       let (c, f) = fits-checked (d .widths) (e .value) (t .good .fits) in
