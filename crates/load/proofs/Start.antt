@@ -8,15 +8,15 @@ use borrow.Author.Tests.{lt-ltb, le-ltb}
 use Rattle.text.specs.Lines.{Split, lines, before, sameBytes}
 use Rattle.text.specs.Names.{tableColumns}
 use Rattle.text.proofs.Lines.{split-none, split-found}
-use Rattle.policy.specs.Text.{refused, nothing, tables, loadFrom, loadLines, load, mostBytes}
+use Rattle.policy.specs.Text.{refused, nothing, tables, loadFrom, loadLines, load, mostPolicyBytes}
 
 pub too-long : (text : List ℕ) → 16384 < length text → refused 7 0 ≡ load text
-unfolding load mostBytes
+unfolding load mostPolicyBytes
 too-long text h = rw (lt-ltb 16384 (length text) h)
 
 module _ (text : List ℕ) (short : length text ≤ 16384) where
   looked-at : load text ≡ loadLines (lines text .ended) (lines text .rest)
-  unfolding load mostBytes
+  unfolding load mostPolicyBytes
   looked-at = rw (le-ltb 16384 (length text) short)
 
   pub no-line : before 10 text ≡ length text → refused 1 1 ≡ load text

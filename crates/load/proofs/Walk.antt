@@ -13,7 +13,7 @@ use lib.Seq.{drop-drop}
 use Rattle.text.specs.Lines.{Split, lines, split, before}
 use Rattle.text.proofs.Lines.{split-none, split-found}
 use Rattle.model.specs.Fields.{Numbered, tableLine, viewLine, partitionLine}
-use Rattle.policy.specs.Text.{nothing, refused, accepted, faulty, entered, Block, tables, views, partitions, unless, entry, enter, tableFault, viewFault, partitionFault, isNext, nextBlock, ends, goOn, loadFrom}
+use Rattle.policy.specs.Text.{nothing, refused, accepted, faulty, entered, Block, tables, views, partitions, unless, entry, enter, tableFault, viewFault, partitionFault, isNext, nextBlock, policyEnds, goOn, loadFrom}
 use Rattle.policy.specs.Declared.{Declared}
 use Rattle.policy.specs.Text.{Loading as TheLoading, Entered as TheEntered}
 use Rattle.load.specs.Steps.{blockNumber, progressValue, afterEntry, steppedValue, moreTables, moreViews, morePartitions}
@@ -37,7 +37,7 @@ behind-line b started d k text h = ap (λ (s : Split). loadFrom b started d k (s
 -- the text stops in a line
 behind-tail : (b : Block) (started : Bool) (d : Declared) (k : ℕ) (text : List ℕ) → before 10 text ≡ length text → 0 < length text
     → behind b started d k text ≡ refused 1 k
-unfolding lines loadFrom ends
+unfolding lines loadFrom policyEnds
 behind-tail b started d k [] e h = absurd (not-suc-le-zero h)
 behind-tail b started d k (x ∷ text) e h = ap (λ (s : Split). loadFrom b started d k (s .ended) (s .rest)) (split-none 10 (x ∷ text) e)
 
@@ -181,15 +181,15 @@ module _ {text : List ℕ} {start : ℕ} {g : Progress} {line at : ℕ} (w : Wal
 
   -- the text stops behind its last line
   module _ (l : length text ≤ at) where
-    ended : ends (w .block) (w .begun) (w .declared) line [] ≡ behind tables false nothing start text
+    ended : policyEnds (w .block) (w .begun) (w .declared) line [] ≡ behind tables false nothing start text
     unfolding loadFrom lines split
     ended = ap (behind (w .block) (w .begun) (w .declared) line) (sym (drop-of-length-le text l)) ∙ w .ahead
 
     pub not-partitions : (g .block ≡ 2 → ⊥) → refused 1 line ≡ behind tables false nothing start text
-    unfolding ends blockNumber
+    unfolding policyEnds blockNumber
     not-partitions n = go (w .block) (block-of (w .block) (w .begun) (w .declared) g (w .held)) ended
       where
-        go : (b : Block) → g .block ≡ blockNumber b → ends b (w .begun) (w .declared) line [] ≡ behind tables false nothing start text
+        go : (b : Block) → g .block ≡ blockNumber b → policyEnds b (w .begun) (w .declared) line [] ≡ behind tables false nothing start text
             → refused 1 line ≡ behind tables false nothing start text
         go tables e q = q
         go views e q = q
@@ -199,10 +199,10 @@ module _ {text : List ℕ} {start : ℕ} {g : Progress} {line at : ℕ} (w : Wal
     is-begun = sym (started-of (w .block) (w .begun) (w .declared) g (w .held))
 
     pub not-begun : g .started ≡ false → refused 1 line ≡ behind tables false nothing start text
-    unfolding ends
+    unfolding policyEnds
     not-begun s = go (w .block) (w .begun) (is-begun ∙ s) ended
       where
-        go : (b : Block) (t : Bool) → t ≡ false → ends b t (w .declared) line [] ≡ behind tables false nothing start text
+        go : (b : Block) (t : Bool) → t ≡ false → policyEnds b t (w .declared) line [] ≡ behind tables false nothing start text
             → refused 1 line ≡ behind tables false nothing start text
         go tables t e q = q
         go views t e q = q
@@ -210,10 +210,10 @@ module _ {text : List ℕ} {start : ℕ} {g : Progress} {line at : ℕ} (w : Wal
         go partitions false e q = q
 
     pub all-declared : g .block ≡ 2 → g .started ≡ true → accepted (w .declared) ≡ behind tables false nothing start text
-    unfolding ends blockNumber
+    unfolding policyEnds blockNumber
     all-declared p s = go (w .block) (w .begun) (sym (block-of (w .block) (w .begun) (w .declared) g (w .held)) ∙ p) (is-begun ∙ s) ended
       where
-        go : (b : Block) (t : Bool) → blockNumber b ≡ 2 → t ≡ true → ends b t (w .declared) line [] ≡ behind tables false nothing start text
+        go : (b : Block) (t : Bool) → blockNumber b ≡ 2 → t ≡ true → policyEnds b t (w .declared) line [] ≡ behind tables false nothing start text
             → accepted (w .declared) ≡ behind tables false nothing start text
         go tables t e f q = absurd (omega (arith, e))
         go views t e f q = absurd (omega (arith, e))

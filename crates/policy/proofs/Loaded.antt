@@ -14,7 +14,7 @@ use Rattle.text.specs.Print.{endEach}
 use Rattle.model.specs.Fields.{Numbered, tableLine, viewLine, partitionLine}
 use Rattle.model.specs.Limits.{mostTables, mostViews, mostPartitions}
 use Rattle.model.specs.Print.{lineFields, partitionFields}
-use Rattle.policy.specs.Text.{nothing, refused, accepted, mostBytes, Entered, faulty, entered, Block, tables, views, partitions, enter, isNext, nextBlock, ends, goOn, loadFrom, loadLines, load}
+use Rattle.policy.specs.Text.{nothing, refused, accepted, mostPolicyBytes, Entered, faulty, entered, Block, tables, views, partitions, enter, isNext, nextBlock, policyEnds, goOn, loadFrom, loadLines, load}
 use Rattle.policy.specs.Declared.{Declared}
 use Rattle.policy.specs.WellFormed.{OneToMost, GoodWidth, GoodView, GoodPartition, WellFormed}
 use Rattle.policy.specs.Print.{printBlock, printLines, print}
@@ -107,8 +107,8 @@ record Told (b : Block) (d : Declared) (ls : List (List ℕ)) (tail : List ℕ) 
 
 -- the text stops: only in the last block, once that has started, and only with no tail
 ended-told : (b : Block) (started : Bool) (d : Declared) (k : ℕ) (tail : List ℕ) (e : Declared)
-    → Reached b started d → ends b started d k tail ≡ accepted e → Told b d [] tail e
-unfolding ends soFar
+    → Reached b started d → policyEnds b started d k tail ≡ accepted e → Told b d [] tail e
+unfolding policyEnds soFar
 ended-told b started d k (x ∷ tail) e r h = absurd (refused≢accepted h)
 ended-told tables started d k [] e r h = absurd (refused≢accepted h)
 ended-told views started d k [] e r h = absurd (refused≢accepted h)
@@ -175,7 +175,7 @@ lines-sound (l ∷ ls) tail e h = go (sameBytes l tableColumns) (λ t. t) h
 
 loaded : (text : List ℕ) (d : Declared) → load text ≡ accepted d → WellFormed d × (text ≡ print d)
 unfolding load print
-loaded text d h = go (ltb mostBytes (length text)) h
+loaded text d h = go (ltb mostPolicyBytes (length text)) h
   where
     go : (long : Bool) → cond long (refused 7 0) (loadLines (lines text .ended) (lines text .rest)) ≡ accepted d
         → WellFormed d × (text ≡ print d)

@@ -14,7 +14,7 @@ use Rattle.model.specs.Fields.{Numbered}
 use Rattle.model.specs.Limits.{mostTables, mostColumns, mostViews, mostPartitions}
 use Rattle.model.specs.Print.{tableFields, lineFields, partitionFields, printLine}
 use Rattle.model.proofs.Printed.{table-printed, view-printed, partition-printed}
-use Rattle.policy.specs.Text.{nothing, accepted, mostBytes, entered, tables, views, partitions, enter, isNext, nextBlock, ends, loadFrom, loadLines, load}
+use Rattle.policy.specs.Text.{nothing, accepted, mostPolicyBytes, entered, tables, views, partitions, enter, isNext, nextBlock, policyEnds, loadFrom, loadLines, load}
 use Rattle.policy.specs.Declared.{Declared}
 use Rattle.policy.specs.WellFormed.{OneToMost, GoodWidth, GoodView, GoodPartition, WellFormed}
 use Rattle.policy.specs.Print.{printBlock, printLines, print}
@@ -71,7 +71,7 @@ partition-enters d vs h g =
 partitions-load : (d : Declared) → WellFormed d → (k : ℕ)
     → loadFrom partitions false (record { widths = d .widths; views = d .views; partitions = [] }) k
     (printBlock partitionFields 1 (d .partitions)) [] ≡ accepted d
-unfolding loadFrom ends
+unfolding loadFrom policyEnds
 partitions-load d w k =
     rw append-nil at
     (block-loads partitions put partitionFields mostPartitions (GoodPartition (length (d .views)))
@@ -106,7 +106,7 @@ lines-load d w =
 
 load-lines : (text : List ℕ) (ls : List (List ℕ)) → length text ≤ 16384 → lines text ≡ record { ended = ls; rest = [] }
     → load text ≡ loadLines ls []
-unfolding load mostBytes
+unfolding load mostPolicyBytes
 load-lines text ls h e = rw (le-ltb 16384 (length text) h, e)
 
 pub print-loads : (d : Declared) → WellFormed d → load (print d) ≡ accepted d

@@ -25,8 +25,8 @@ pub data Loading : Type 0 where
   accepted : Declared → Loading
 
 -- "Policy text at most 16,384 bytes"
-unfoldable pub mostBytes : ℕ
-mostBytes = 16384
+unfoldable pub mostPolicyBytes : ℕ
+mostPolicyBytes = 16384
 
 -- ---- one line: what turns it back apart from its form (1), and what it declares
 
@@ -103,12 +103,12 @@ nextBlock views = partitions
 nextBlock partitions = partitions
 
 -- the text stops here, in a block that has a line of values or not yet: "a text that stops early is faulty one line past its last"
-unfoldable pub ends : Block → Bool → Declared → ℕ → List ℕ → Loading
-ends b started d k (x ∷ tail) = refused 1 k
-ends tables started d k [] = refused 1 k
-ends views started d k [] = refused 1 k
-ends partitions true d k [] = accepted d
-ends partitions false d k [] = refused 1 k
+unfoldable pub policyEnds : Block → Bool → Declared → ℕ → List ℕ → Loading
+policyEnds b started d k (x ∷ tail) = refused 1 k
+policyEnds tables started d k [] = refused 1 k
+policyEnds views started d k [] = refused 1 k
+policyEnds partitions true d k [] = accepted d
+policyEnds partitions false d k [] = refused 1 k
 
 -- behind a line with a fault the text is turned back there
 unfoldable pub goOn : Entered → ℕ → (Declared → Loading) → Loading
@@ -118,8 +118,8 @@ goOn (entered d) k next = next d
 -- "The first faulty line counts": the lines from number k on. A block's names line ends the one before it once that has a
 -- line of values.
 unfoldable pub loadFrom : Block → Bool → Declared → ℕ → List (List ℕ) → List ℕ → Loading
-unfolding ends isNext nextBlock enter goOn
-loadFrom b started d k [] tail = ends b started d k tail
+unfolding policyEnds isNext nextBlock enter goOn
+loadFrom b started d k [] tail = policyEnds b started d k tail
 loadFrom b started d k (l ∷ ls) tail =
     cond (started && isNext b l) (loadFrom (nextBlock b) false d (suc k) ls tail)
     (goOn (enter b d l) k (λ d′. loadFrom b true d′ (suc k) ls tail))
@@ -132,5 +132,5 @@ loadLines (l ∷ ls) tail = cond (sameBytes l tableColumns) (loadFrom tables fal
 
 -- "7, line 0: text too long, before all else."
 unfoldable pub load : List ℕ → Loading
-unfolding loadLines lines mostBytes
-load text = let s = lines text in cond (ltb mostBytes (length text)) (refused 7 0) (loadLines (s .ended) (s .rest))
+unfolding loadLines lines mostPolicyBytes
+load text = let s = lines text in cond (ltb mostPolicyBytes (length text)) (refused 7 0) (loadLines (s .ended) (s .rest))

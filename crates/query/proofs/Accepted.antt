@@ -22,7 +22,7 @@ use Rattle.model.specs.Checks.{known, wide, clashing, firstFault}
 use Rattle.model.specs.Print.{printQueryLine}
 use Rattle.model.proofs.Limits.{no-fault, not-not, checked-fits, clear-more}
 use Rattle.model.proofs.ReadLines.{query-line-read}
-use Rattle.query.specs.Text.{refused, accepted, mostBytes, fault, ends, judged, step, readFrom, readLines, read}
+use Rattle.query.specs.Text.{refused, accepted, mostQueryBytes, fault, queryEnds, judged, step, readFrom, readLines, read}
 use Rattle.query.specs.Print.{queryText}
 use Rattle.query.specs.WellRead.{WellRead}
 
@@ -81,8 +81,8 @@ refused≢accepted : {n k : ℕ} {Q : Query} → refused n k ≡ accepted Q → 
 refused≢accepted e = let z : _≡_ {A = ℕ} 0 1 = cc in omega arith
 
 ends-told : (widths : List ℕ) (earlier : List Line) (k : ℕ) (tail : List ℕ) (Q : Query) → SoFar widths earlier
-    → ends earlier k tail ≡ accepted Q → Told widths earlier [] tail Q
-unfolding ends
+    → queryEnds earlier k tail ≡ accepted Q → Told widths earlier [] tail Q
+unfolding queryEnds
 ends-told widths earlier k (b ∷ tail) Q w h = absurd (refused≢accepted h)
 ends-told widths [] k [] Q w h = absurd (refused≢accepted h)
 ends-told widths (A ∷ earlier) k [] Q w h =
@@ -147,9 +147,9 @@ lines-told widths (l ∷ ls) tail Q h = go (sameBytes l tableTerms) (λ t. t) h
 
 accepted-told : (widths text : List ℕ) (Q : Query) → read widths text ≡ accepted Q → WellRead widths Q × (text ≡ queryText Q)
 unfolding read queryText
-accepted-told widths text Q h = go (ltb mostBytes (length text)) refl h
+accepted-told widths text Q h = go (ltb mostQueryBytes (length text)) refl h
   where
-    go : (long : Bool) → ltb mostBytes (length text) ≡ long
+    go : (long : Bool) → ltb mostQueryBytes (length text) ≡ long
         → cond long (refused 7 0) (readLines widths (lines text .ended) (lines text .rest)) ≡ accepted Q
         → WellRead widths Q × (text ≡ queryText Q)
     go true long q = absurd (refused≢accepted q)
@@ -164,7 +164,7 @@ accepted-told widths text Q h = go (ltb mostBytes (length text)) refl h
             within = w .within;
             fits = w .fits;
             clear = w .clear;
-            short = subst (λ (l : List ℕ). length l ≤ mostBytes) is (ltb-false mostBytes (length text) long);
+            short = subst (λ (l : List ℕ). length l ≤ mostQueryBytes) is (ltb-false mostQueryBytes (length text) long);
           },
           is,
         )

@@ -8,17 +8,17 @@ use borrow.Author.Tests.{lt-ltb, le-ltb}
 use Rattle.text.specs.Lines.{Split, lines, before, sameBytes}
 use Rattle.text.specs.Names.{tableTerms}
 use Rattle.text.proofs.Lines.{split-none, split-found}
-use Rattle.query.specs.Text.{refused, mostBytes, readLines, read}
+use Rattle.query.specs.Text.{refused, mostQueryBytes, readLines, read}
 use Rattle.query.proofs.Walk.{behind, front, back}
 
 module _ (widths text : List ℕ) where
   pub too-long : 4096 < length text → refused 7 0 ≡ read widths text
-  unfolding read mostBytes
+  unfolding read mostQueryBytes
   too-long h = rw (lt-ltb 4096 (length text) h)
 
   module _ (h : length text ≤ 4096) where
     short : read widths text ≡ readLines widths (lines text .ended) (lines text .rest)
-    unfolding read mostBytes
+    unfolding read mostQueryBytes
     short = rw (le-ltb 4096 (length text) h)
 
     -- the text stops in its first line

@@ -22,7 +22,7 @@ use Rattle.model.specs.Print.{printQueryLine, lineFields}
 use Rattle.model.proofs.Limits.{clear-line, up-to-iff}
 use Rattle.model.proofs.Printed.{line-clean, within-writable, query-line-printed, query-line-short}
 use Rattle.model.proofs.Values.{width-is}
-use Rattle.query.specs.Text.{accepted, mostBytes, fault, ends, judged, step, readFrom, readLines, read}
+use Rattle.query.specs.Text.{accepted, mostQueryBytes, fault, queryEnds, judged, step, readFrom, readLines, read}
 use Rattle.query.specs.Print.{queryText}
 use Rattle.query.specs.WellRead.{WellRead}
 use Rattle.query.proofs.Accepted.{accepted-well-read, accepted-printed}
@@ -65,7 +65,7 @@ module _ (widths : List ℕ) (Q : Query) (w : WellRead widths Q) where
   unfolding readFrom step judged
   lines-read [] earlier e k = go earlier (sym (append-nil earlier) ∙ e)
     where
-      go : (R : Query) → R ≡ Q → ends R k [] ≡ accepted Q
+      go : (R : Query) → R ≡ Q → queryEnds R k [] ≡ accepted Q
       go [] q = absurd (not-suc-le-zero (subst (λ (R : Query). 1 ≤ length R) (sym q) (w .nonempty)))
       go (A ∷ R) q = ap accepted q
   lines-read (A ∷ l) earlier e k =
@@ -80,7 +80,7 @@ module _ (widths : List ℕ) (Q : Query) (w : WellRead widths Q) where
   pub text-reads : read widths (queryText Q) ≡ accepted Q
   unfolding read readLines sameBytes tableTerms
   text-reads =
-      rw (le-ltb mostBytes (length (queryText Q)) (w .short), lines-printed Q) (lines-read Q [] refl 2)
+      rw (le-ltb mostQueryBytes (length (queryText Q)) (w .short), lines-printed Q) (lines-read Q [] refl 2)
 
 pub reads-exactly : (widths text : List ℕ) (Q : Query) → (read widths text ≡ accepted Q) ↔ (WellRead widths Q × (text ≡ queryText Q))
 reads-exactly widths text Q = (
@@ -96,8 +96,8 @@ module _ (widths : List ℕ) (narrow : (n : ℕ) → n ∈ widths → T (upTo mo
   columns A i = up-to-iff mostColumns (length (A .columns)) .0 (width-is (λ n. T (upTo mostColumns n)) widths narrow A (fits A i))
 
   -- coarse bounds suffice: each numeral is taken as 10 bytes
-  pub query-short : length (queryText Q) ≤ mostBytes
-  unfolding queryText endEach tableTerms mostBytes mostLines mostColumns
+  pub query-short : length (queryText Q) ≤ mostQueryBytes
+  unfolding queryText endEach tableTerms mostQueryBytes mostLines mostColumns
   query-short =
       let each = each-map (Within 107) printQueryLine Q (λ A i. query-line-short A (within-writable A (within A i)) (columns A i .1)) in
       let all = rw (length-map Q printQueryLine) at (length-ended 107 (map printQueryLine Q) each) in

@@ -19,7 +19,7 @@ use Rattle.model.specs.declared.Parsed.{Parsed}
 use Rattle.model.specs.declared.Query.{Query as QueryValue}
 use Rattle.model.specs.declared.Outcome.the-variants.{Accepted}
 use Rattle.model.proofs.Pad.{pad-more}
-use Rattle.query.specs.Text.{Reading, refused, fault, ends, judged, step, readFrom}
+use Rattle.query.specs.Text.{Reading, refused, fault, queryEnds, judged, step, readFrom}
 use Rattle.model.specs.Variables.{Marked}
 use Rattle.query.specs.Value.{readingValue}
 use Rattle.model.proofs.Variables.{marked-none, marked-more}
@@ -40,12 +40,12 @@ back text = drop (suc (before 10 text)) text
 -- a tail that lacks its end
 behind-tail : (widths : List ℕ) (earlier : List Line) (k : ℕ) (text : List ℕ) → before 10 text ≡ length text → 0 < length text
     → behind widths earlier k text ≡ refused 1 k
-unfolding lines readFrom ends
+unfolding lines readFrom queryEnds
 behind-tail widths earlier k [] e h = absurd (omega arith)
 behind-tail widths earlier k (b ∷ tail) e h = rw (split-none 10 (b ∷ tail) e)
 
 -- the end of the text
-behind-end : (widths : List ℕ) (earlier : List Line) (k : ℕ) → behind widths earlier k [] ≡ ends earlier k []
+behind-end : (widths : List ℕ) (earlier : List Line) (k : ℕ) → behind widths earlier k [] ≡ queryEnds earlier k []
 unfolding lines readFrom
 behind-end widths earlier k = refl
 
@@ -106,25 +106,25 @@ module _ {tables : Tables} {text : List ℕ} {start : ℕ} {q : QueryValue} {s h
 
   -- the text stops behind its last line
   module _ (widths : List ℕ) (t : tables ≡ tablesValue widths) (l : length text ≤ at) where
-    ended : ends (w .earlier) line [] ≡ behind widths [] start text
+    ended : queryEnds (w .earlier) line [] ≡ behind widths [] start text
     ended =
         sym (behind-end widths (w .earlier) line)
         ∙ ap (behind widths (w .earlier) line) (sym (drop-of-length-le text l))
         ∙ w .ahead widths t
 
     pub empty : q .count ≡ 0 → refused 1 line ≡ behind widths [] start text
-    unfolding ends
+    unfolding queryEnds
     empty z = go (w .earlier) (sym counted ∙ z) ended
       where
-        go : (Q : List Line) → length Q ≡ 0 → ends Q line [] ≡ behind widths [] start text → refused 1 line ≡ behind widths [] start text
+        go : (Q : List Line) → length Q ≡ 0 → queryEnds Q line [] ≡ behind widths [] start text → refused 1 line ≡ behind widths [] start text
         go [] n e = e
         go (A ∷ Q) n e = absurd (omega arith)
 
     pub done : (q .count ≡ 0 → ⊥) → record { outcome = Accepted; query = q } ≡ readingValue (behind widths [] start text)
-    unfolding ends readingValue
+    unfolding queryEnds readingValue
     done f = go (w .earlier) (w .held) (λ z. f (counted ∙ z)) ended
       where
-        go : (Q : List Line) → q ≡ queryValue Q → (length Q ≡ 0 → ⊥) → ends Q line [] ≡ behind widths [] start text
+        go : (Q : List Line) → q ≡ queryValue Q → (length Q ≡ 0 → ⊥) → queryEnds Q line [] ≡ behind widths [] start text
             → record { outcome = Accepted; query = q } ≡ readingValue (behind widths [] start text)
         go [] v n e = absurd (n refl)
         go (A ∷ Q) v n e = rw v (ap readingValue e)

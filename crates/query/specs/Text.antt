@@ -18,8 +18,8 @@ pub data Reading : Type 0 where
   accepted : Query → Reading
 
 -- "query text at most 4,096" bytes
-unfoldable pub mostBytes : ℕ
-mostBytes = 4096
+unfoldable pub mostQueryBytes : ℕ
+mostQueryBytes = 4096
 
 -- what turns a line back that stands behind the lines `earlier`: "1, 7 (a ninth line), 2, 4, 5, 6", the 1 apart
 unfoldable pub fault : List ℕ → List Line → Line → ℕ
@@ -31,10 +31,10 @@ fault widths earlier A =
     ∷ fitting widths earlier A)
 
 -- the text stops here: with a tail that lacks its end, or before the first line of values, it is faulty at this line
-unfoldable pub ends : List Line → ℕ → List ℕ → Reading
-ends earlier k (b ∷ tail) = refused 1 k
-ends [] k [] = refused 1 k
-ends (A ∷ earlier) k [] = accepted (A ∷ earlier)
+unfoldable pub queryEnds : List Line → ℕ → List ℕ → Reading
+queryEnds earlier k (b ∷ tail) = refused 1 k
+queryEnds [] k [] = refused 1 k
+queryEnds (A ∷ earlier) k [] = accepted (A ∷ earlier)
 
 -- a line that is malformed (1), or has a fault, turns the text back; behind any other the text goes on
 unfoldable pub judged : ℕ → ℕ → Reading → Reading
@@ -48,8 +48,8 @@ step (some A) k fault next = judged (fault A) k (next A)
 
 -- "The first faulty line counts": the lines from number k on, behind the lines `earlier`
 unfoldable pub readFrom : List ℕ → List Line → ℕ → List (List ℕ) → List ℕ → Reading
-unfolding ends step fault queryLine
-readFrom widths earlier k [] tail = ends earlier k tail
+unfolding queryEnds step fault queryLine
+readFrom widths earlier k [] tail = queryEnds earlier k tail
 readFrom widths earlier k (l ∷ ls) tail =
     step (queryLine l) k (fault widths earlier) (λ A. readFrom widths (earlier ++ A ∷ []) (suc k) ls tail)
 
@@ -61,6 +61,6 @@ readLines widths (l ∷ ls) tail = cond (sameBytes l tableTerms) (readFrom width
 
 -- "7 at line 0 for length, else …"
 unfoldable pub read : List ℕ → List ℕ → Reading
-unfolding readLines lines mostBytes
+unfolding readLines lines mostQueryBytes
 read widths text =
-    let s = lines text in cond (ltb mostBytes (length text)) (refused 7 0) (readLines widths (s .ended) (s .rest))
+    let s = lines text in cond (ltb mostQueryBytes (length text)) (refused 7 0) (readLines widths (s .ended) (s .rest))

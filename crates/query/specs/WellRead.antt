@@ -7,7 +7,7 @@ use lib.ListN.{length}
 use Rattle.theory.specs.Query.{Line, Query, _∈_, NoClash}
 use Rattle.theory.specs.Archive.{AllFit}
 use Rattle.model.specs.Limits.{mostLines, lineWithin}
-use Rattle.query.specs.Text.{mostBytes}
+use Rattle.query.specs.Text.{mostQueryBytes}
 use Rattle.query.specs.Print.{queryText}
 
 -- under tables of these widths
@@ -24,4 +24,4 @@ pub record WellRead (widths : List ℕ) (Q : Query) : Type 0 where
   -- "6: one variable number both shown and hidden"
   pub clear : NoClash Q
   -- "query text at most 4,096" bytes (7)
-  pub short : length (queryText Q) ≤ mostBytes
+  pub short : length (queryText Q) ≤ mostQueryBytes
