@@ -41,6 +41,7 @@ tableChecks d e =
     ∷ record { broken = not (eqb (e .number) (suc (length (d .widths)))); number = 3 }
     ∷ []
 
+-- the number of the first that turns the line back, 0 where none does; so in each block
 unfoldable pub tableFault : Declared → Numbered ℕ → ℕ
 unfolding firstFault upTo mostTables mostColumns
 tableFault d e = firstFault (tableChecks d e)

@@ -32,6 +32,7 @@ lineChecks widths earlier A =
     ∷ record { broken = not (lineWithin A); number = 2 }
     ∷ fitting widths earlier A
 
+-- the number of the first that does, 0 where none does
 unfoldable pub fault : List ℕ → List Line → Line → ℕ
 unfolding firstFault mostLines lineWithin known wide clashing
 fault widths earlier A = firstFault (lineChecks widths earlier A)
