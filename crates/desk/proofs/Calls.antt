@@ -63,7 +63,7 @@ fresh d w =
       each = λ i b. (λ e c m. absurd (List·Memᴰ·not-nil m), λ f. low-bits-set n i b);
     }
 
-refused≢accepted : {n k : ℕ} → Refused n k ≡ Accepted → ⊥
+pub refused≢accepted : {n k : ℕ} → Refused n k ≡ Accepted → ⊥
 refused≢accepted e = let z : _≡_ {A = ℕ} 1 0 = cc in omega arith
 
 -- a text that loading accepts, by what `load` replies

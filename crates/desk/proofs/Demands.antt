@@ -22,6 +22,7 @@ use Rattle.desk.proofs.Steps.{Held}
 use Rattle.desk.proofs.Calls.{chain, fresh, loaded}
 use Rattle.desk.proofs.Unique.{opened-unique, decided-unique, labels-unique, explanation-unique}
 use Rattle.desk.proofs.Stays.{yes-or-no, session-stays, labels-buffer-stays, explaining-buffer-stays}
+use Rattle.desk.proofs.Numbers.{loading-numbers, opening-numbers, deciding-numbers, labels-numbers, explaining-numbers}
 use Rattle.desk.proofs.Rewriting.{labels-rewrite}
 
 pub demand-1 : Demand1
@@ -34,6 +35,11 @@ demand-1 = record {
   one-listing = labels-unique;
   one-explanation = explanation-unique;
   yes-or-no = yes-or-no;
+  loading-numbers = loading-numbers;
+  opening-numbers = opening-numbers;
+  deciding-numbers = deciding-numbers;
+  labels-numbers = labels-numbers;
+  explaining-numbers = explaining-numbers;
   session-stays = session-stays;
   labels-buffer-stays = labels-buffer-stays;
   explaining-buffer-stays = explaining-buffer-stays;

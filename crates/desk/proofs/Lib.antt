@@ -13,6 +13,7 @@ pub mod Exists
 -- What a contract leaves open: nothing.
 pub mod Unique
 pub mod Stays
+pub mod Numbers
 -- A text asked, and words written to a lent buffer.
 pub mod Asked
 pub mod Copied

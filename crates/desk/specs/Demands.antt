@@ -34,8 +34,8 @@ use Rattle.desk.specs.Rewriting.{LabelsOf}
 
 -- "Every well-formed policy, query and session gets a yes, a no or an explanation as document 01 lays down, on any bytes handed in.
 -- Everything else is turned back by one of its listed numbers, under exactly that number's condition, with the session and every
--- lent buffer unchanged": the contracts say which; each leaves one outcome, a refusal leaves the rest as it was, and the texts that are
--- accepted are those that what is well formed is printed as.
+-- lent buffer unchanged": the contracts say which; each leaves one outcome, a refusal has one of the operation's numbers and leaves the
+-- rest as it was, and the texts that are accepted are those that what is well formed is printed as.
 abbrev pub Demand1 : Type 0
 Demand1 = Outcomes
 

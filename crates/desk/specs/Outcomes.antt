@@ -1,16 +1,18 @@
--- What holds of every call of the desk's operations: what is accepted, one outcome, what a refusal leaves; and what settled means.
+-- What holds of every call of the desk's operations: what is accepted, one outcome, a refusal's number and what it leaves; and what
+-- settled means.
 use mathlib.Core.Path.{_≡_}
 use mathlib.Core.Logic.{_↔_, _⊎_}
 use mathlib.Core.Bool.{true, false}
-use mathlib.Core.List.{List}
+use mathlib.Core.List.{List, [], _∷_, _++_}
 use Prim.Native.Nat.{ℕ, _-_}
-use Rattle.theory.specs.Query.{Query}
+use Rattle.theory.specs.Query.{Query, _∈_}
 use Rattle.model.specs.declared.Policy.{Policy}
-use Rattle.query.specs.Text.{read}
+use Rattle.model.specs.declared.Outcome.the-variants.{Refused}
+use Rattle.query.specs.Text.{queryNumbers, read}
 use Rattle.query.specs.Text.{accepted as readAs}
 use Rattle.query.specs.Print.{queryText}
 use Rattle.query.specs.WellRead.{WellRead}
-use Rattle.policy.specs.Text.{load, accepted}
+use Rattle.policy.specs.Text.{policyNumbers, load, accepted}
 use Rattle.policy.specs.Declared.{Declared, PartitionDetermines}
 use Rattle.policy.specs.WellFormed.{WellFormed}
 use Rattle.policy.specs.Print.{print}
@@ -28,6 +30,18 @@ use Rattle.desk.specs.Opening.{Opened}
 use Rattle.desk.specs.Listing.{saidListing, LabelsGiven}
 use Rattle.desk.specs.Explaining.{saidExplaining, ExplanationGiven}
 
+-- "Deciding. 8. Then 9 … Then the text"
+abbrev pub decidingNumbers : List ℕ
+decidingNumbers = 8 ∷ 9 ∷ queryNumbers
+
+-- "Labels. 8, the text as above, then 10"
+abbrev pub labelsNumbers : List ℕ
+labelsNumbers = 8 ∷ queryNumbers ++ 10 ∷ []
+
+-- "Explaining. 8. Then 4 … Then the text, then 10."
+abbrev pub explainingNumbers : List ℕ
+explainingNumbers = 8 ∷ 4 ∷ queryNumbers ++ 10 ∷ []
+
 pub record Outcomes : Type 0 where
   -- the texts that are accepted, from the other side: what is well formed, printed
   pub policies : (text : List ℕ) (d : Declared) → (load text ≡ accepted d) ↔ (WellFormed d × (text ≡ print d))
@@ -44,6 +58,16 @@ pub record Outcomes : Type 0 where
   pub yes-or-no : (p : Policy) (l : Loadable p) (s : Session) (text : List ℕ) (r : Decision) → Decided p s text r
       → unfit (l .declared) (s .mask) ≡ false → (Q : Query) → read (l .declared .widths) text ≡ readAs Q
       → (said (r .reply) .word ≡ yes) ⊎ (said (r .reply) .word ≡ no)
+  -- "Everything else is turned back by one of its listed numbers"
+  pub loading-numbers : (text : List ℕ) (r : Loading) → r ≡ loadingValue (load text)
+      → (n k : ℕ) → r .outcome ≡ Refused n k → n ∈ policyNumbers
+  pub opening-numbers : (p : Policy) (r : Opening) → Opened p r → (n k : ℕ) → r .outcome ≡ Refused n k → (n ≡ 8) × (k ≡ 0)
+  pub deciding-numbers : (p : Policy) (s : Session) (text : List ℕ) (r : Decision) → Decided p s text r
+      → said (r .reply) .word ≡ refused → said (r .reply) .number ∈ decidingNumbers
+  pub labels-numbers : (p : Policy) (text before : List ℕ) (r : Listing) (after : List ℕ) → LabelsGiven p text before r after
+      → saidListing r .given ≡ false → saidListing r .number ∈ labelsNumbers
+  pub explaining-numbers : (p : Policy) (n : ℕ) (text before : List ℕ) (r : Explaining) (after : List ℕ)
+      → ExplanationGiven p n text before r after → saidExplaining r .given ≡ false → saidExplaining r .number ∈ explainingNumbers
   -- a refusal
   pub session-stays : (p : Policy) (s : Session) (text : List ℕ) (r : Decision) → Decided p s text r
       → said (r .reply) .word ≡ refused → r .session ≡ s

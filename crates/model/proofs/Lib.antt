@@ -1,5 +1,6 @@
 -- Facts about the definitions of specs/.
 pub mod FieldsRead
+pub mod FirstFault
 pub mod Limits
 pub mod LineRead
 pub mod Pad

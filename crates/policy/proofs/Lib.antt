@@ -3,6 +3,8 @@ pub mod Faults
 -- What a text loads to is well formed, and the text is that printed.
 pub mod Declares
 pub mod Loaded
+-- What turns a text back.
+pub mod Numbers
 -- What is printed is read back.
 pub mod Blocks
 pub mod Sizes

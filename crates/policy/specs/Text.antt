@@ -13,7 +13,7 @@ use Rattle.model.specs.Fields.{Numbered, tableLine, viewLine, partitionLine}
 use Rattle.policy.specs.Declared.{Declared}
 use Rattle.policy.specs.WellFormed.{ascend}
 use Rattle.model.specs.Limits.{mostTables, mostColumns, mostViews, mostPartitions, upTo, lineWithin}
-use Rattle.model.specs.Checks.{known, wide, clashing, firstFault, fitting}
+use Rattle.model.specs.Checks.{known, wide, clashing, Check, firstFault, fitting}
 
 -- "it is the empty one: no table, view or partition"
 unfoldable pub nothing : Declared
@@ -28,35 +28,46 @@ pub data Loading : Type 0 where
 unfoldable pub mostPolicyBytes : ℕ
 mostPolicyBytes = 16384
 
+-- what turns a policy text back: "the checks run in the order 1, 7, 2, 3, 4, 5, 6", of which 7 is for its length
+abbrev pub policyNumbers : List ℕ
+policyNumbers = 1 ∷ 7 ∷ 2 ∷ 3 ∷ 4 ∷ 5 ∷ 6 ∷ []
+
 -- ---- one line: what turns it back apart from its form (1), and what it declares
 
 -- "2: a number outside its limits. 3: a table, view or partition number out of turn"
+abbrev pub tableChecks : Declared → Numbered ℕ → List Check
+tableChecks d e =
+    record { broken = not (upTo mostTables (e .number) && upTo mostColumns (e .value)); number = 2 }
+    ∷ record { broken = not (eqb (e .number) (suc (length (d .widths)))); number = 3 }
+    ∷ []
+
+-- the number of the first that turns the line back, 0 where none does; so in each block
 unfoldable pub tableFault : Declared → Numbered ℕ → ℕ
 unfolding firstFault upTo mostTables mostColumns
-tableFault d e =
-    firstFault
-    (record { broken = not (upTo mostTables (e .number) && upTo mostColumns (e .value)); number = 2 }
-    ∷ record { broken = not (eqb (e .number) (suc (length (d .widths)))); number = 3 }
-    ∷ [])
+tableFault d e = firstFault (tableChecks d e)
 
 -- and 4, 5 and 6
+abbrev pub viewChecks : Declared → Numbered Line → List Check
+viewChecks d e =
+    record { broken = not (upTo mostViews (e .number) && lineWithin (e .value)); number = 2 }
+    ∷ record { broken = not (eqb (e .number) (suc (length (d .views)))); number = 3 }
+    ∷ fitting (d .widths) [] (e .value)
+
 unfoldable pub viewFault : Declared → Numbered Line → ℕ
 unfolding firstFault upTo mostViews lineWithin known wide clashing
-viewFault d e =
-    firstFault
-    (record { broken = not (upTo mostViews (e .number) && lineWithin (e .value)); number = 2 }
-    ∷ record { broken = not (eqb (e .number) (suc (length (d .views)))); number = 3 }
-    ∷ fitting (d .widths) [] (e .value))
+viewFault d e = firstFault (viewChecks d e)
 
 -- 3 also "a partition's views that don't ascend strictly"
-unfoldable pub partitionFault : Declared → Numbered (List ℕ) → ℕ
-unfolding firstFault upTo mostViews mostPartitions ascend all any
-partitionFault d e =
-    firstFault
-    (record { broken = not (upTo mostPartitions (e .number) && all (upTo mostViews) (e .value)); number = 2 }
+abbrev pub partitionChecks : Declared → Numbered (List ℕ) → List Check
+partitionChecks d e =
+    record { broken = not (upTo mostPartitions (e .number) && all (upTo mostViews) (e .value)); number = 2 }
     ∷ record { broken = not (eqb (e .number) (suc (length (d .partitions))) && ascend (e .value)); number = 3 }
     ∷ record { broken = any (ltb (length (d .views))) (e .value); number = 4 }
-    ∷ [])
+    ∷ []
+
+unfoldable pub partitionFault : Declared → Numbered (List ℕ) → ℕ
+unfolding firstFault upTo mostViews mostPartitions ascend all any
+partitionFault d e = firstFault (partitionChecks d e)
 
 -- a line's number that turns it back, or what is declared with it
 pub data Entered : Type 0 where

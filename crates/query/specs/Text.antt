@@ -10,7 +10,7 @@ use Rattle.text.specs.Lines.{lines, sameBytes}
 use Rattle.text.specs.Names.{tableTerms}
 use Rattle.model.specs.Fields.{queryLine}
 use Rattle.model.specs.Limits.{mostLines, lineWithin}
-use Rattle.model.specs.Checks.{known, wide, clashing, firstFault, fitting}
+use Rattle.model.specs.Checks.{known, wide, clashing, Check, firstFault, fitting}
 
 -- a query text's query, or the number that turns it back and the line
 pub data Reading : Type 0 where
@@ -21,14 +21,21 @@ pub data Reading : Type 0 where
 unfoldable pub mostQueryBytes : ℕ
 mostQueryBytes = 4096
 
+-- what turns a query text back: "1, 7 (a ninth line), 2, 4, 5, 6", and 7 for its length
+abbrev pub queryNumbers : List ℕ
+queryNumbers = 1 ∷ 7 ∷ 2 ∷ 4 ∷ 5 ∷ 6 ∷ []
+
 -- what turns a line back that stands behind the lines `earlier`: "1, 7 (a ninth line), 2, 4, 5, 6", the 1 apart
+abbrev pub lineChecks : List ℕ → List Line → Line → List Check
+lineChecks widths earlier A =
+    record { broken = leb mostLines (length earlier); number = 7 }
+    ∷ record { broken = not (lineWithin A); number = 2 }
+    ∷ fitting widths earlier A
+
+-- the number of the first that does, 0 where none does
 unfoldable pub fault : List ℕ → List Line → Line → ℕ
 unfolding firstFault mostLines lineWithin known wide clashing
-fault widths earlier A =
-    firstFault
-    (record { broken = leb mostLines (length earlier); number = 7 }
-    ∷ record { broken = not (lineWithin A); number = 2 }
-    ∷ fitting widths earlier A)
+fault widths earlier A = firstFault (lineChecks widths earlier A)
 
 -- the text stops here: with a tail that lacks its end, or before the first line of values, it is faulty at this line
 unfoldable pub queryEnds : List Line → ℕ → List ℕ → Reading
