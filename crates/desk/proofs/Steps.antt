@@ -18,7 +18,7 @@ use Rattle.words.specs.Bits.{bit}
 use Rattle.words.proofs.Bits.{bit-zero}
 use Rattle.words.proofs.Lowest.{trailing-least}
 use Rattle.query.specs.Text.{Reading, refused, accepted, read}
-use Rattle.query.proofs.Accepted.{accepted-well-read}
+use Rattle.query.proofs.Accepted.{accepted-well-read, refused≢accepted}
 use Rattle.policy.specs.Declared.{Declared, PartitionDetermines}
 use Rattle.policy.specs.WellFormed.{WellFormed}
 use Rattle.labels.specs.Settled.{granted}
@@ -52,9 +52,6 @@ turned-no e f = omega (arith, ap number (sym e ∙ f))
 
 pub accepted-same : {P Q : Query} → accepted P ≡ accepted Q → P ≡ Q
 accepted-same e = cc
-
-refused≢accepted : {n k : ℕ} {Q : Query} → refused n k ≡ accepted Q → ⊥
-refused≢accepted e = let z : _≡_ {A = ℕ} 0 1 = cc in omega arith
 
 module _ (d : Declared) where
   -- ---- which partitions are open

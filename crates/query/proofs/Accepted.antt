@@ -77,7 +77,7 @@ record Told (widths : List ℕ) (earlier : List Line) (ls : List (List ℕ)) (ta
   ended : tail ≡ []
   printed : map printQueryLine earlier ++ ls ≡ map printQueryLine Q
 
-refused≢accepted : {n k : ℕ} {Q : Query} → refused n k ≡ accepted Q → ⊥
+pub refused≢accepted : {n k : ℕ} {Q : Query} → refused n k ≡ accepted Q → ⊥
 refused≢accepted e = let z : _≡_ {A = ℕ} 0 1 = cc in omega arith
 
 ends-told : (widths : List ℕ) (earlier : List Line) (k : ℕ) (tail : List ℕ) (Q : Query) → SoFar widths earlier
