@@ -15,18 +15,18 @@ use Rattle.words.proofs.Parts.{high-part}
 use Rattle.model.specs.Limits.{mostTables, mostViews}
 use Rattle.model.specs.declared.Outcome.the-variants.{Refused}
 use Rattle.model.specs.declared.Policy.{Policy}
-use Rattle.query.specs.Text.{refused, accepted, read}
-use Rattle.query.proofs.Accepted.{accepted-well-read}
-use Rattle.policy.specs.Declared.{Declared}
-use Rattle.policy.specs.WellFormed.{WellFormed}
+use Rattle.query_text.specs.Text.{refused, accepted, read}
+use Rattle.query_text.proofs.Accepted.{accepted-well-read}
+use Rattle.policy_text.specs.Declared.{Declared}
+use Rattle.policy_text.specs.WellFormed.{WellFormed}
 use Rattle.validity.specs.Loadable.{Loadable}
-use Rattle.labels.specs.Posed.{labelsValue}
-use Rattle.labels.specs.Text.{LoadedTo, askedValue}
-use Rattle.labels.specs.declared.Asked.{Asked}
-use Rattle.labels.specs.declared.Labels.{Labels}
-use Rattle.labels.proofs.Lines.{shown-fits}
-use Rattle.labels.proofs.Posing.{few-labels}
-use Rattle.labels.proofs.Readings.{Tag, asked-accepted, asked-refused}
+use Rattle.labelling.specs.Posed.{labelsValue}
+use Rattle.labelling.specs.Text.{LoadedTo, askedValue}
+use Rattle.labelling.specs.declared.Asked.{Asked}
+use Rattle.labelling.specs.declared.Labels.{Labels}
+use Rattle.labelling.proofs.Lines.{shown-fits}
+use Rattle.labelling.proofs.Posing.{few-labels}
+use Rattle.labelling.proofs.Readings.{Tag, asked-accepted, asked-refused}
 use Rattle.desk.proofs.Loaded.{loaded-to}
 use Rattle.desk.specs.HoldsLabels.{HoldsLabels}
 

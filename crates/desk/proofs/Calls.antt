@@ -8,11 +8,11 @@ use lib.Pow.{pow-mono}
 use Rattle.words.proofs.ClearBits.{low-bits-set, low-bits-below}
 use Rattle.model.specs.declared.Policy.{Policy}
 use Rattle.model.specs.declared.Outcome.the-variants.{Accepted, Refused}
-use Rattle.policy.specs.Text.{refused, accepted, load}
-use Rattle.policy.specs.Declared.{Declared}
-use Rattle.policy.specs.Text.{Loading as TheLoading}
-use Rattle.policy.specs.WellFormed.{WellFormed}
-use Rattle.policy.specs.Policy.{policyValue}
+use Rattle.policy_text.specs.Text.{refused, accepted, load}
+use Rattle.policy_text.specs.Declared.{Declared}
+use Rattle.policy_text.specs.Text.{Loading as TheLoading}
+use Rattle.policy_text.specs.WellFormed.{WellFormed}
+use Rattle.policy_text.specs.Policy.{policyValue}
 use Rattle.validity.specs.Loadable.{Loadable}
 use Rattle.load.specs.Value.{loadingValue}
 use Rattle.load.specs.declared.Loading.{Loading}

@@ -6,9 +6,9 @@ use Prim.Native.Nat.{ℕ, _^_}
 use lib.Dec.{eqb, leb}
 use Rattle.theory.specs.Query.{Query}
 use Rattle.model.specs.declared.Policy.{Policy}
-use Rattle.query.specs.Text.{refused, accepted, read}
-use Rattle.policy.specs.Declared.{Declared}
-use Rattle.labels.specs.Text.{LoadedTo}
+use Rattle.query_text.specs.Text.{refused, accepted, read}
+use Rattle.policy_text.specs.Declared.{Declared}
+use Rattle.labelling.specs.Text.{LoadedTo}
 use Rattle.desk.specs.Deciding.{unfit, stillOpen, turnedBack, answered, decideQuery, decideUnder}
 use Rattle.desk.proofs.Loaded.{partition-count}
 

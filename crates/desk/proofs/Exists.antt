@@ -5,11 +5,11 @@ use Prim.Native.Nat.{ℕ}
 use lib.Dec.{eqb}
 use Rattle.model.specs.declared.Policy.{Policy}
 use Rattle.words.proofs.Answers.{either}
-use Rattle.query.specs.Text.{Reading, refused, accepted, read}
-use Rattle.policy.specs.Declared.{Declared}
-use Rattle.policy.specs.Abstract.{declaredBy}
-use Rattle.policy.proofs.Bridge.{stands-for}
-use Rattle.policy.proofs.Loaded.{loaded-well-formed}
+use Rattle.query_text.specs.Text.{Reading, refused, accepted, read}
+use Rattle.policy_text.specs.Declared.{Declared}
+use Rattle.policy_text.specs.Abstract.{declaredBy}
+use Rattle.policy_text.proofs.Bridge.{stands-for}
+use Rattle.policy_text.proofs.Loaded.{loaded-well-formed}
 use Rattle.validity.specs.Loadable.{Loadable}
 use Rattle.desk.specs.declared.opening.Session.{Session}
 use Rattle.desk.specs.declared.deciding.Reply.the-variants.{Yes, No, Refused}

@@ -11,13 +11,13 @@ use Rattle.words.proofs.Answers.{true-holds}
 use Rattle.model.specs.Limits.{upTo}
 use Rattle.model.specs.declared.Policy.{Policy}
 use Rattle.model.proofs.Pad.{pad-get, pad-take}
-use Rattle.query.specs.Text.{refused, read}
+use Rattle.query_text.specs.Text.{refused, read}
 use Rattle.model.proofs.Limits.{up-to-iff}
 use Rattle.validity.specs.Loadable.{Loadable}
-use Rattle.labels.specs.Posed.{labelsValue}
-use Rattle.labels.specs.Settled.{settled}
-use Rattle.labels.specs.declared.Asked.{Asked}
-use Rattle.labels.specs.declared.Labels.{Labels}
+use Rattle.labelling.specs.Posed.{labelsValue}
+use Rattle.labelling.specs.Settled.{settled}
+use Rattle.labelling.specs.declared.Asked.{Asked}
+use Rattle.labelling.specs.declared.Labels.{Labels}
 use Rattle.explain.specs.Explanation.{explained}
 use Rattle.explain.specs.Value.{wordsValue}
 use Rattle.explain.specs.declared.Words.{Words}

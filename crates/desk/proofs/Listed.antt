@@ -9,11 +9,11 @@ use lib.ListN.{length, take, drop}
 use Rattle.theory.specs.Executable.Label.{labels}
 use Rattle.model.specs.declared.Policy.{Policy}
 use Rattle.model.proofs.Pad.{pad-take}
-use Rattle.query.specs.Text.{refused, read}
+use Rattle.query_text.specs.Text.{refused, read}
 use Rattle.validity.specs.Loadable.{Loadable}
-use Rattle.labels.specs.Posed.{labelsValue}
-use Rattle.labels.specs.declared.Asked.{Asked}
-use Rattle.labels.specs.declared.Labels.{Labels}
+use Rattle.labelling.specs.Posed.{labelsValue}
+use Rattle.labelling.specs.declared.Asked.{Asked}
+use Rattle.labelling.specs.declared.Labels.{Labels}
 use Rattle.desk.specs.Listing.{saidListing, notListed, given, listed, listReading, Lists, LabelsGiven}
 use Rattle.desk.specs.declared.listing.Listing.{Listing}
 use Rattle.desk.specs.declared.listing.Listing.the-variants.{Given, Refused}

@@ -7,11 +7,11 @@ use lib.ListN.{length, getD, List·getD-map}
 use Rattle.model.specs.Limits.{mostPartitions}
 use Rattle.model.specs.declared.Policy.{Policy}
 use Rattle.model.proofs.Pad.{pad-get}
-use Rattle.policy.specs.Declared.{Declared}
-use Rattle.policy.specs.Policy.{viewsAfter, policyValue}
-use Rattle.policy.proofs.Loaded.{loaded-well-formed}
+use Rattle.policy_text.specs.Declared.{Declared}
+use Rattle.policy_text.specs.Policy.{viewsAfter, policyValue}
+use Rattle.policy_text.proofs.Loaded.{loaded-well-formed}
 use Rattle.validity.specs.Loadable.{Loadable}
-use Rattle.labels.specs.Text.{LoadedTo}
+use Rattle.labelling.specs.Text.{LoadedTo}
 
 pub loaded-to : {p : Policy} (l : Loadable p) → LoadedTo p (l .declared)
 loaded-to l = record { policy = l .value; good = loaded-well-formed (l .text) (l .declared) (l .loads) }

@@ -10,7 +10,7 @@ use lib.Dec.{eqb, ltb}
 use lib.ListN.{length, getD}
 use Rattle.theory.specs.Query.{_∈_}
 use Rattle.theory.specs.Executable.Test.{any}
-use Rattle.labels.specs.Settled.{settled}
+use Rattle.labelling.specs.Settled.{settled}
 use Rattle.explain.specs.Explanation.{viewsOf, keep, insert, ascending, distinct, least, lacking, explained}
 
 -- at most n words, each with the property

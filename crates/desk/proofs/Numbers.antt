@@ -16,13 +16,13 @@ use Rattle.model.specs.declared.Policy.{Policy}
 use Rattle.model.specs.declared.Outcome.{Outcome}
 use Rattle.model.specs.declared.Outcome.the-variants.{Refused}
 use Rattle.model.proofs.FirstFault.{found-in}
-use Rattle.query.specs.Text.{Reading, refused, accepted, read}
-use Rattle.query.proofs.Numbers.{read-refuses}
-use Rattle.policy.specs.Declared.{Declared}
-use Rattle.policy.specs.Policy.{viewsAfter}
-use Rattle.policy.specs.Text.{policyNumbers, load}
-use Rattle.policy.specs.Text.{Loading as TheLoading, refused as notLoaded, accepted as loadedAs}
-use Rattle.policy.proofs.Numbers.{load-refuses}
+use Rattle.query_text.specs.Text.{Reading, refused, accepted, read}
+use Rattle.query_text.proofs.Numbers.{read-refuses}
+use Rattle.policy_text.specs.Declared.{Declared}
+use Rattle.policy_text.specs.Policy.{viewsAfter}
+use Rattle.policy_text.specs.Text.{policyNumbers, load}
+use Rattle.policy_text.specs.Text.{Loading as TheLoading, refused as notLoaded, accepted as loadedAs}
+use Rattle.policy_text.proofs.Numbers.{load-refuses}
 use Rattle.validity.specs.Loadable.{Loadable}
 use Rattle.load.specs.Value.{loadingValue}
 use Rattle.load.specs.declared.Loading.{Loading}

@@ -18,8 +18,8 @@ use Rattle.theory.proofs.Label.{label-says-rewriting}
 use Rattle.theory.proofs.Executable.Reduce.{reduce-reduces}
 use Rattle.theory.proofs.Executable.Label.{label-table, label-below}
 use Rattle.model.specs.Limits.{mostTables}
-use Rattle.policy.specs.Declared.{Declared}
-use Rattle.policy.specs.WellFormed.{WellFormed}
+use Rattle.policy_text.specs.Declared.{Declared}
+use Rattle.policy_text.specs.WellFormed.{WellFormed}
 use Rattle.desk.specs.Rewriting.{LabelOf, LabelsOfForm, LabelsOf}
 
 module _ (d : Declared) (good : WellFormed d) where

@@ -19,11 +19,11 @@ use Rattle.words.specs.Bits.{isSet}
 use Rattle.words.specs.Sets.{setBit, Upto}
 use Rattle.words.proofs.Marks.{upto-more}
 use Rattle.model.specs.declared.Policy.{Policy}
-use Rattle.policy.specs.Declared.{Declared}
+use Rattle.policy_text.specs.Declared.{Declared}
 use Rattle.words.proofs.Bits.{same-bits}
-use Rattle.labels.specs.Settled.{settled, granted}
-use Rattle.labels.specs.Text.{LoadedTo}
-use Rattle.labels.proofs.Partitions.{settled-settles}
+use Rattle.labelling.specs.Settled.{settled, granted}
+use Rattle.labelling.specs.Text.{LoadedTo}
+use Rattle.labelling.proofs.Partitions.{settled-settles}
 use Rattle.desk.specs.Deciding.{passing, stillOpen}
 use Rattle.desk.specs.Settling.{Settles, Settling}
 use Rattle.desk.proofs.Loaded.{partition-word}

@@ -11,12 +11,12 @@ use Rattle.theory.proofs.Lists.{below-place, there}
 use Rattle.words.proofs.Answers.{true-holds, holds-true, either}
 use Rattle.model.specs.Limits.{upTo}
 use Rattle.model.proofs.Limits.{up-to-iff}
-use Rattle.query.specs.Text.{read, accepted}
-use Rattle.query.proofs.Accepted.{accepted-well-read}
-use Rattle.policy.specs.Declared.{Declared}
-use Rattle.policy.specs.Policy.{viewsAfter}
-use Rattle.labels.specs.Settled.{settled}
-use Rattle.labels.proofs.Partitions.{settled-iff-partition}
+use Rattle.query_text.specs.Text.{read, accepted}
+use Rattle.query_text.proofs.Accepted.{accepted-well-read}
+use Rattle.policy_text.specs.Declared.{Declared}
+use Rattle.policy_text.specs.Policy.{viewsAfter}
+use Rattle.labelling.specs.Settled.{settled}
+use Rattle.labelling.proofs.Partitions.{settled-iff-partition}
 use Rattle.explain.specs.Explanation.{explained}
 use Rattle.desk.specs.Buffer.{tooShort}
 use Rattle.desk.specs.Explaining.{SaidExplaining, saidExplaining, notExplained, explainedBy, explainReading, explainUnder, Explained}

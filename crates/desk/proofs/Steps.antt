@@ -17,12 +17,12 @@ use Rattle.theory.proofs.Lists.{below-place, there}
 use Rattle.words.specs.Bits.{bit}
 use Rattle.words.proofs.Bits.{bit-zero}
 use Rattle.words.proofs.Lowest.{trailing-least}
-use Rattle.query.specs.Text.{Reading, refused, accepted, read}
-use Rattle.query.proofs.Accepted.{accepted-well-read, refused≢accepted}
-use Rattle.policy.specs.Declared.{Declared, PartitionDetermines}
-use Rattle.policy.specs.WellFormed.{WellFormed}
-use Rattle.labels.specs.Settled.{granted}
-use Rattle.labels.proofs.Partitions.{settles-iff-partition}
+use Rattle.query_text.specs.Text.{Reading, refused, accepted, read}
+use Rattle.query_text.proofs.Accepted.{accepted-well-read, refused≢accepted}
+use Rattle.policy_text.specs.Declared.{Declared, PartitionDetermines}
+use Rattle.policy_text.specs.WellFormed.{WellFormed}
+use Rattle.labelling.specs.Settled.{granted}
+use Rattle.labelling.proofs.Partitions.{settles-iff-partition}
 use Rattle.desk.specs.Reply.{Word, Said, said}
 use Rattle.desk.specs.Reply.{yes as affirmed, no as denied, refused as turned}
 use Rattle.desk.specs.Session.{openCount}

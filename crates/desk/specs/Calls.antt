@@ -5,8 +5,8 @@ use Prim.Native.Nat.{ℕ, _<_}
 use lib.ListN.{length}
 use Rattle.theory.specs.Query.{Query, _∈_}
 use Rattle.model.specs.declared.Policy.{Policy}
-use Rattle.query.specs.Text.{accepted, read}
-use Rattle.policy.specs.Declared.{Declared, PartitionDetermines}
+use Rattle.query_text.specs.Text.{accepted, read}
+use Rattle.policy_text.specs.Declared.{Declared, PartitionDetermines}
 use Rattle.desk.specs.declared.opening.Session.{Session}
 use Rattle.desk.specs.declared.deciding.Decision.{Decision}
 use Rattle.desk.specs.Reply.{Word, said, yes}

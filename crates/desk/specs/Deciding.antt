@@ -8,10 +8,10 @@ use lib.ListN.{length}
 use Rattle.theory.specs.Query.{Query}
 use Rattle.theory.specs.Executable.Label.{settles}
 use Rattle.model.specs.declared.Policy.{Policy}
-use Rattle.query.specs.Text.{Reading, refused, accepted, read}
-use Rattle.policy.specs.Declared.{Declared}
+use Rattle.query_text.specs.Text.{Reading, refused, accepted, read}
+use Rattle.policy_text.specs.Declared.{Declared}
 use Rattle.validity.specs.Loadable.{Loadable}
-use Rattle.labels.specs.Settled.{granted}
+use Rattle.labelling.specs.Settled.{granted}
 use Rattle.desk.specs.declared.opening.Session.{Session}
 use Rattle.desk.specs.declared.deciding.Decision.{Decision}
 use Rattle.desk.specs.Reply.{Said, said, yes, no}

@@ -10,10 +10,10 @@ use Rattle.theory.specs.Count.{Counts}
 use Rattle.words.specs.Bits.{bit}
 use Rattle.model.specs.declared.Policy.{Policy}
 use Rattle.model.specs.declared.Outcome.the-variants.{Accepted}
-use Rattle.query.specs.Text.{read}
-use Rattle.query.specs.Text.{accepted as readAs}
-use Rattle.policy.specs.Text.{load, accepted}
-use Rattle.policy.specs.Declared.{Declared}
+use Rattle.query_text.specs.Text.{read}
+use Rattle.query_text.specs.Text.{accepted as readAs}
+use Rattle.policy_text.specs.Text.{load, accepted}
+use Rattle.policy_text.specs.Declared.{Declared}
 use Rattle.validity.specs.Loadable.{Loadable}
 use Rattle.load.specs.Value.{loadingValue}
 use Rattle.load.specs.declared.Loading.{Loading}

@@ -7,11 +7,11 @@ use lib.ListN.{length, getD}
 use Rattle.theory.specs.Executable.Label.{labels}
 use Rattle.model.specs.Limits.{upTo}
 use Rattle.model.specs.declared.Policy.{Policy}
-use Rattle.query.specs.Text.{Reading, refused, accepted, read}
-use Rattle.policy.specs.Declared.{Declared}
-use Rattle.policy.specs.Policy.{viewsAfter}
+use Rattle.query_text.specs.Text.{Reading, refused, accepted, read}
+use Rattle.policy_text.specs.Declared.{Declared}
+use Rattle.policy_text.specs.Policy.{viewsAfter}
 use Rattle.validity.specs.Loadable.{Loadable}
-use Rattle.labels.specs.Settled.{settled}
+use Rattle.labelling.specs.Settled.{settled}
 use Rattle.explain.specs.Explanation.{explained}
 use Rattle.desk.specs.Buffer.{tooShort, headed}
 use Rattle.desk.specs.declared.explaining.Explaining.{Explaining}

@@ -4,8 +4,8 @@ use mathlib.Core.List.{List}
 use Prim.Native.Nat.{ℕ, _/_, _^_, _≤_, _<_}
 use lib.ListN.{length}
 use Rattle.theory.specs.Query.{_∈_}
-use Rattle.labels.specs.Posed.{labelsValue}
-use Rattle.labels.specs.declared.Labels.{Labels}
+use Rattle.labelling.specs.Posed.{labelsValue}
+use Rattle.labelling.specs.declared.Labels.{Labels}
 
 -- at most eight labels, each with its views in 32 bits
 pub record HoldsLabels (l : Labels) (ws : List ℕ) : Type 0 where

@@ -6,8 +6,8 @@ use Prim.Native.Nat.{ℕ}
 use lib.ListN.{length}
 use Rattle.theory.specs.Executable.Label.{labels}
 use Rattle.model.specs.declared.Policy.{Policy}
-use Rattle.query.specs.Text.{Reading, refused, accepted, read}
-use Rattle.policy.specs.Declared.{Declared}
+use Rattle.query_text.specs.Text.{Reading, refused, accepted, read}
+use Rattle.policy_text.specs.Declared.{Declared}
 use Rattle.validity.specs.Loadable.{Loadable}
 use Rattle.desk.specs.Buffer.{tooShort, headed}
 use Rattle.desk.specs.declared.listing.Listing.{Listing}

@@ -8,14 +8,14 @@ use Prim.Native.Nat.{ℕ, _-_}
 use Rattle.theory.specs.Query.{Query, _∈_}
 use Rattle.model.specs.declared.Policy.{Policy}
 use Rattle.model.specs.declared.Outcome.the-variants.{Refused}
-use Rattle.query.specs.Text.{queryNumbers, read}
-use Rattle.query.specs.Text.{accepted as readAs}
-use Rattle.query.specs.Print.{queryText}
-use Rattle.query.specs.WellRead.{WellRead}
-use Rattle.policy.specs.Text.{policyNumbers, load, accepted}
-use Rattle.policy.specs.Declared.{Declared, PartitionDetermines}
-use Rattle.policy.specs.WellFormed.{WellFormed}
-use Rattle.policy.specs.Print.{print}
+use Rattle.query_text.specs.Text.{queryNumbers, read}
+use Rattle.query_text.specs.Text.{accepted as readAs}
+use Rattle.query_text.specs.Print.{queryText}
+use Rattle.query_text.specs.WellRead.{WellRead}
+use Rattle.policy_text.specs.Text.{policyNumbers, load, accepted}
+use Rattle.policy_text.specs.Declared.{Declared, PartitionDetermines}
+use Rattle.policy_text.specs.WellFormed.{WellFormed}
+use Rattle.policy_text.specs.Print.{print}
 use Rattle.validity.specs.Loadable.{Loadable}
 use Rattle.load.specs.Value.{loadingValue}
 use Rattle.load.specs.declared.Loading.{Loading}

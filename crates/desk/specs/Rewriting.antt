@@ -11,7 +11,7 @@ use Rattle.theory.specs.Reduce.{Reduced, ReducesTo}
 use Rattle.theory.specs.Cover.{Rewrites}
 use Rattle.theory.specs.Show.{Shown}
 use Rattle.words.specs.Bits.{bit}
-use Rattle.policy.specs.Declared.{Declared}
+use Rattle.policy_text.specs.Declared.{Declared}
 
 -- A word is the label of a line: "the low 32 bits hold the table number and the high 32 bits the views, view n at bit 31 + n",
 -- a view "exactly when that line … can be rewritten over that one view with the same answers on every archive"

@@ -6,7 +6,7 @@ use Prim.Native.Nat.{ℕ, _<_}
 use lib.Dec.{T}
 use lib.ListN.{getD}
 use Rattle.words.specs.Bits.{bit}
-use Rattle.labels.specs.Settled.{settled}
+use Rattle.labelling.specs.Settled.{settled}
 
 -- partition i, counted from 0, is one of the policy's, is open, and settles the query with these labels
 pub record Settles (partitions : List ℕ) (n mask : ℕ) (ws : List ℕ) (i : ℕ) : Type 0 where

@@ -5,15 +5,15 @@ ghost use mathlib.Core.Bool.{_&&_, _||_};
 ghost use mathlib.Core.List.{List};
 ghost use Prim.Native.Nat.{ℕ, _^_, _≤_};
 ghost use lib.Dec.{eqb, leb};
-ghost use Rattle.label.specs.Labelled.{TableMasks, ViewsLaid};
-ghost use Rattle.policy.specs.Declared.{Declared};
-ghost use Rattle.labels.specs.Posed.{labelsValue};
-ghost use Rattle.labels.specs.Settled.{settled};
-ghost use Rattle.labels.specs.Text.{LoadedTo, SomePolicy};
+ghost use Rattle.covering.specs.Labelled.{TableMasks, ViewsLaid};
+ghost use Rattle.policy_text.specs.Declared.{Declared};
+ghost use Rattle.labelling.specs.Posed.{labelsValue};
+ghost use Rattle.labelling.specs.Settled.{settled};
+ghost use Rattle.labelling.specs.Text.{LoadedTo, SomePolicy};
 ghost use Rattle.desk.specs.Deciding.{turnedBack, answered, decideUnder, Gives, Decided};
 ghost use Rattle.desk.specs.Settling.{Settling};
 use crate::opening::Session;
-use labels::Labels;
+use labelling::Labels;
 use model::Outcome;
 use model::Policy;
 
@@ -56,7 +56,7 @@ fn settles_if(there: bool, l: Labels, partition: u64) -> bool
     if !there {
         return false;
     }
-    labels::settles(l, partition)
+    labelling::settles(l, partition)
 }
 
 // The open partitions that settle a query with these labels.
@@ -108,7 +108,7 @@ pub fn decide_loaded(
         return refused(s, 9, 0);
     }
     let tables = p.tables;
-    let a = labels::label_text(tables, masks, views, text);
+    let a = labelling::label_text(tables, masks, views, text);
     let outcome = a.outcome;
     match outcome {
         Outcome::Refused { number, line } => refused(s, number, line),
@@ -128,8 +128,8 @@ pub fn decide_checked(p: Policy, s: Session, text: &[u8]) -> Decision
     if !validity::valid(p) {
         return refused(s, 8, 0);
     }
-    let masks = label::table_views(p);
-    let views = label::view_rows(p);
+    let masks = covering::table_views(p);
+    let views = covering::view_rows(p);
     decide_loaded(p, &masks, &views, s, text)
 }
 

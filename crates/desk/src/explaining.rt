@@ -5,11 +5,11 @@ ghost use mathlib.Core.List.{List, _++_};
 ghost use Prim.Native.Nat.{ℕ, _^_, _≤_, _<_};
 ghost use lib.ListN.{length, getD, take, drop};
 ghost use Rattle.model.specs.Limits.{upTo};
-ghost use Rattle.labels.specs.Settled.{settled};
+ghost use Rattle.labelling.specs.Settled.{settled};
 ghost use Rattle.explain.specs.Explanation.{explained};
 ghost use Rattle.desk.specs.HoldsLabels.{HoldsLabels, SomeLabels};
 ghost use Rattle.desk.specs.Explaining.{ExplanationGiven, Explains, explainedBy};
-use labels::Labels;
+use labelling::Labels;
 use model::Outcome;
 use model::Policy;
 
@@ -31,7 +31,7 @@ pub fn explain(p: Policy, n: u64, text: &[u8], out: &mut [u32]) -> Explaining
         return Explaining::Refused { number: 4, line: 0 };
     }
     let granted = p.partitions[n as usize - 1];
-    let a = labels::ask(p, text);
+    let a = labelling::ask(p, text);
     let outcome = a.outcome;
     match outcome {
         Outcome::Accepted => {
@@ -54,7 +54,7 @@ fn give_words(l: Labels, granted: u64, out: &mut [u32]) -> Explaining
     requires { ⌜ SomeLabels l ⌝ }
     ensures { λ r. ⌜ ((ws : List ℕ) → HoldsLabels l ws → Explains r (now (out .exit)) (explainedBy (now (out .entry)) (settled granted ws) (explained granted ws))) ⌝ }
 {
-    let is_settled = labels::settles(l, granted);
+    let is_settled = labelling::settles(l, granted);
     let w = explain::words_of(l, granted, is_settled);
     let count = w.count;
     if out.len() < count {

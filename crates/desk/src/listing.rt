@@ -4,9 +4,9 @@ ghost use mathlib.Core.Path.{_≡_};
 ghost use mathlib.Core.List.{List, _++_};
 ghost use Prim.Native.Nat.{ℕ, _≤_};
 ghost use lib.ListN.{length, take, drop};
-ghost use Rattle.labels.specs.Posed.{labelsValue};
+ghost use Rattle.labelling.specs.Posed.{labelsValue};
 ghost use Rattle.desk.specs.Listing.{LabelsGiven, Lists, listed};
-use labels::Labels;
+use labelling::Labels;
 use model::Outcome;
 use model::Policy;
 
@@ -23,7 +23,7 @@ pub fn labels(p: Policy, text: &[u8], out: &mut [u64]) -> Listing
     if !validity::valid(p) {
         return Listing::Refused { number: 8, line: 0 };
     }
-    let a = labels::ask(p, text);
+    let a = labelling::ask(p, text);
     let outcome = a.outcome;
     match outcome {
         Outcome::Accepted => {

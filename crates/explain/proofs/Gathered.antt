@@ -9,9 +9,9 @@ use lib.Dec.{eqb}
 use lib.ListN.{length, getD, drop, drop-of-length-le}
 use Rattle.theory.specs.Executable.Test.{any}
 use Rattle.words.specs.Sets.{meet}
-use Rattle.labels.specs.Posed.{labelsValue}
-use Rattle.labels.specs.Settled.{holdsOne}
-use Rattle.labels.specs.declared.Labels.{Labels}
+use Rattle.labelling.specs.Posed.{labelsValue}
+use Rattle.labelling.specs.Settled.{holdsOne}
+use Rattle.labelling.specs.declared.Labels.{Labels}
 use Rattle.explain.specs.Explanation.{viewsOf, keep, insert, ascending, distinct, exceeds, least, lacking}
 use Rattle.explain.proofs.Distinct.{distinct-more}
 use Rattle.explain.proofs.Lacking.{passes, keep-lacking}

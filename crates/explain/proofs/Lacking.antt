@@ -4,7 +4,7 @@ use mathlib.Core.Bool.{Bool, true, false, cond, not, _&&_, _||_}
 use mathlib.Core.List.{List, [], _∷_, map}
 use Prim.Native.Nat.{ℕ}
 use Rattle.theory.specs.Executable.Test.{any}
-use Rattle.labels.specs.Settled.{holdsOne}
+use Rattle.labelling.specs.Settled.{holdsOne}
 use Rattle.explain.specs.Explanation.{viewsOf, keep, lacking}
 
 -- ---- one label more in front

@@ -4,8 +4,8 @@ use mathlib.Core.List.{List}
 use Prim.Native.Nat.{ℕ}
 use lib.ListN.{length, getD}
 use Rattle.model.proofs.Pad.{pad-get}
-use Rattle.labels.specs.Posed.{labelsValue}
-use Rattle.labels.specs.declared.Labels.{Labels}
+use Rattle.labelling.specs.Posed.{labelsValue}
+use Rattle.labelling.specs.declared.Labels.{Labels}
 use Rattle.explain.specs.Value.{wordsValue}
 use Rattle.explain.specs.declared.Words.{Words}
 

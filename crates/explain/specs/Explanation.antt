@@ -6,7 +6,7 @@ use lib.Bits.{bitAnd}
 use lib.Dec.{eqb, ltb}
 use Rattle.theory.specs.Executable.Test.{any}
 use Rattle.words.specs.Sets.{include}
-use Rattle.labels.specs.Settled.{holdsOne, settled}
+use Rattle.labelling.specs.Settled.{holdsOne, settled}
 
 -- the views of a label, "view n at bit n − 1"
 unfoldable pub viewsOf : ℕ → ℕ

@@ -6,8 +6,8 @@ use Rattle.theory.specs.Query.{constant, shown, hidden, Line, Query}
 use Rattle.theory.specs.Executable.Label.{labels}
 use Rattle.theory.specs.Printed.{view2, view4, query1, query4, query6}
 use Rattle.theory.specs.Printed.{views as exampleViews}
-use Rattle.policy.specs.Policy.{viewsAfter}
-use Rattle.labels.specs.Settled.{settled}
+use Rattle.policy_text.specs.Policy.{viewsAfter}
+use Rattle.labelling.specs.Settled.{settled}
 use Rattle.explain.specs.Explanation.{explained}
 
 -- whether the partition settles the query, and the words

@@ -8,12 +8,12 @@ use types.Run.{OneOf}
 use Rattle.model.specs.declared.Outcome.{Outcome}
 use Rattle.model.specs.declared.Outcome.the-variants.{Refused}
 use Rattle.model.proofs.Outcome.{the-type}
-use Rattle.policy.specs.Text.{refused, accepted, load}
-use Rattle.policy.specs.Declared.{Declared as TheDeclared}
-use Rattle.policy.specs.Text.{Loading as TheLoading}
-use Rattle.policy.specs.WellFormed.{WellFormed}
-use Rattle.policy.specs.Policy.{policyValue}
-use Rattle.policy.proofs.Loaded.{loaded-well-formed}
+use Rattle.policy_text.specs.Text.{refused, accepted, load}
+use Rattle.policy_text.specs.Declared.{Declared as TheDeclared}
+use Rattle.policy_text.specs.Text.{Loading as TheLoading}
+use Rattle.policy_text.specs.WellFormed.{WellFormed}
+use Rattle.policy_text.specs.Policy.{policyValue}
+use Rattle.policy_text.proofs.Loaded.{loaded-well-formed}
 use Rattle.load.specs.Value.{loadingValue}
 use Rattle.load.specs.declared.Loading.{Loading}
 

@@ -6,10 +6,10 @@ use Prim.Native.Nat.{ℕ, _+_}
 use native.Mathlib.Omega.{arith}
 use Rattle.text.specs.Names.{viewTableTerms, partitionViews}
 use Rattle.text.specs.Lines.{sameBytes}
-use Rattle.policy.specs.Text.{Block, tables, views, partitions, isNext, nextBlock, enter, faulty, entered}
-use Rattle.policy.specs.Declared.{Declared}
-use Rattle.policy.specs.Text.{Entered as TheEntered}
-use Rattle.policy.specs.Policy.{policyValue}
+use Rattle.policy_text.specs.Text.{Block, tables, views, partitions, isNext, nextBlock, enter, faulty, entered}
+use Rattle.policy_text.specs.Declared.{Declared}
+use Rattle.policy_text.specs.Text.{Entered as TheEntered}
+use Rattle.policy_text.specs.Policy.{policyValue}
 use Rattle.load.specs.Steps.{blockNumber, enteredValue, progressValue, afterEntry, steppedValue}
 use Rattle.model.specs.declared.Policy.{Policy}
 use Rattle.load.specs.declared.Progress.{Progress}

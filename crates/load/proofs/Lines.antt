@@ -9,8 +9,8 @@ use native.Mathlib.Omega.{arith}
 use lib.Dec.{eqb}
 use borrow.Author.Tests.{eq-eqb, ne-eqb}
 use Rattle.model.specs.Fields.{Numbered}
-use Rattle.policy.specs.Text.{faulty, entered, unless, entry}
-use Rattle.policy.specs.Declared.{Declared}
+use Rattle.policy_text.specs.Text.{faulty, entered, unless, entry}
+use Rattle.policy_text.specs.Declared.{Declared}
 use Rattle.load.specs.Steps.{lineFault}
 
 -- a kind of line: its flags and number, the line that says no more, and the line of an entry within its limits

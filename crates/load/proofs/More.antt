@@ -10,9 +10,9 @@ use Rattle.model.specs.declared.Policy.{Policy}
 use Rattle.model.specs.declared.Parsed.{Parsed}
 use Rattle.model.specs.declared.Line.{Line as LineValue}
 use Rattle.model.proofs.Pad.{pad-more}
-use Rattle.policy.specs.Declared.{Declared}
-use Rattle.policy.specs.Policy.{policyValue, viewsAfter}
-use Rattle.entries.specs.Value.{viewList}
+use Rattle.policy_text.specs.Declared.{Declared}
+use Rattle.policy_text.specs.Policy.{policyValue, viewsAfter}
+use Rattle.policy_lines.specs.Value.{viewList}
 use Rattle.load.specs.Steps.{moreTables, moreViews, morePartitions}
 
 -- an entry more behind entries that are made of a list

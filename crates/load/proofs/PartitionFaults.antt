@@ -13,11 +13,11 @@ use Rattle.theory.specs.Executable.Test.{all, any}
 use Rattle.model.specs.Fields.{Numbered, partitionLine}
 use Rattle.model.specs.Limits.{upTo, mostViews, mostPartitions}
 use Rattle.model.specs.Checks.{firstFault}
-use Rattle.policy.specs.Text.{partitionFault, faulty, entered, enter, partitions as partitionBlock}
-use Rattle.policy.specs.WellFormed.{ascend}
-use Rattle.policy.specs.Declared.{Declared}
-use Rattle.entries.specs.Value.{partitionValue, noPartition, viewList, lastAfter}
-use Rattle.entries.specs.declared.PartitionLine.{PartitionLine}
+use Rattle.policy_text.specs.Text.{partitionFault, faulty, entered, enter, partitions as partitionBlock}
+use Rattle.policy_text.specs.WellFormed.{ascend}
+use Rattle.policy_text.specs.Declared.{Declared}
+use Rattle.policy_lines.specs.Value.{partitionValue, noPartition, viewList, lastAfter}
+use Rattle.policy_lines.specs.declared.PartitionLine.{PartitionLine}
 use Rattle.load.specs.Steps.{lineFault, morePartitions}
 use Rattle.load.proofs.Lines.{Kind, Within, reading, within, malformed-fault, outside-fault, within-fault, in-turn, out-of-turn, taken, taken-entered, faulty-entered}
 

@@ -8,7 +8,7 @@ use borrow.Author.Tests.{lt-ltb, le-ltb}
 use Rattle.text.specs.Lines.{Split, lines, before, sameBytes}
 use Rattle.text.specs.Names.{tableColumns}
 use Rattle.text.proofs.Lines.{split-none, split-found}
-use Rattle.policy.specs.Text.{refused, nothing, tables, loadFrom, loadLines, load, mostPolicyBytes}
+use Rattle.policy_text.specs.Text.{refused, nothing, tables, loadFrom, loadLines, load, mostPolicyBytes}
 
 pub too-long : (text : List ℕ) → 16384 < length text → refused 7 0 ≡ load text
 unfolding load mostPolicyBytes

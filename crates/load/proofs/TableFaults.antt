@@ -11,10 +11,10 @@ use Rattle.model.specs.Limits.{upTo, mostTables, mostColumns}
 use Rattle.model.specs.Checks.{firstFault}
 use Rattle.model.specs.Value.{tablesValue}
 use Rattle.model.specs.declared.Tables.{Tables}
-use Rattle.policy.specs.Text.{tableFault, faulty, entered, enter, tables as tableBlock}
-use Rattle.policy.specs.Declared.{Declared}
-use Rattle.entries.specs.Value.{tableValue, noTable}
-use Rattle.entries.specs.declared.TableLine.{TableLine}
+use Rattle.policy_text.specs.Text.{tableFault, faulty, entered, enter, tables as tableBlock}
+use Rattle.policy_text.specs.Declared.{Declared}
+use Rattle.policy_lines.specs.Value.{tableValue, noTable}
+use Rattle.policy_lines.specs.declared.TableLine.{TableLine}
 use Rattle.load.specs.Steps.{lineFault, moreTables}
 use Rattle.load.proofs.Lines.{Kind, Within, reading, within, malformed-fault, outside-fault, within-fault, in-turn, out-of-turn, taken, taken-entered, faulty-entered}
 

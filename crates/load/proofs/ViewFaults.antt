@@ -11,10 +11,10 @@ use Rattle.model.specs.Fields.{Numbered, viewLine}
 use Rattle.model.specs.Limits.{upTo, mostViews, lineWithin}
 use Rattle.model.specs.Checks.{firstFault, misfit}
 use Rattle.model.specs.Parsed.{goodValue}
-use Rattle.policy.specs.Text.{viewFault, faulty, entered, enter, views as viewBlock}
-use Rattle.policy.specs.Declared.{Declared}
-use Rattle.entries.specs.Value.{viewValue, noView}
-use Rattle.entries.specs.declared.ViewLine.{ViewLine}
+use Rattle.policy_text.specs.Text.{viewFault, faulty, entered, enter, views as viewBlock}
+use Rattle.policy_text.specs.Declared.{Declared}
+use Rattle.policy_lines.specs.Value.{viewValue, noView}
+use Rattle.policy_lines.specs.declared.ViewLine.{ViewLine}
 use Rattle.load.specs.Steps.{lineFault, moreViews}
 use Rattle.load.proofs.Lines.{Kind, Within, reading, within, malformed-fault, outside-fault, within-fault, in-turn, out-of-turn, taken, taken-entered, faulty-entered}
 

@@ -13,9 +13,9 @@ use lib.Seq.{drop-drop}
 use Rattle.text.specs.Lines.{Split, lines, split, before}
 use Rattle.text.proofs.Lines.{split-none, split-found}
 use Rattle.model.specs.Fields.{Numbered, tableLine, viewLine, partitionLine}
-use Rattle.policy.specs.Text.{nothing, refused, accepted, faulty, entered, Block, tables, views, partitions, unless, entry, enter, tableFault, viewFault, partitionFault, isNext, nextBlock, policyEnds, goOn, loadFrom}
-use Rattle.policy.specs.Declared.{Declared}
-use Rattle.policy.specs.Text.{Loading as TheLoading, Entered as TheEntered}
+use Rattle.policy_text.specs.Text.{nothing, refused, accepted, faulty, entered, Block, tables, views, partitions, unless, entry, enter, tableFault, viewFault, partitionFault, isNext, nextBlock, policyEnds, goOn, loadFrom}
+use Rattle.policy_text.specs.Declared.{Declared}
+use Rattle.policy_text.specs.Text.{Loading as TheLoading, Entered as TheEntered}
 use Rattle.load.specs.Steps.{blockNumber, progressValue, afterEntry, steppedValue, moreTables, moreViews, morePartitions}
 use Rattle.load.specs.declared.Progress.{Progress}
 use Rattle.load.specs.declared.Stepped.{Stepped}

@@ -8,10 +8,10 @@ use Rattle.text.specs.Lines.{lines}
 use Rattle.theory.specs.Query.{Line}
 use Rattle.model.specs.Fields.{Numbered}
 use Rattle.model.specs.declared.Parsed.{Parsed}
-use Rattle.policy.specs.Text.{nothing, faulty, entered, tables, views, partitions, Block, enter, isNext, nextBlock, loadFrom}
-use Rattle.policy.specs.Declared.{Declared}
-use Rattle.policy.specs.Text.{Entered as TheEntered}
-use Rattle.policy.specs.Policy.{policyValue}
+use Rattle.policy_text.specs.Text.{nothing, faulty, entered, tables, views, partitions, Block, enter, isNext, nextBlock, loadFrom}
+use Rattle.policy_text.specs.Declared.{Declared}
+use Rattle.policy_text.specs.Text.{Entered as TheEntered}
+use Rattle.policy_text.specs.Policy.{policyValue}
 use Rattle.load.specs.Value.{loadingValue}
 use Rattle.load.specs.declared.Loading.{Loading}
 use Rattle.load.specs.declared.Progress.{Progress}

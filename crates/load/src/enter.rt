@@ -9,21 +9,21 @@ ghost use Rattle.theory.specs.Query.{Line as TheLine};
 ghost use Rattle.model.specs.Fields.{Numbered};
 ghost use Rattle.model.specs.Value.{tablesValue};
 ghost use Rattle.model.specs.Parsed.{goodValue};
-ghost use Rattle.policy.specs.Text.{enter, tables as tableBlock, views as viewBlock, partitions as partitionBlock, tableFault, viewFault, partitionFault};
-ghost use Rattle.policy.specs.Declared.{Declared};
-ghost use Rattle.policy.specs.Policy.{policyValue};
-ghost use Rattle.entries.specs.Value.{tableValue, viewValue, partitionValue, viewList};
+ghost use Rattle.policy_text.specs.Text.{enter, tables as tableBlock, views as viewBlock, partitions as partitionBlock, tableFault, viewFault, partitionFault};
+ghost use Rattle.policy_text.specs.Declared.{Declared};
+ghost use Rattle.policy_text.specs.Policy.{policyValue};
+ghost use Rattle.policy_lines.specs.Value.{tableValue, viewValue, partitionValue, viewList};
 ghost use Rattle.load.specs.Steps.{enteredValue, lineFault, ViewTabled, Numbering, moreTables, moreViews, morePartitions};
-use entries::PartitionLine;
-use entries::TableLine;
-use entries::ViewLine;
-use entries::read_partition;
-use entries::read_table;
-use entries::read_view;
 use model::Line;
 use model::Parsed;
 use model::Policy;
 use model::Tables;
+use policy_lines::PartitionLine;
+use policy_lines::TableLine;
+use policy_lines::ViewLine;
+use policy_lines::read_partition;
+use policy_lines::read_table;
+use policy_lines::read_view;
 
 // The number that turns the line back, or 0; and what is declared with the line, or without it where it is turned back.
 pub struct Entered {

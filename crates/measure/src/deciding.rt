@@ -1,7 +1,7 @@
 // A query text decided again and again, each time in the session that opening gives.
 
-ghost use Rattle.label.specs.Labelled.{TableMasks, ViewsLaid};
-ghost use Rattle.labels.specs.Text.{SomePolicy};
+ghost use Rattle.covering.specs.Labelled.{TableMasks, ViewsLaid};
+ghost use Rattle.labelling.specs.Text.{SomePolicy};
 use desk::Reply;
 use model::Outcome;
 use model::Policy;
@@ -35,8 +35,8 @@ fn decide_again(p: Policy, masks: &[u64; 17], views: &[u64; 544], text: &[u8], t
 fn prepare_and_decide(p: Policy, text: &[u8], times: u64) -> u64
     requires { ⌜ SomePolicy p ⌝ }
 {
-    let masks = label::table_views(p);
-    let views = label::view_rows(p);
+    let masks = covering::table_views(p);
+    let views = covering::view_rows(p);
     decide_again(p, &masks, &views, text, times)
 }
 

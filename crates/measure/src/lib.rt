@@ -1,11 +1,13 @@
 // For measuring alone, and no interface of the desk: under one loaded policy a query is labelled, or decided from its text,
 // again and again, and the policy is checked again and again. Each result is a sum in which every answer has a part, so that
-// the compiler can leave none out; it is 0 where a text is turned back.
+// the compiler can leave none out; it is 0 where a text is turned back. Beside them the program's whole work.
 
 mod checking;
 mod deciding;
-mod labelling;
+mod labels;
+mod running;
 
 pub use checking::kolbrees_check;
 pub use deciding::kolbrees_decide;
-pub use labelling::kolbrees_label;
+pub use labels::kolbrees_label;
+pub use running::kolbrees_stream;

@@ -10,8 +10,8 @@ use lib.ListN.{length, take, drop, length-drop, drop-of-length-le}
 use lib.Seq.{drop-drop}
 use Rattle.words.specs.Bits.{onesBelow}
 use Rattle.model.specs.declared.Policy.{Policy}
-use Rattle.policy.specs.Declared.{Declared}
-use Rattle.labels.specs.Text.{LoadedTo}
+use Rattle.policy_text.specs.Declared.{Declared}
+use Rattle.labelling.specs.Text.{LoadedTo}
 use Rattle.desk.specs.declared.deciding.Decision.{Decision}
 use Rattle.desk.specs.Deciding.{Verdict, decideUnder, Gives}
 use Rattle.writing.specs.Wrote.{Wrote}

@@ -4,15 +4,15 @@ use mathlib.Core.List.{List, [], _∷_, _++_, append-assoc}
 use Prim.Native.Nat.{ℕ}
 use native.Mathlib.Omega.{arith}
 use Rattle.model.specs.declared.Outcome.the-variants.{Accepted, Refused}
-use Rattle.policy.specs.Text.{load}
-use Rattle.policy.specs.Declared.{Declared}
-use Rattle.policy.specs.Text.{Loading as TheLoading, refused as refusedPolicy, accepted as acceptedPolicy}
-use Rattle.policy.specs.Policy.{policyValue}
-use Rattle.policy.proofs.Loaded.{loaded-well-formed}
+use Rattle.policy_text.specs.Text.{load}
+use Rattle.policy_text.specs.Declared.{Declared}
+use Rattle.policy_text.specs.Text.{Loading as TheLoading, refused as refusedPolicy, accepted as acceptedPolicy}
+use Rattle.policy_text.specs.Policy.{policyValue}
+use Rattle.policy_text.proofs.Loaded.{loaded-well-formed}
 use Rattle.load.specs.Value.{loadingValue}
 use Rattle.load.specs.declared.Loading.{Loading}
-use Rattle.labels.specs.Text.{LoadedTo}
-use Rattle.labels.proofs.Readings.{Tag}
+use Rattle.labelling.specs.Text.{LoadedTo}
+use Rattle.labelling.proofs.Readings.{Tag}
 use Rattle.desk.specs.Reply.{refused}
 use Rattle.desk.specs.Opening.{allOpen}
 use Rattle.writing.specs.Wrote.{Wrote}

@@ -3,10 +3,10 @@
 use mathlib.Core.Path.{_≡_}
 use mathlib.Core.List.{List, [], _∷_, _++_, map}
 use Prim.Native.Nat.{ℕ, suc}
-use Rattle.policy.specs.Text.{load}
-use Rattle.policy.specs.Declared.{Declared}
-use Rattle.policy.specs.Text.{refused as refusedPolicy, accepted as acceptedPolicy}
-use Rattle.policy.specs.Policy.{policyValue}
+use Rattle.policy_text.specs.Text.{load}
+use Rattle.policy_text.specs.Declared.{Declared}
+use Rattle.policy_text.specs.Text.{refused as refusedPolicy, accepted as acceptedPolicy}
+use Rattle.policy_text.specs.Policy.{policyValue}
 use Rattle.desk.specs.declared.opening.Session.{Session}
 use Rattle.desk.specs.declared.opening.Opening.{Opening}
 use Rattle.desk.specs.Reply.{said, refused}

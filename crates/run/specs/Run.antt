@@ -1,9 +1,9 @@
 -- Document 01, "The program and its first file": the bytes written for a policy text and the bytes of standard input.
 use mathlib.Core.List.{List, [], _∷_, _++_}
 use Prim.Native.Nat.{ℕ, suc}
-use Rattle.policy.specs.Text.{Loading, load}
-use Rattle.policy.specs.Declared.{Declared}
-use Rattle.policy.specs.Text.{refused as refusedPolicy, accepted as acceptedPolicy}
+use Rattle.policy_text.specs.Text.{Loading, load}
+use Rattle.policy_text.specs.Declared.{Declared}
+use Rattle.policy_text.specs.Text.{refused as refusedPolicy, accepted as acceptedPolicy}
 use Rattle.desk.specs.Reply.{refused}
 use Rattle.desk.specs.Session.{openCount}
 use Rattle.desk.specs.Opening.{allOpen}

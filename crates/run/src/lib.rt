@@ -3,9 +3,9 @@
 ghost use mathlib.Core.Path.{_≡_};
 ghost use Prim.Native.Nat.{_+_, _≤_};
 ghost use lib.ListN.{length};
-ghost use Rattle.label.specs.Labelled.{TableMasks, ViewsLaid};
-ghost use Rattle.policy.specs.Declared.{Declared};
-ghost use Rattle.labels.specs.Text.{LoadedTo, SomePolicy};
+ghost use Rattle.covering.specs.Labelled.{TableMasks, ViewsLaid};
+ghost use Rattle.policy_text.specs.Declared.{Declared};
+ghost use Rattle.labelling.specs.Text.{LoadedTo, SomePolicy};
 ghost use Rattle.desk.specs.Reply.{Word, said};
 ghost use Rattle.writing.specs.Wrote.{Wrote};
 ghost use Rattle.cutting.specs.Cut.{cut};
@@ -100,8 +100,8 @@ pub fn run(policy: &[u8], queries: &[u8], out: &mut [u8]) -> usize
         Outcome::Refused { number, line } => put_line(out, at, 0, b"refused", 0, number, line),
         Outcome::Accepted => {
             let p = l.policy;
-            let masks = label::table_views(p);
-            let views = label::view_rows(p);
+            let masks = covering::table_views(p);
+            let views = covering::view_rows(p);
             let opened = Session {
                 mask: words::low_bits(p.partition_count as u64),
             };

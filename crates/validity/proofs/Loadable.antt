@@ -6,11 +6,11 @@ use native.Mathlib.Omega.{arith}
 use Rattle.model.specs.Limits.{mostViews, mostPartitions}
 use Rattle.model.specs.Value.{tablesValue}
 use Rattle.model.specs.declared.Policy.{Policy}
-use Rattle.policy.specs.Text.{nothing}
-use Rattle.policy.specs.Declared.{Declared}
-use Rattle.policy.specs.WellFormed.{WellFormed}
-use Rattle.policy.specs.Policy.{policyValue}
-use Rattle.policy.proofs.Loads.{loadable-iff}
+use Rattle.policy_text.specs.Text.{nothing}
+use Rattle.policy_text.specs.Declared.{Declared}
+use Rattle.policy_text.specs.WellFormed.{WellFormed}
+use Rattle.policy_text.specs.Policy.{policyValue}
+use Rattle.policy_text.proofs.Loads.{loadable-iff}
 use Rattle.validity.specs.Loadable.{Loadable}
 use Rattle.validity.specs.Parts.{TablesOf, ViewsHeld, PartitionsHeld}
 use Rattle.validity.proofs.Tables.{tables-checked}

@@ -17,11 +17,11 @@ use Rattle.words.specs.Sets.{setBit}
 use Rattle.words.proofs.Bits.{bit-cases, is-set, is-clear, bit-beyond}
 use Rattle.words.proofs.SetBits.{set-bit-adds, set-bit-below}
 use Rattle.model.specs.Limits.{mostViews, mostPartitions}
-use Rattle.policy.specs.WellFormed.{GoodPartition}
-use Rattle.policy.specs.Policy.{viewsAfter}
-use Rattle.policy.specs.Abstract.{viewsIn}
+use Rattle.policy_text.specs.WellFormed.{GoodPartition}
+use Rattle.policy_text.specs.Policy.{viewsAfter}
+use Rattle.policy_text.specs.Abstract.{viewsIn}
 use Rattle.model.proofs.Limits.{up-to-iff}
-use Rattle.policy.proofs.PartitionWords.{in-below, in-ascend, good-below}
+use Rattle.policy_text.proofs.PartitionWords.{in-below, in-ascend, good-below}
 use Rattle.validity.specs.Parts.{ValueOf, PartitionPlace, PartitionsHeld}
 use Rattle.validity.proofs.Held.{Checked, checked-held, held-checked}
 

@@ -10,7 +10,7 @@ use Rattle.model.specs.Value.{pad, tablesValue}
 use Rattle.model.specs.declared.Tables.{Tables}
 use Rattle.model.proofs.Limits.{up-to-iff}
 use Rattle.validity.specs.Parts.{ValueOf, HoldsList, WidthPlace, TablesOf}
-use Rattle.policy.specs.WellFormed.{GoodWidth}
+use Rattle.policy_text.specs.WellFormed.{GoodWidth}
 use Rattle.validity.proofs.Held.{Checked, checked-held, held-checked}
 
 pub width-iff : (w : ℕ) → ValueOf GoodWidth (λ w. w) w ↔ ((1 ≤ w) × (w ≤ 8))

@@ -14,7 +14,7 @@ use Rattle.model.specs.Value.{pad, unusedTerm, termValue, termsValue, unusedLin
 use Rattle.model.specs.declared.Line.{Line}
 use Rattle.model.specs.declared.Tables.{Tables}
 use Rattle.model.specs.declared.Term.{Term}
-use Rattle.policy.specs.WellFormed.{GoodView, GoodWidth}
+use Rattle.policy_text.specs.WellFormed.{GoodView, GoodWidth}
 use Rattle.model.proofs.Limits.{up-to-iff}
 use Rattle.validity.specs.Parts.{ValueOf, TablesOf, TermsHeld, ViewOf, ViewPlace, ViewsHeld}
 use Rattle.model.proofs.Pad.{pad-get}

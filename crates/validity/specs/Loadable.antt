@@ -3,9 +3,9 @@ use mathlib.Core.Path.{_≡_}
 use mathlib.Core.List.{List}
 use Prim.Native.Nat.{ℕ}
 use Rattle.model.specs.declared.Policy.{Policy}
-use Rattle.policy.specs.Text.{load, accepted}
-use Rattle.policy.specs.Declared.{Declared}
-use Rattle.policy.specs.Policy.{policyValue}
+use Rattle.policy_text.specs.Text.{load, accepted}
+use Rattle.policy_text.specs.Declared.{Declared}
+use Rattle.policy_text.specs.Policy.{policyValue}
 
 -- some text loads to the value
 pub record Loadable (p : Policy) : Type 0 where

@@ -13,8 +13,8 @@ use Rattle.model.specs.Value.{pad, unusedTerm, termValue, unusedLine, lineValue
 use Rattle.model.specs.declared.Term.{Term}
 use Rattle.model.specs.declared.Line.{Line}
 use Rattle.model.specs.declared.Tables.{Tables}
-use Rattle.policy.specs.WellFormed.{OneToMost, GoodWidth, GoodView, GoodPartition}
-use Rattle.policy.specs.Policy.{viewsAfter}
+use Rattle.policy_text.specs.WellFormed.{OneToMost, GoodWidth, GoodView, GoodPartition}
+use Rattle.policy_text.specs.Policy.{viewsAfter}
 
 -- ---- any part
 

@@ -5,7 +5,7 @@ use Prim.Native.Nat.{ℕ, _-_, _≤_, _<_}
 use native.Mathlib.Omega.{arith}
 use borrow.Author.Needs.{needs}
 use lib.ListN.{length, getD}
-use Rattle.labels.specs.Posed.{labelsValue}
+use Rattle.labelling.specs.Posed.{labelsValue}
 use Rattle.explain.specs.Explanation.{exceeds}
 use Rattle.explain.proofs.Gathered.{label-passes}
 use Rattle.explain.proofs.Lacking.{passes, any-lacking}

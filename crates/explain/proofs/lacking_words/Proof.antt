@@ -4,7 +4,7 @@ use mathlib.Core.List.{List}
 use Prim.Native.Nat.{ℕ, _+_, _≤_}
 use native.Mathlib.Omega.{arith}
 use borrow.Author.Needs.{needs}
-use Rattle.labels.specs.Posed.{labelsValue}
+use Rattle.labelling.specs.Posed.{labelsValue}
 use Rattle.explain.specs.Value.{wordsValue}
 use Rattle.explain.proofs.Gathered.{lackingFrom, lacking-all, lacking-none, lacking-told, lacking-untold}
 use Rattle.explain.proofs.lacking_words.Statement.{statement}

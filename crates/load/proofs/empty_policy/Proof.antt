@@ -1,7 +1,7 @@
 use mathlib.Core.Path.{refl}
 use Rattle.model.specs.Value.{pad, tablesValue, unusedLine, unusedTerm}
-use Rattle.policy.specs.Text.{nothing}
-use Rattle.policy.specs.Policy.{policyValue}
+use Rattle.policy_text.specs.Text.{nothing}
+use Rattle.policy_text.specs.Policy.{policyValue}
 use Rattle.load.proofs.empty_policy.Statement.{statement}
 use Rattle.load.proofs.empty_policy.Tie as tie
 

@@ -11,7 +11,7 @@ use borrow.Author.Tests.{not-true, not-false}
 use Rattle.text.specs.Lines.{lines, before, sameBytes}
 use Rattle.text.specs.Names.{tableColumns}
 use Rattle.text.proofs.Lines.{before-le}
-use Rattle.policy.specs.Text.{tables, nothing, loadFrom}
+use Rattle.policy_text.specs.Text.{tables, nothing, loadFrom}
 use Rattle.load.specs.Value.{loadingValue}
 use Rattle.load.proofs.Start.{too-long, no-line, other-names, names}
 use Rattle.load.proofs.load.Statement.{statement}

@@ -8,7 +8,7 @@ use borrow.Author.Needs.{needs}
 use borrow.Author.Tests.{not-true, not-false}
 use Rattle.model.specs.declared.Outcome.the-variants.{Accepted}
 use Rattle.text.proofs.Parts.{found, found-le, found-line, found-none, found-some}
-use Rattle.policy.specs.Text.{refused}
+use Rattle.policy_text.specs.Text.{refused}
 use Rattle.load.specs.Value.{loadingValue}
 use Rattle.load.specs.Steps.{progressValue, blockNumber, steppedValue}
 use Rattle.load.proofs.Blocks.{policy-of}

@@ -3,9 +3,9 @@ use mathlib.Core.Path.{_≡_, refl, ap, _∙_}
 use Prim.Native.Nat.{ℕ, _+_, _-_, _^_, _≤_}
 use native.Mathlib.Omega.{arith}
 use lib.ListN.{length}
-use Rattle.policy.specs.Text.{load, accepted}
-use Rattle.policy.specs.Declared.{Declared}
-use Rattle.labels.specs.Text.{LoadedTo}
+use Rattle.policy_text.specs.Text.{load, accepted}
+use Rattle.policy_text.specs.Declared.{Declared}
+use Rattle.labelling.specs.Text.{LoadedTo}
 use Rattle.desk.specs.Reply.{refused}
 use Rattle.desk.specs.Opening.{allOpen}
 use Rattle.desk.proofs.Loaded.{partition-count, few-partitions}

@@ -1,8 +1,8 @@
 use mathlib.Core.Logic.{Iff·trans}
 use borrow.Author.Needs.{needs}
 use borrow.Author.Tests.{eqb-true, eq-eqb}
-use Rattle.policy.specs.WellFormed.{GoodPartition}
-use Rattle.policy.specs.Policy.{viewsAfter}
+use Rattle.policy_text.specs.WellFormed.{GoodPartition}
+use Rattle.policy_text.specs.Policy.{viewsAfter}
 use Rattle.validity.specs.Parts.{ValueOf}
 use Rattle.validity.proofs.Held.{used-iff, unused-iff}
 use Rattle.validity.proofs.Partitions.{shifted-iff, word-iff}

@@ -1,12 +1,12 @@
 use mathlib.Core.Path.{sym, ap, subst, _∙_}
 use native.Mathlib.Omega.{arith}
 use borrow.Author.Needs.{needs}
-use Rattle.query.specs.Text.{read}
-use Rattle.query.proofs.Accepted.{accepted-well-read}
-use Rattle.labels.specs.Posed.{labelsValue}
-use Rattle.labels.specs.declared.Labels.{Labels}
-use Rattle.labels.proofs.Posing.{ready, few-labels}
-use Rattle.labels.proofs.Readings.{asked-accepted, asked-refused}
+use Rattle.query_text.specs.Text.{read}
+use Rattle.query_text.proofs.Accepted.{accepted-well-read}
+use Rattle.labelling.specs.Posed.{labelsValue}
+use Rattle.labelling.specs.declared.Labels.{Labels}
+use Rattle.labelling.proofs.Posing.{ready, few-labels}
+use Rattle.labelling.proofs.Readings.{asked-accepted, asked-refused}
 use Rattle.desk.specs.Deciding.{answered, Gives}
 use Rattle.desk.proofs.Loaded.{partition-count, few-partitions}
 use Rattle.desk.proofs.Settled.{settling-open}

@@ -6,8 +6,8 @@ use native.Mathlib.Omega.{arith}
 use lib.ListN.{getD}
 use Rattle.words.specs.Sets.{Upto}
 use Rattle.words.proofs.Marks.{upto-none, upto-all, by-test}
-use Rattle.labels.specs.Posed.{labelsValue}
-use Rattle.labels.specs.Settled.{settled}
+use Rattle.labelling.specs.Posed.{labelsValue}
+use Rattle.labelling.specs.Settled.{settled}
 use Rattle.desk.specs.Settling.{Settles}
 use Rattle.desk.proofs.Settled.{upto-next, settles-test}
 use Rattle.desk.proofs.deciding.settling.Statement.{statement}

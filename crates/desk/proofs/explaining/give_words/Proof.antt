@@ -5,7 +5,7 @@ use Prim.Native.Nat.{ℕ, _≤_}
 use native.Mathlib.Omega.{arith}
 use borrow.Author.Needs.{needs}
 use lib.ListN.{length}
-use Rattle.labels.specs.Posed.{labelsValue}
+use Rattle.labelling.specs.Posed.{labelsValue}
 use Rattle.explain.specs.Explanation.{explained}
 use Rattle.explain.specs.Value.{wordsValue}
 use Rattle.desk.specs.Explaining.{saidExplaining}

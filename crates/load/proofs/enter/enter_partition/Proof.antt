@@ -1,8 +1,8 @@
 use borrow.Author.Needs.{needs}
 use mathlib.Core.Path.{sym, _∙_}
 use Rattle.model.specs.Fields.{partitionLine}
-use Rattle.policy.specs.Text.{partitions as partitionBlock}
-use Rattle.entries.proofs.Limits.{partition-limits}
+use Rattle.policy_text.specs.Text.{partitions as partitionBlock}
+use Rattle.policy_lines.proofs.Limits.{partition-limits}
 use Rattle.load.proofs.Blocks.{entered-back, entered-more}
 use Rattle.load.proofs.More.{view-count-of, partition-count-of}
 use Rattle.load.proofs.PartitionFaults.{partition-turned-back, new-partition, new-partition-value, partition-declared}

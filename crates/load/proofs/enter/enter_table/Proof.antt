@@ -1,8 +1,8 @@
 use borrow.Author.Needs.{needs}
 use mathlib.Core.Path.{sym, _∙_}
 use Rattle.model.specs.Fields.{tableLine}
-use Rattle.policy.specs.Text.{tables as tableBlock}
-use Rattle.entries.proofs.Limits.{table-limits}
+use Rattle.policy_text.specs.Text.{tables as tableBlock}
+use Rattle.policy_lines.proofs.Limits.{table-limits}
 use Rattle.load.proofs.Blocks.{entered-back, entered-more}
 use Rattle.load.proofs.More.{tables-of}
 use Rattle.load.proofs.TableFaults.{table-turned-back, table-declared}

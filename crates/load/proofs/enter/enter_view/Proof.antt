@@ -1,8 +1,8 @@
 use borrow.Author.Needs.{needs}
 use mathlib.Core.Path.{sym, _∙_}
 use Rattle.model.specs.Fields.{viewLine}
-use Rattle.policy.specs.Text.{views as viewBlock}
-use Rattle.entries.proofs.Limits.{view-limits, view-tabled}
+use Rattle.policy_text.specs.Text.{views as viewBlock}
+use Rattle.policy_lines.proofs.Limits.{view-limits, view-tabled}
 use Rattle.load.proofs.Blocks.{entered-back, entered-more}
 use Rattle.load.proofs.More.{tables-of, view-count-of}
 use Rattle.load.proofs.ViewFaults.{view-turned-back, new-view, new-view-value, view-declared}

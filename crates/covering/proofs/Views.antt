@@ -1,0 +1,116 @@
+-- The views that a policy value holds, the mask of those of one table, and the label of a line.
+use mathlib.Core.Path.{_≡_, refl, sym, ap, ap₂, _∙_, subst}
+use mathlib.Core.Logic.{_↔_}
+use mathlib.Core.Bool.{Bool, true}
+use mathlib.Core.List.{List, [], _∷_, _++_, map}
+use mathlib.Core.Option.{some, Option·some-injective}
+use Prim.Native.Nat.{ℕ, zero, suc, _+_, _-_, _*_, _^_, _≤_, _<_}
+use native.Mathlib.Nat.{lt-of-lt-of-le}
+use native.Mathlib.Omega.{arith}
+use lib.ListN.{length, getD, getElem?, replicate}
+use lib.Pow.{pow-mono}
+use Rattle.words.specs.Bits.{bit}
+use Rattle.words.specs.Sets.{Upto}
+use Rattle.theory.specs.Query.{Line as TheLine}
+use Rattle.theory.specs.Cover.{Covers}
+use Rattle.theory.specs.Executable.Cover.{covers}
+use Rattle.theory.specs.Executable.Label.{viewBits, label}
+use Rattle.theory.proofs.Lists.{none≢some, at-place, place-below}
+use Rattle.theory.proofs.Executable.Cover.{covers-iff}
+use Rattle.theory.proofs.Executable.Label.{viewBits-bit, viewBits-below}
+use Rattle.model.specs.Value.{pad, unusedLine, lineValue}
+use Rattle.model.specs.Rows.{laidTable, LaidAt}
+use Rattle.model.specs.declared.Line.{Line}
+use Rattle.model.specs.declared.Policy.{Policy}
+use Rattle.covering.specs.Labelled.{Holds, OfTable, Labelled}
+use Rattle.words.proofs.Answers.{true-holds, holds-true}
+use Rattle.words.proofs.Marks.{upto-set, Picked, picked-all}
+use Rattle.words.proofs.Bits.{same-bits}
+
+-- what the code reads behind the views' end
+abbrev pub noLine : Line
+noLine = record { table = 0; terms = [] }
+
+-- ---- the value at a view's place
+
+held-view : (views : List TheLine) (n k : ℕ) (v : TheLine) → getElem? views k ≡ some v
+    → getD (map lineValue views ++ replicate n unusedLine) k noLine ≡ lineValue v
+held-view [] n k v e = absurd (none≢some e)
+held-view (w ∷ views) n zero v e = ap lineValue (Option·some-injective w v e)
+held-view (w ∷ views) n (suc k) v e = held-view views n k v e
+
+unused-table : (n k : ℕ) → getD (replicate n unusedLine) k noLine .table ≡ 0
+unfolding unusedLine
+unused-table zero k = refl
+unused-table (suc n) zero = refl
+unused-table (suc n) (suc k) = unused-table n k
+
+view-there : (views : List TheLine) (n k table : ℕ) → 1 ≤ table
+    → getD (map lineValue views ++ replicate n unusedLine) k noLine .table ≡ table
+    → (v : TheLine) × (getElem? views k ≡ some v) × (v .table ≡ table)
+unfolding lineValue
+view-there [] n k table first e = absurd (omega (arith, unused-table n k))
+view-there (v ∷ views) n zero table first e = (v, refl, e)
+view-there (v ∷ views) n (suc k) table first e = view-there views n k table first e
+
+module _ {p : Policy} {views : List TheLine} (h : Holds p views) where
+  pub view-value : (k : ℕ) (v : TheLine) → getElem? views k ≡ some v → getD (p .views) k noLine ≡ lineValue v
+  unfolding pad
+  view-value k v e = ap (λ l. getD l k noLine) (h .is) ∙ held-view views (32 - length (map lineValue views)) k v e
+
+  -- the views of a table, once each place was looked at
+  pub table-done : (table word k : ℕ) → 1 ≤ table → 32 ≤ k
+      → Upto (λ j. getD (p .views) j noLine .table ≡ table) k word → OfTable views table word
+  unfolding pad lineValue
+  table-done table word k first all built j = (
+    λ e.
+        view-there views (32 - length (map lineValue views)) j table first
+        (sym (ap (λ l. getD l j noLine .table) (h .is)) ∙ upto-set built j e),
+    λ r.
+        built .below j (omega (arith, place-below views j (r .1), h .few)) .1
+        (ap (λ (x : Line). x .table) (view-value j (r .0) (r .1)) ∙ r .2),
+  )
+
+-- ---- the label
+
+-- the view at place k covers the line
+abbrev pub Covering : List TheLine → TheLine → ℕ → Type 0
+Covering views A k = (v : TheLine) × (getElem? views k ≡ some v) × Covers v A
+
+module _ {rows : List ℕ} {mask width : ℕ} {lines : List ℕ} {a : ℕ} {views : List TheLine} {A : TheLine}
+    (l : Labelled rows mask width lines a views A) where
+  -- what the test of covering says at a place of the mask
+  pub answered : (k : ℕ) (b : Bool) → bit mask k ≡ 1
+      → ((view line : TheLine) → LaidAt rows k (lineValue view) → LaidAt lines a (lineValue line)
+      → view .table ≡ line .table → length (view .columns) ≡ width → length (line .columns) ≡ width → b ≡ covers view line)
+      → (b ≡ true) ↔ Covering views A k
+  answered k b e test =
+      let r = l .bits k .0 e in
+      let v = r .0 in
+      let same : b ≡ covers v A =
+      test v A (l .laid .row k v (r .1)) (l .line) (r .2) (l .viewWidths v (at-place views k (r .1)) (r .2)) (l .lineWidth)
+      in (
+        λ t. (v, r .1, covers-iff v A .0 (true-holds (sym same ∙ t))),
+        λ s.
+            same
+            ∙ sym
+            (holds-true (covers v A)
+            (covers-iff v A .1
+            (subst (λ (w : TheLine). Covers w A) (Option·some-injective (s .0) v (sym (s .1) ∙ r .1)) (s .2)))),
+      )
+
+  views-word : (left word : ℕ) → left ≡ 0 → word < 2 ^ 32 → Picked (Covering views A) mask left word → word ≡ viewBits views A
+  views-word left word none small w =
+      let seen = picked-all (subst (λ (k : ℕ). Picked (Covering views A) mask k word) none w) in
+      let covered : (k : ℕ) → (bit word k ≡ 1) ↔ Covering views A k =
+      λ k. (λ e. seen k .0 e .1, λ r. seen k .1 (l .bits k .1 (r .0, r .1, r .2 .table), r)) in
+      same-bits 32 word (viewBits views A) small
+      (lt-of-lt-of-le (viewBits-below views A) (pow-mono (l .few)))
+      (λ k.
+      let v = viewBits-bit views A k in (λ e. v .1 (covered k .0 e), λ e. covered k .1 (v .0 e)))
+
+  pub labelled : (table left word : ℕ) → table ≡ laidTable lines a → left ≡ 0 → word < 2 ^ 32
+      → Picked (Covering views A) mask left word → table + 2 ^ 32 * word ≡ label views A
+  unfolding label lineValue
+  labelled table left word e none small w =
+      ap₂ (λ t x. t + 2 ^ 32 * x) (e ∙ l .line .table) (views-word left word none small w)

@@ -1,0 +1,90 @@
+-- What a loaded policy and a query text that reading accepts under its tables give to label.
+use mathlib.Core.Path.{_≡_, ap}
+use mathlib.Core.List.{List, map}
+use Prim.Native.Nat.{ℕ, _≤_}
+use native.Mathlib.Omega.{arith}
+use lib.Dec.{leb→le}
+use lib.ListN.{length, length-map}
+use native.Mathlib.Nat.{le-refl}
+use Rattle.theory.specs.Query.{Query, hidden, over, _∈_}
+use Rattle.theory.specs.Query.{Line as TheLine}
+use Rattle.theory.specs.Reduce.{ReducesTo, done, take-out}
+use Rattle.theory.specs.Executable.Test.{all}
+use Rattle.theory.specs.Executable.Reduce.{reduce}
+use Rattle.theory.specs.Executable.Show.{showTerm, show}
+use Rattle.theory.specs.Executable.Label.{label, labels}
+use Rattle.theory.proofs.Lists.{length-without}
+use Rattle.theory.proofs.Executable.Reduce.{reduce-reduces}
+use Rattle.theory.proofs.Executable.Test.{and-iff, all-iff}
+use Rattle.model.specs.Limits.{mostLines, mostTables, mostColumns, mostViews, lastVariable, upTo, termWithin, lineWithin}
+use Rattle.model.specs.Value.{queryValue, tablesValue}
+use Rattle.model.specs.declared.Policy.{Policy}
+use Rattle.model.specs.declared.Query.{Query as QueryValue}
+use Rattle.model.proofs.Values.{few-terms}
+use Rattle.query_text.specs.Text.{read, accepted}
+use Rattle.query_text.specs.WellRead.{WellRead}
+use Rattle.query_text.proofs.Accepted.{accepted-well-read}
+use Rattle.policy_text.specs.Declared.{Declared}
+use Rattle.policy_text.specs.WellFormed.{WellFormed}
+use Rattle.policy_text.specs.Policy.{policyValue}
+use Rattle.model.proofs.Limits.{up-to-iff}
+use Rattle.covering.specs.Labelled.{Holds, TableMasks, ViewsLaid}
+use Rattle.reduce.specs.Showing.{Small}
+use Rattle.labelling.specs.Posed.{Ready, Posed}
+use Rattle.labelling.specs.Text.{LoadedTo}
+
+-- "variables 0 to 63"
+small-read : {widths : List ℕ} {Q : Query} → WellRead widths Q → Small Q
+unfolding lineWithin termWithin lastVariable
+small-read w n A i m =
+    let t = all-iff termWithin (A .columns) .0 (and-iff (upTo mostTables (A .table)) (all termWithin (A .columns)) .0 (w .within A i) .1) (hidden n) m in
+    omega (arith, leb→le n 63 t)
+
+pub tables-of : {p : Policy} {d : Declared} → LoadedTo p d → p .tables ≡ tablesValue (d .widths)
+unfolding policyValue
+tables-of l = ap (λ (x : Policy). x .tables) (l .policy)
+
+holds : {p : Policy} {d : Declared} → LoadedTo p d → Holds p (d .views)
+unfolding policyValue mostViews
+holds l = record { few = l .good .views .few; is = ap (λ (x : Policy). x .views) (l .policy) }
+
+-- what is made of a loaded policy once
+pub ready : {p : Policy} {d : Declared} {masks rows : List ℕ} → LoadedTo p d → TableMasks p masks → ViewsLaid p rows
+    → Ready d (p .tables) masks rows
+ready {d = d} l masks views =
+    let held = holds l in
+    record {
+      good = l .good;
+      tablesAre = tables-of l;
+      masksLong = masks .long;
+      below = λ table h. masks .mask table h .below;
+      bits = λ table first h. masks .mask table h .bits first (d .views) held;
+      rowsLong = views .long;
+      laid = views .laid (d .views) held;
+    }
+
+pub posed : {q : QueryValue} (d : Declared) (text : List ℕ) (Q : Query) → WellFormed d → read (d .widths) text ≡ accepted Q
+    → q ≡ queryValue Q → Posed q d Q
+unfolding mostColumns mostLines
+posed d text Q good e holds =
+    let w = accepted-well-read (d .widths) text Q e in
+    let narrow : (n : ℕ) → n ∈ d .widths → n ≤ 8 = λ n i. up-to-iff mostColumns n .0 (good .tables .each n i) .1 in
+    record {
+      query = record { is = holds; lines = w .few; columns = λ A i. few-terms (d .widths) narrow A (w .fits A i) };
+      small = small-read w;
+      fits = w .fits;
+    }
+
+-- ---- there are no more labels than lines
+
+reduced-length : {Q R : Query} → ReducesTo Q R → length R ≤ length Q
+reduced-length (done {Q = P} r) = le-refl (length P)
+reduced-length (take-out {Q = P} i g r) = omega (arith, reduced-length r, length-without i P (g .0))
+
+pub few-labels : (views : List TheLine) (widths text : List ℕ) (Q : Query) → read widths text ≡ accepted Q → length (labels views Q) ≤ 8
+unfolding labels show mostLines
+few-labels views widths text Q e =
+    let w = accepted-well-read widths text Q e in
+    let R = reduce Q in
+    let a = length-map (map (over (showTerm R)) R) (label views) in
+    omega (arith, w .few, reduced-length (reduce-reduces Q), a, length-map R (over (showTerm R)))

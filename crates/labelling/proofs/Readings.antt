@@ -1,0 +1,67 @@
+-- How a reading ended, by the tag of its outcome.
+use mathlib.Core.Path.{_≡_, refl, sym, ap, subst, _∙_}
+use mathlib.Core.List.{List, [], _∷_}
+use Prim.Native.Nat.{ℕ}
+use native.Mathlib.Omega.{arith}
+use denote.Enum.Declared
+use types.Run.{OneOf}
+use Rattle.theory.specs.Query.{Line, Query}
+use Rattle.theory.specs.Executable.Label.{labels}
+use Rattle.model.specs.Value.{queryValue}
+use Rattle.model.specs.declared.Outcome.{Outcome}
+use Rattle.model.specs.declared.Outcome.the-variants.{Accepted, Refused}
+use Rattle.model.proofs.Outcome.{the-type}
+use Rattle.query_text.specs.Text.{refused, accepted}
+use Rattle.query_text.specs.Text.{Reading as TheReading}
+use Rattle.query_text.specs.Value.{readingValue}
+use Rattle.query_text.specs.declared.Reading.{Reading}
+use Rattle.labelling.specs.declared.Asked.{Asked}
+use Rattle.labelling.specs.Posed.{labelsValue}
+use Rattle.labelling.specs.Text.{askedValue}
+
+-- the outcome is the variant of this number
+abbrev pub Tag : ℕ → Outcome → Type 0
+Tag n o = OneOf (n ∷ []) (Declared.tagOf the-type o)
+
+pub read-accepted : (r : TheReading) (v : Reading) → v ≡ readingValue r → Tag 0 (v .outcome)
+    → (Q : Query) × (r ≡ accepted Q) × (v .outcome ≡ Accepted) × (v .query ≡ queryValue Q)
+unfolding readingValue
+read-accepted (refused n k) v e h = let t : Tag 0 (Refused n k) = subst (λ (w : Reading). Tag 0 (w .outcome)) e h in absurd (omega arith)
+read-accepted (accepted Q) v e h = (Q, refl, ap (λ (w : Reading). w .outcome) e, ap (λ (w : Reading). w .query) e)
+
+pub read-refused : (r : TheReading) (v : Reading) → v ≡ readingValue r → Tag 1 (v .outcome)
+    → (n k : ℕ) × (r ≡ refused n k) × (v .outcome ≡ Refused n k)
+unfolding readingValue
+read-refused (refused n k) v e h = (n, k, refl, ap (λ (w : Reading). w .outcome) e)
+read-refused (accepted Q) v e h = let t : Tag 1 Accepted = subst (λ (w : Reading). Tag 1 (w .outcome)) e h in absurd (omega arith)
+
+-- ---- the same of a text that is labelled
+
+pub asked-accepted : (views : List Line) (r : TheReading) (v : Asked) → v ≡ askedValue views r → Tag 0 (v .outcome)
+    → (Q : Query) × (r ≡ accepted Q) × (v .labels ≡ labelsValue (labels views Q))
+unfolding askedValue
+asked-accepted views (refused n k) v e h = let t : Tag 0 (Refused n k) = subst (λ (w : Asked). Tag 0 (w .outcome)) e h in absurd (omega arith)
+asked-accepted views (accepted Q) v e h = (Q, refl, ap (λ (w : Asked). w .labels) e)
+
+-- the number and the line of a refusal
+numberOf : Outcome → ℕ
+numberOf Accepted = 0
+numberOf (Refused n k) = n
+
+lineOf : Outcome → ℕ
+lineOf Accepted = 0
+lineOf (Refused n k) = k
+
+isRefused : Outcome → ℕ
+isRefused Accepted = 0
+isRefused (Refused n k) = 1
+
+pub asked-refused : (views : List Line) (r : TheReading) (v : Asked) (n k : ℕ) → v ≡ askedValue views r → v .outcome ≡ Refused n k
+    → r ≡ refused n k
+unfolding askedValue numberOf lineOf isRefused
+asked-refused views (refused m j) v n k e o =
+    let same : Refused m j ≡ Refused n k = sym (ap (λ (w : Asked). w .outcome) e) ∙ o in
+    λ i. refused (numberOf (same i)) (lineOf (same i))
+asked-refused views (accepted Q) v n k e o =
+    let same : Accepted ≡ Refused n k = sym (ap (λ (w : Asked). w .outcome) e) ∙ o in
+    absurd (omega (arith, ap isRefused same))

@@ -1,0 +1,104 @@
+-- `labels::label_lines`: the words written are the labels of the shown lines, of those left before `i`.
+use mathlib.Core.Path.{_≡_, sym, _∙_}
+use mathlib.Core.Bool.{true}
+use mathlib.Core.Logic.{⊎-elim}
+use Prim.Native.Nat.{ℕ, _-_, _≤_, _<_}
+use native.Mathlib.Omega.{arith}
+use lib.ListN.{length, take}
+use Rattle.theory.specs.Query.{Query, over}
+use Rattle.theory.specs.Executable.Label.{label}
+use Rattle.theory.specs.Executable.Show.{showTerm}
+use Rattle.words.specs.Bits.{isSet}
+use Rattle.model.specs.Value.{pad}
+use Rattle.policy_text.specs.Declared.{Declared}
+use Rattle.reduce.specs.Left.{pick, linesAt}
+use Rattle.reduce.specs.Showing.{SharedWord}
+use Rattle.labelling.specs.Posed.{Ready, Rows}
+use Rattle.labelling.proofs.Lines.{some-line, shown-line, Written, written-none, written-more, written-same, written-all}
+use Rattle.labelling.proofs.label_lines.Statement.{statement}
+use Rattle.labelling.proofs.label_lines.Tie as tie
+
+abbrev Inv-loop : tie.InvT-loop
+Inv-loop tables masks views n lines left words₀ count₀ i₀ words count i =
+    (i ≤ n)
+    × (count ≤ i)
+    × ((d : Declared) (Q : Query) (w : ℕ) → Ready d tables masks views → length Q ≡ n
+    → Rows d Q w lines → SharedWord (linesAt left Q) w
+    → Written (λ A. label (d .views) (over (showTerm (linesAt left Q)) A)) (pick (isSet left) (take i Q)) words count)
+
+abbrev μ-loop : tie.MeasureT-loop
+μ-loop tables masks views n lines left words₀ count₀ i₀ words count i = n - i
+
+loop-holds : tie.Need-loop-holds Inv-loop μ-loop
+unfolding pick pad
+loop-holds c = (omega arith, omega arith, λ d Q w ready e rows word. written-none _)
+
+-- the query that was given has at most eight lines
+room : (c : tie.In-loop Inv-loop μ-loop) → c .before .loop .i < 8
+room c = let (d, Q, w, ready, e, rows) = c .before .before .pre .0 in omega (arith, c .loop-test .taken, e, rows .lines)
+
+has-bit-requires : tie.Need-has-bit-requires Inv-loop μ-loop
+has-bit-requires c κs = omega (arith, room c)
+
+label-of-requires : tie.Need-label-of-requires Inv-loop μ-loop
+label-of-requires c κs =
+    let at = c .before .before in
+    let s = at .before .before in
+    let (d, Q, w, ready, e, rows) = s .pre .0 in
+    let h : at .before .loop .i < length Q = rw e (at .loop-test .taken) in
+    ((d, _, ready, some-line rows (at .before .loop .i) h), s .pre .1, omega (arith, room at))
+
+mul-words : tie.Need-mul-words Inv-loop μ-loop
+mul-words c = omega (arith, room (c .before .before .before))
+
+array-write-words : tie.Need-array-write-words Inv-loop μ-loop
+array-write-words c = omega (arith, room (c .before .before .before))
+
+add-count : tie.Need-add-count Inv-loop μ-loop
+add-count c = omega (arith, room (c .before .before .before))
+
+add-i : tie.Need-add-i Inv-loop μ-loop
+add-i c = omega (arith, room (c .before .before))
+
+loop-less : tie.Need-loop-less Inv-loop μ-loop
+loop-less c = omega (arith, c .before .before .loop-test .taken)
+
+loop-again : tie.Need-loop-again Inv-loop μ-loop
+loop-again c =
+    let at = c .before .before .before .loop in
+    let args = c .before .before .before .before .args in (
+      omega arith,
+      ⊎-elim (λ x. rw (x .3) (omega arith)) (λ x. rw (x .2) (omega arith)) (c .if1 .came),
+      λ d Q w ready e rows word.
+          let h : at .i < length Q = rw e (c .before .before .loop-test .taken) in
+          let v = at .inv .2 d Q w ready e rows word in
+          ⊎-elim
+          (λ x.
+          let t : isSet (args .left) (at .i) ≡ true = sym (c .before .has-bit .ensures) ∙ x .0 .taken in
+          let l = shown-line rows (at .i) h (args .left) word t in
+          rw (x .2, x .3, x .1 .ensures d _ ready l) (written-more (args .left) Q (at .i) v h t (omega (arith, room (c .before .before)))))
+          (λ x. rw (x .1, x .2) (written-same (args .left) Q (at .i) v h (sym (c .before .has-bit .ensures) ∙ x .0 .left)))
+          (c .if1 .came),
+    )
+
+returns : tie.Need-returns Inv-loop μ-loop
+returns c = λ d Q w ready e rows word.
+    written-all (d .views) (c .before .before .args .left) Q (c .before .loop .i) _ _ (rw e (c .loop-test .left))
+    (c .before .loop .inv .2 d Q w ready e rows word)
+
+pub label-lines-spec : {M : Type 1} → statement M
+label-lines-spec =
+    tie.close
+    (tie.spec
+    Inv-loop
+    μ-loop
+    loop-holds
+    has-bit-requires
+    label-of-requires
+    mul-words
+    array-write-words
+    add-count
+    add-i
+    loop-less
+    loop-again
+    returns)

@@ -1,0 +1,67 @@
+// A query labelled again and again.
+
+ghost use Rattle.theory.specs.Query.{Query as TheQuery};
+ghost use Rattle.policy_text.specs.Declared.{Declared};
+ghost use Rattle.labelling.specs.Posed.{Ready, Posed};
+ghost use Rattle.labelling.specs.Text.{SomePolicy};
+use labelling::Labels;
+use model::Outcome;
+use model::Policy;
+use model::Query;
+use model::Tables;
+use std::num::wrapping_add_u64;
+
+fn sum_of(l: Labels) -> u64 {
+    let mut sum = 0;
+    let mut i = 0;
+    while i < 8 {
+        sum = wrapping_add_u64(sum, l.words[i]);
+        i += 1;
+    }
+    sum
+}
+
+fn label_again(tables: Tables, masks: &[u64; 17], views: &[u64; 544], q: Query, times: u64) -> u64
+    requires { ⌜ ((d : Declared) × (Q : TheQuery) × Ready d tables (now masks) (now views) × Posed q d Q) ⌝ }
+{
+    let mut sum = 0;
+    let mut i = 0;
+    while i < times {
+        let l = labelling::label_query(tables, masks, views, q);
+        sum = wrapping_add_u64(sum, sum_of(l));
+        i += 1;
+    }
+    sum
+}
+
+fn read_and_label(p: Policy, query: &[u8], times: u64) -> u64
+    requires { ⌜ SomePolicy p ⌝ }
+{
+    let masks = covering::table_views(p);
+    let views = covering::view_rows(p);
+    let tables = p.tables;
+    let r = query_text::read_query(tables, query);
+    let outcome = r.outcome;
+    match outcome {
+        Outcome::Accepted => {
+            let q = r.query;
+            label_again(tables, &masks, &views, q, times)
+        }
+        Outcome::Refused { .. } => 0,
+    }
+}
+
+// The query of a text labelled so many times under the policy of a text: the sum of all the words modulo 2^64. Policy and
+// query are read once.
+#[no_mangle]
+pub extern "C" fn kolbrees_label(policy: &[u8], query: &[u8], times: u64) -> u64 {
+    let r = load::load(policy);
+    let outcome = r.outcome;
+    match outcome {
+        Outcome::Accepted => {
+            let p = r.policy;
+            read_and_label(p, query, times)
+        }
+        Outcome::Refused { .. } => 0,
+    }
+}

@@ -1,0 +1,227 @@
+-- The loop's invariant: the lines read so far, with reading the rest the same as reading the text from its first line.
+use mathlib.Core.Path.{_≡_, sym, ap, _∙_}
+use mathlib.Core.Bool.{false}
+use mathlib.Core.List.{List}
+use mathlib.Core.Option.{some}
+use Prim.Native.Nat.{ℕ, _-_, _≤_, _<_}
+use native.Mathlib.Omega.{arith}
+use borrow.Author.Needs.{needs}
+use borrow.Author.Tests.{not-true, not-false}
+use lib.ListN.{length, drop, length-take, length-drop}
+use Rattle.theory.specs.Query.{Line}
+use Rattle.text.specs.Lines.{before}
+use Rattle.model.specs.Fields.{queryLine}
+use Rattle.model.specs.Value.{tablesValue}
+use Rattle.model.specs.Parsed.{parsedLine}
+use Rattle.query_text.specs.Text.{fault}
+use Rattle.query_text.specs.Value.{readingValue}
+use Rattle.query_text.proofs.Faults.{well-formed, malformed, is-good, is-tabled}
+use Rattle.text.proofs.Parts.{found, found-le, found-line, found-none, found-some}
+use Rattle.query_text.proofs.Walk.{front, Walked, walked-none, counted, stops, empty, done, wrong, faulty, walked-more}
+use Rattle.query_text.proofs.read_lines.Statement.{statement}
+use Rattle.query_text.proofs.read_lines.Tie as tie
+
+abbrev Inv-loop : tie.InvT-loop
+Inv-loop tables text start q₀ shown₀ hidden₀ line₀ at₀ q shown hidden line at = Walked tables text start q shown hidden line at
+
+abbrev μ-loop : tie.MeasureT-loop
+μ-loop tables text start q₀ shown₀ hidden₀ line₀ at₀ q shown hidden line at = length text - at
+
+-- ---- the end of the line
+
+abbrev turn : tie.After-first Inv-loop μ-loop → tie.At-loop Inv-loop μ-loop
+turn c = c .before .before .before
+
+abbrev text : tie.After-first Inv-loop μ-loop → List ℕ
+text c = turn c .before .before .before .args .text .now
+
+abbrev rest : tie.After-first Inv-loop μ-loop → List ℕ
+rest c = drop (turn c .loop .at) (text c)
+
+ends-at : (c : tie.After-first Inv-loop μ-loop) → c .first .result ≡ before 10 (rest c)
+ends-at c = found 10 (text c) (turn c .loop .at) (c .first .result) (c .first .ensures)
+
+end-within : (c : tie.After-first Inv-loop μ-loop) → c .first .result ≤ length (text c) - turn c .loop .at
+end-within c = found-le 10 (text c) (turn c .loop .at) (c .first .result) (c .first .ensures)
+
+ends : (c : tie.Else1 Inv-loop μ-loop) → before 10 (rest (c .before)) < length (rest (c .before))
+ends c = let d = c .before in found-some 10 (text d) (turn d .loop .at) (d .first .result) (d .first .ensures) (c .if1 .left)
+
+-- ---- what the line says
+
+abbrev of-read : tie.After-read-line Inv-loop μ-loop → tie.Else1 Inv-loop μ-loop
+of-read c = c .before .before
+
+line-read : (c : tie.After-read-line Inv-loop μ-loop) → c .read-line .result ≡ parsedLine (queryLine (front (rest (of-read c .before))))
+line-read c =
+    let d = of-read c .before in
+    c .read-line .ensures
+    ∙ ap (λ (l : List ℕ). parsedLine (queryLine l)) (found-line 10 (text d) (turn d .loop .at) (d .first .result) (d .first .ensures))
+
+abbrev of-well : tie.Else2 Inv-loop μ-loop → tie.After-read-line Inv-loop μ-loop
+of-well c = c .before .before
+
+says : (c : tie.Else2 Inv-loop μ-loop) → (A : Line) × (queryLine (front (rest (of-read (of-well c) .before))) ≡ some A)
+says c =
+    let d = of-well c in
+    well-formed (d .read-line .result) (queryLine (front (rest (of-read d .before)))) (line-read d) (not-false _ (c .if2 .left))
+
+line-says : (c : tie.Else2 Inv-loop μ-loop) → of-well c .read-line .result ≡ parsedLine (some (says c .0))
+line-says c = line-read (of-well c) ∙ ap parsedLine (says c .1)
+
+-- ---- its fault behind the lines so far
+
+abbrev of-fault : tie.After-fault Inv-loop μ-loop → tie.Else1 Inv-loop μ-loop
+of-fault c = of-read (of-well (c .before))
+
+abbrev start : tie.After-fault Inv-loop μ-loop → tie.At-loop Inv-loop μ-loop
+start c = turn (of-fault c .before)
+
+fault-is : (c : tie.After-fault Inv-loop μ-loop) (widths : List ℕ) → start c .before .before .before .args .tables ≡ tablesValue widths
+    → c .fault .result ≡ fault widths (start c .loop .inv .earlier) (says (c .before) .0)
+fault-is c widths t =
+    let w = start c .loop .inv in
+    c .fault .ensures .0 widths (w .earlier) (says (c .before) .0) t (counted w) (w .marked) (line-says (c .before))
+
+-- without a fault it is no ninth line, and within its limits
+faultless : (c : tie.Else3 Inv-loop μ-loop) → (start (c .before) .loop .q .count < 8) × (of-well (c .before .before) .read-line .result .outside ≡ false)
+faultless c = c .before .fault .ensures .1 (c .if3 .left)
+
+-- ---- the needs
+
+no-query-requires : tie.Need-no-query-requires Inv-loop μ-loop
+no-query-requires c κs = search needs
+
+loop-holds : tie.Need-loop-holds Inv-loop μ-loop
+loop-holds c = walked-none _ _ _ _ (c .no-query .ensures)
+
+sub-rest : tie.Need-sub-rest Inv-loop μ-loop
+sub-rest c = omega arith
+
+part-rest-start : tie.Need-part-rest-start Inv-loop μ-loop
+part-rest-start c = search needs
+
+part-rest-end : tie.Need-part-rest-end Inv-loop μ-loop
+part-rest-end c = search needs
+
+first-requires : tie.Need-first-requires Inv-loop μ-loop
+first-requires c κs = search needs
+
+refused-requires : tie.Need-refused-requires Inv-loop μ-loop
+refused-requires c κs = search needs
+
+returns : tie.Need-returns Inv-loop μ-loop
+returns c =
+    let d = c .before .before in
+    λ widths t.
+    c .refused .ensures
+    ∙ ap readingValue (stops (turn d .loop .inv) widths t (d .before .before .loop-test .taken)
+    (found-none 10 (text d) (turn d .loop .at) (d .first .result) (d .first .ensures) (c .before .if1 .taken)))
+
+slice-aggregate-read-line : tie.Need-slice-aggregate-read-line Inv-loop μ-loop
+slice-aggregate-read-line c = simp (length-take, length-drop) (omega (arith, end-within (c .before .before)))
+
+read-line-requires : tie.Need-read-line-requires Inv-loop μ-loop
+read-line-requires c κs = simp (length-take, length-drop) (omega (arith, c .before .before .before .before .before .before .before .before .pre))
+
+refused-requires-2 : tie.Need-refused-requires-2 Inv-loop μ-loop
+refused-requires-2 c κs = search needs
+
+returns-2 : tie.Need-returns-2 Inv-loop μ-loop
+returns-2 c =
+    let r = c .before .before .before in
+    let d = of-read r in
+    λ widths t.
+    c .refused2 .ensures
+    ∙ ap readingValue (wrong (turn (d .before) .loop .inv) (ends d)
+    (malformed (r .read-line .result) (queryLine (front (rest (d .before)))) (line-read r) (not-true _ (c .before .if2 .taken))) widths t)
+
+fault-requires : tie.Need-fault-requires Inv-loop μ-loop
+fault-requires c κs = is-tabled (of-well c .read-line .result) (says c .0) (line-says c)
+
+refused-requires-3 : tie.Need-refused-requires-3 Inv-loop μ-loop
+refused-requires-3 c κs = search needs
+
+returns-3 : tie.Need-returns-3 Inv-loop μ-loop
+returns-3 c =
+    let f = c .before .before in
+    let a = says (f .before) in
+    λ widths t.
+    c .refused3 .ensures
+    ∙ ap readingValue (faulty (start f .loop .inv) (ends (of-fault f)) (a .0) (a .1) (f .fault .result) (c .before .if3 .taken) widths t (fault-is f widths t))
+
+mul-t18 : tie.Need-mul-t18 Inv-loop μ-loop
+mul-t18 c = omega (arith, faultless (c .before) .0)
+
+element-set-from-q : tie.Need-element-set-from-q Inv-loop μ-loop
+element-set-from-q c = faultless (c .before) .0
+
+add-q : tie.Need-add-q Inv-loop μ-loop
+add-q c = omega (arith, faultless (c .before) .0)
+
+add-line : tie.Need-add-line Inv-loop μ-loop
+add-line c = omega (arith, start (c .before .before .before .before) .loop .inv)
+
+add-at : tie.Need-add-at Inv-loop μ-loop
+add-at c = omega (arith, end-within (of-fault (c .before .before .before .before) .before))
+
+add-at-2 : tie.Need-add-at-2 Inv-loop μ-loop
+add-at-2 c = omega (arith, end-within (of-fault (c .before .before .before .before) .before))
+
+loop-less : tie.Need-loop-less Inv-loop μ-loop
+loop-less c = omega (arith, end-within (of-fault (c .before .before .before .before) .before))
+
+loop-again : tie.Need-loop-again Inv-loop μ-loop
+loop-again c =
+    let e = c .before .before .before in
+    let f = e .before in
+    let d = of-fault f in
+    let w = start f .loop .inv in
+    let a = says (f .before) in
+    let p = of-well (f .before) .read-line .result in
+    walked-more w (ends d) (a .0) (a .1) p (is-good p (a .0) (line-says (f .before)) (faultless e .1))
+    (omega (arith, counted w, faultless e .0)) (d .before .first .result) (ends-at (d .before))
+    (λ widths t. sym (e .if3 .left) ∙ fault-is f widths t)
+
+refused-requires-4 : tie.Need-refused-requires-4 Inv-loop μ-loop
+refused-requires-4 c κs = search needs
+
+returns-4 : tie.Need-returns-4 Inv-loop μ-loop
+returns-4 c = λ widths t.
+    c .refused4 .ensures ∙ ap readingValue (empty (c .before .before .before .loop .inv) widths t (c .before .before .loop-test .left) (c .before .if4 .taken))
+
+returns-5 : tie.Need-returns-5 Inv-loop μ-loop
+returns-5 c = λ widths t. done (c .before .before .loop .inv) widths t (c .before .loop-test .left) (c .if4 .left)
+
+pub read-lines-spec : {M : Type 1} → statement M
+read-lines-spec =
+    tie.close
+    (tie.spec
+    Inv-loop
+    μ-loop
+    no-query-requires
+    loop-holds
+    sub-rest
+    part-rest-start
+    part-rest-end
+    first-requires
+    refused-requires
+    returns
+    slice-aggregate-read-line
+    read-line-requires
+    refused-requires-2
+    returns-2
+    fault-requires
+    refused-requires-3
+    returns-3
+    mul-t18
+    element-set-from-q
+    add-q
+    add-line
+    add-at
+    add-at-2
+    loop-less
+    loop-again
+    refused-requires-4
+    returns-4
+    returns-5)

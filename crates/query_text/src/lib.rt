@@ -1,0 +1,147 @@
+// Reading a query text under a policy's tables.
+
+ghost use mathlib.Core.Path.{_≡_};
+ghost use mathlib.Core.Bool.{false};
+ghost use mathlib.Core.List.{List, []};
+ghost use mathlib.Core.Option.{some};
+ghost use Prim.Native.Nat.{ℕ, _≤_, _<_, _^_};
+ghost use lib.ListN.{length};
+ghost use Rattle.theory.specs.Query.{Query as TheQuery, Line as TheLine};
+ghost use Rattle.model.specs.Value.{queryValue, tablesValue};
+ghost use Rattle.model.specs.Parsed.{parsedLine};
+ghost use Rattle.query_text.specs.Text.{refused as refusedReading, fault as faultOf, read};
+ghost use Rattle.model.specs.Variables.{Marked};
+ghost use Rattle.query_text.specs.Value.{readingValue, LinesRead, LineTabled};
+use model::Line;
+use model::Outcome;
+use model::Parsed;
+use model::Query;
+use model::Tables;
+use model::Term;
+use text::Reader;
+
+// The most bytes of a query text.
+const MOST_BYTES: usize = 4096;
+
+// The most lines of a query.
+const MOST_LINES: usize = 8;
+
+// How reading ends, and the query: that of the text, or one without a line.
+pub struct Reading {
+    pub outcome: Outcome,
+    pub query: Query,
+}
+
+fn no_query() -> Query
+    ensures { λ r. ⌜ r ≡ queryValue [] ⌝ }
+{
+    let unused = Line {
+        table: 0,
+        terms: [Term { mark: 0, number: 0 }; 8],
+    };
+    Query {
+        count: 0,
+        lines: [unused; 8],
+    }
+}
+
+fn refused(number: u64, line: u64) -> Reading
+    ensures { λ r. ⌜ r ≡ readingValue (refusedReading number line) ⌝ }
+{
+    Reading {
+        outcome: Outcome::Refused { number, line },
+        query: no_query(),
+    }
+}
+
+// What turns a line back that is well formed and stands behind `count` lines, whose shown and hidden variables are these
+// bits; or 0.
+fn fault(tables: Tables, count: usize, shown: u64, hidden: u64, p: Parsed) -> u64
+    requires { ⌜ LineTabled p ⌝ }
+    ensures { λ r. ⌜ ((widths : List ℕ) (earlier : TheQuery) (A : TheLine) → tables ≡ tablesValue widths → count ≡ length earlier → Marked earlier shown hidden → p ≡ parsedLine (some A) → r ≡ faultOf widths earlier A) ⌝ }
+    ensures { λ r. ⌜ (r ≡ 0 → (count < 8) × (p .outside ≡ false)) ⌝ }
+{
+    if MOST_LINES <= count {
+        return 7;
+    }
+    if p.outside {
+        return 2;
+    }
+    model::check_line(tables, shown, hidden, p)
+}
+
+// The lines of values, all of a text whose first line has the number `start`.
+fn read_lines(tables: Tables, text: &[u8], start: u64) -> Reading
+    requires { ⌜ (length (now text) ≤ 4096) × (start < 2 ^ 32) ⌝ }
+    ensures { λ r. ⌜ LinesRead tables (now (text .entry)) start r ⌝ }
+{
+    let mut q = no_query();
+    let mut shown: u64 = 0;
+    let mut hidden: u64 = 0;
+    let mut line = start;
+    let mut at = 0;
+    while at < text.len() {
+        let rest = &text[at..];
+        let n = text::first(rest, b'\n');
+        if n == rest.len() {
+            return refused(1, line);
+        }
+        let p = model::read_line(&rest[..n]);
+        if !p.ok {
+            return refused(1, line);
+        }
+        let count = q.count;
+        let f = fault(tables, count, shown, hidden, p);
+        if f != 0 {
+            return refused(f, line);
+        }
+        let table = p.table;
+        let terms = p.terms;
+        q.lines[count] = Line { table, terms };
+        q.count = count + 1;
+        shown = shown | p.shown;
+        hidden = hidden | p.hidden;
+        line += 1;
+        at = at + n + 1;
+    }
+    if q.count == 0 {
+        return refused(1, line);
+    }
+    let outcome = Outcome::Accepted;
+    Reading { outcome, query: q }
+}
+
+// The lines of values that a reader has before it. The work is done on its two parts, since code that holds a reader is
+// proved by hand.
+fn read_rest<'a>(tables: Tables, r: Reader<'a>) -> Reading
+    requires { ⌜ (length (now (r .rest)) ≤ 4096) × (r .line < 2 ^ 32) ⌝ }
+    ensures { λ y. ⌜ LinesRead tables (now (r .entry .rest)) (r .entry .line) y ⌝ }
+{
+    read_lines(tables, r.rest, r.line)
+}
+
+// The same of a text that is lent, with the number of its first line: a reader is made of the two.
+fn read_from(tables: Tables, text: &[u8], line: u64) -> Reading
+    requires { ⌜ (length (now text) ≤ 4096) × (line < 2 ^ 32) ⌝ }
+    ensures { λ r. ⌜ LinesRead tables (now (text .entry)) line r ⌝ }
+{
+    read_rest(tables, Reader { rest: text, line })
+}
+
+// The query of a text, or the number that turns it back and the line.
+pub fn read_query(tables: Tables, text: &[u8]) -> Reading
+    ensures { λ r. ⌜ ((widths : List ℕ) → tables ≡ tablesValue widths → r ≡ readingValue (read widths (now (text .entry)))) ⌝ }
+{
+    if MOST_BYTES < text.len() {
+        return refused(7, 0);
+    }
+    let n = text::first(text, b'\n');
+    if n == text.len() {
+        return refused(1, 1);
+    }
+    if !text::same(&text[..n], &text::TABLE_TERMS) {
+        return refused(1, 1);
+    }
+    let from = n + 1;
+    read_from(tables, &text[from..], 2)
+}

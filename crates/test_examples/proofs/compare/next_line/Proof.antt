@@ -1,0 +1,47 @@
+-- `examples::compare::next_line` reads every byte.
+use Prim.Native.Nat.{_-_, _≤_}
+use lib.ListN.{length}
+use borrow.Author.Needs.{needs}
+use Rattle.test_examples.proofs.compare.next_line.Statement.{statement}
+use Rattle.test_examples.proofs.compare.next_line.Tie as tie
+
+abbrev Inv-loop : tie.InvT-loop
+Inv-loop s line₀ i₀ line i = i ≤ length s
+
+abbrev μ-loop : tie.MeasureT-loop
+μ-loop s line₀ i₀ line i = length s - i
+
+loop-holds : tie.Need-loop-holds Inv-loop μ-loop
+loop-holds c = search needs
+
+shared-slice-read-if1 : tie.Need-shared-slice-read-if1 Inv-loop μ-loop
+shared-slice-read-if1 c = search needs
+
+counted-requires : tie.Need-counted-requires Inv-loop μ-loop
+counted-requires c κs = search needs
+
+add-i : tie.Need-add-i Inv-loop μ-loop
+add-i c = search needs
+
+loop-less : tie.Need-loop-less Inv-loop μ-loop
+loop-less c = search needs
+
+loop-again : tie.Need-loop-again Inv-loop μ-loop
+loop-again c = search needs
+
+returns : tie.Need-returns Inv-loop μ-loop
+returns c = search needs
+
+pub next-line-spec : {M : Type 1} → statement M
+next-line-spec =
+    tie.close
+    (tie.spec
+    Inv-loop
+    μ-loop
+    loop-holds
+    shared-slice-read-if1
+    counted-requires
+    add-i
+    loop-less
+    loop-again
+    returns)

@@ -1,0 +1,39 @@
+-- `operations::compare::listed`: as many cells are lent as there is room.
+use native.Mathlib.Omega.{arith}
+use lib.ListN.{length-take}
+use borrow.Author.Needs.{needs}
+use Rattle.test_operations.proofs.compare.listed.Statement.{statement}
+use Rattle.test_operations.proofs.compare.listed.Tie as tie
+
+untouched-requires : tie.Need-untouched-requires
+untouched-requires c κs = search needs
+
+array-borrow-prefix-buffer : tie.Need-array-borrow-prefix-buffer
+array-borrow-prefix-buffer c = search needs
+
+slice-aggregate-labels : tie.Need-slice-aggregate-labels
+slice-aggregate-labels c = simp length-take (omega arith)
+
+labels-requires : tie.Need-labels-requires
+labels-requires c κs = search needs
+
+told-labels-requires : tie.Need-told-labels-requires
+told-labels-requires c κs = search needs
+
+compared-requires : tie.Need-compared-requires
+compared-requires c κs = search needs
+
+returns : tie.Need-returns
+returns c = search needs
+
+pub listed-spec : {M : Type 1} → statement M
+listed-spec =
+    tie.close
+    (tie.spec
+    untouched-requires
+    array-borrow-prefix-buffer
+    slice-aggregate-labels
+    labels-requires
+    told-labels-requires
+    compared-requires
+    returns)
