@@ -9,6 +9,7 @@ use lib.ListN.{length}
 use Rattle.theory.specs.Query.{constant, Line}
 use Rattle.theory.specs.Cover.{at, IsHidden, Covers}
 use Rattle.theory.specs.Executable.Cover.{covers}
+use Rattle.words.specs.TestBits.{testBits}
 use Rattle.theory.specs.Executable.Label.{viewBits, label}
 use Rattle.theory.proofs.Executable.Test.{same-test}
 use Rattle.theory.proofs.Executable.Cover.{covers-iff}
@@ -58,7 +59,7 @@ alike-test v {A} {B} a =
     (λ h. covers-iff v A .1 (alike-covers (alike-symm a) (covers-iff v B .0 h)))
 
 alike-views : (vs : List Line) {A B : Line} → Alike A B → viewBits vs A ≡ viewBits vs B
-unfolding viewBits
+unfolding testBits
 alike-views [] a = refl
 alike-views (v ∷ vs) a = ap₂ (λ (b : Bool) (w : ℕ). cond b 1 0 + 2 * w) (alike-test v a) (alike-views vs a)
 

@@ -4,3 +4,4 @@ pub mod Reduce
 pub mod Show
 pub mod Cover
 pub mod Label
+pub mod Words

@@ -7,6 +7,7 @@ pub mod ClearBits
 pub mod Lowest
 pub mod Tests
 pub mod Counts
+pub mod TestBits
 -- Words built bit by bit by tests, and what a test's answer says.
 pub mod Answers
 pub mod Marks

@@ -1,7 +1,8 @@
 -- Document 01, "Label": one word for each line of the reduced query, shared variables shown.
-use mathlib.Core.Bool.{Bool, cond}
-use mathlib.Core.List.{List, [], _∷_, map}
+use mathlib.Core.Bool.{Bool}
+use mathlib.Core.List.{List, map}
 use Prim.Native.Nat.{ℕ, _+_, _*_, _^_}
+use Rattle.words.specs.TestBits.{testBits}
 use Rattle.theory.specs.Query.{Line, Query}
 use Rattle.theory.specs.Executable.Test.{all, any}
 use Rattle.theory.specs.Executable.Reduce.{reduce}
@@ -9,14 +10,12 @@ use Rattle.theory.specs.Executable.Show.{show}
 use Rattle.theory.specs.Executable.Cover.{covers}
 
 -- the views that cover a line, as a word: view n at bit n − 1
-unfoldable pub viewBits : List Line → Line → ℕ
-unfolding covers
-viewBits [] A = 0
-viewBits (v ∷ vs) A = cond (covers v A) 1 0 + 2 * viewBits vs A
+abbrev pub viewBits : List Line → Line → ℕ
+viewBits vs A = testBits (λ v. covers v A) vs
 
 -- "the low 32 bits hold the table number and the high 32 bits the views, view n at bit 31 + n"
 unfoldable pub label : List Line → Line → ℕ
-unfolding viewBits
+unfolding testBits covers
 label vs A = A .table + 2 ^ 32 * viewBits vs A
 
 -- "One word of 64 bits for each reduced line"
