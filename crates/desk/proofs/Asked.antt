@@ -38,7 +38,7 @@ labels-held h = omega (arith, ap (λ (x : Labels). x .count) (h .is), h .few)
 
 -- the views of a label, of which a policy has at most 32
 labels-narrow : (d : Declared) → WellFormed d → (Q : Query) → AllFit (d .widths) Q → (w : ℕ) → w ∈ labels (d .views) Q → w / 2 ^ 32 < 2 ^ 32
-unfolding labels label mostTables mostViews
+unfolding labels label
 labels-narrow d good Q fits w m =
     let (A, a, e) = Memᴰ·of-map (label (d .views)) (show (reduce Q)) m in
     let f = shown-fits (d .widths) Q fits A a in

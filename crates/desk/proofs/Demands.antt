@@ -56,7 +56,6 @@ demand-2 p l text before r after g Q e =
     )
 
 pub demand-3 : Demand3
-unfolding mostPartitions
 demand-3 text r e a o opened cs s calls =
     let (d, loads, value) = loaded text (load text) r refl e a in
     let l : Loadable (r .policy) = record { text = text; declared = d; loads = loads; value = value } in

@@ -22,7 +22,6 @@ module _ {p : Policy} {d : Declared} (l : LoadedTo p d) where
   partition-count = ap (λ (x : Policy). x .«partition_count») (l .policy)
 
   pub few-partitions : p .«partition_count» ≤ 32
-  unfolding mostPartitions
   few-partitions = omega (arith, partition-count, l .good .partitions .few)
 
   -- the word of a partition

@@ -24,7 +24,6 @@ use Rattle.desk.specs.Rewriting.{LabelOf, LabelsOfForm, LabelsOf}
 
 module _ (d : Declared) (good : WellFormed d) where
   label-of : (A : Line) → Fits (d .widths) A → LabelOf d A (label (d .views) A)
-  unfolding mostTables
   label-of A f =
       let small : A .table < 2 ^ 32 = omega (arith, f .last, good .tables .few) in
       record {

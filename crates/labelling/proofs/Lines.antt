@@ -50,7 +50,6 @@ module _ {d : Declared} {tables : Tables} {masks views : List ℕ} (ready : Read
   first-table = rw table-is (l .fits .first)
 
   pub last-table : table ≤ 16
-  unfolding mostTables
   last-table = rw table-is (omega (arith, l .fits .last, ready .good .tables .few))
 
   width-is : getD (d .widths) (table - 1) 0 ≡ length (A .columns)
@@ -64,7 +63,7 @@ module _ {d : Declared} {tables : Tables} {masks views : List ℕ} (ready : Read
 
   pub line-labelled : (width : ℕ) → width ≡ getD (d .widths) (table - 1) 0
       → Labelled views (getD masks table 0) width lines i (d .views) A
-  unfolding wide mostViews
+  unfolding wide
   line-labelled width w =
       record {
         few = ready .good .views .few;

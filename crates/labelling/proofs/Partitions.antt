@@ -99,7 +99,7 @@ module _ (views : List Line) (vs : List ℕ) (few : length views ≤ 32) (good :
 
 module _ (d : Declared) (good : WellFormed d) (vs : List ℕ) (partition : GoodPartition (length (d .views)) vs) (Q : Query) (fits : AllFit (d .widths) Q) where
   pub settled-settles : settled (viewsAfter 0 vs) (labels (d .views) Q) ≡ settles (granted (d .views) vs) Q
-  unfolding settled holdsOne labels settles mostTables mostViews
+  unfolding settled holdsOne labels settles
   settled-settles =
       all-map (λ w. meet 64 (w / 2 ^ 32) (viewsAfter 0 vs)) (label (d .views)) (show (reduce Q))
       ∙ all-same (λ A. meet 64 (label (d .views) A / 2 ^ 32) (viewsAfter 0 vs)) (λ A. any (λ v. covers v A) (granted (d .views) vs)) (show (reduce Q))

@@ -45,7 +45,7 @@ unfolding policyValue
 tables-of l = ap (λ (x : Policy). x .tables) (l .policy)
 
 holds : {p : Policy} {d : Declared} → LoadedTo p d → Holds p (d .views)
-unfolding policyValue mostViews
+unfolding policyValue
 holds l = record { few = l .good .views .few; is = ap (λ (x : Policy). x .views) (l .policy) }
 
 -- what is made of a loaded policy once

@@ -1,4 +1,5 @@
 -- A policy value with one entry more.
+pub mod GrantWords
 pub mod More
 -- What turns a line of each block back, and what it declares.
 pub mod Lines

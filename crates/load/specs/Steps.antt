@@ -3,9 +3,13 @@ use mathlib.Core.Path.{_≡_}
 use mathlib.Core.Bool.{Bool, true, false, cond, _&&_}
 use mathlib.Core.List.{List, [], _∷_, _++_}
 use mathlib.Core.Option.{Option, none, some}
-use Prim.Native.Nat.{ℕ, _≤_}
+use Prim.Native.Nat.{ℕ, _≤_, _<_}
+use lib.ListN.{getD}
+use Rattle.words.specs.Bits.{isSet}
+use Rattle.words.specs.Sets.{setBit}
 use Rattle.text.specs.Lines.{lines}
 use Rattle.theory.specs.Query.{Line}
+use Rattle.model.specs.Limits.{mostTables, mostViews}
 use Rattle.model.specs.Fields.{Numbered}
 use Rattle.model.specs.declared.Parsed.{Parsed}
 use Rattle.policy_text.specs.Text.{nothing, faulty, entered, tables, views, partitions, Block, enter, isNext, nextBlock, loadFrom}
@@ -40,15 +44,20 @@ moreTables d w = record { widths = d .widths ++ w ∷ []; views = d .views; part
 unfoldable pub moreViews : Declared → Line → Declared
 moreViews d A = record { widths = d .widths; views = d .views ++ A ∷ []; partitions = d .partitions }
 
+-- the words of the views with partition i in those that it grants, the views of a word
+abbrev pub Granting : List ℕ → ℕ → ℕ → List ℕ → Type 0
+Granting grants word i r =
+    (k : ℕ) → k < mostViews → getD r k 0 ≡ cond (isSet word k) (setBit (getD grants k 0) i) (getD grants k 0)
+
 unfoldable pub morePartitions : Declared → List ℕ → Declared
 morePartitions d vs = record { widths = d .widths; views = d .views; partitions = d .partitions ++ vs ∷ [] }
 
--- a line within its limits has a number from 1 to the most, and a view's a table from 1 to 16
+-- a line within its limits has a number from 1 to the most, and a view's a table from 1 to the most
 abbrev pub Numbering : ℕ → Bool → Bool → ℕ → Type 0
 Numbering most ok outside n = ok ≡ true → outside ≡ false → (1 ≤ n) × (n ≤ most)
 
 abbrev pub ViewTabled : Bool → Bool → Parsed → Type 0
-ViewTabled ok outside v = ok ≡ true → outside ≡ false → (1 ≤ v .table) × (v .table ≤ 16)
+ViewTabled ok outside v = ok ≡ true → outside ≡ false → (1 ≤ v .table) × (v .table ≤ mostTables)
 
 -- a block's number
 unfoldable pub blockNumber : Block → ℕ

@@ -6,6 +6,7 @@ ghost use mathlib.Core.Option.{Option};
 ghost use Prim.Native.Nat.{ℕ, _<_, _^_};
 ghost use lib.ListN.{length};
 ghost use Rattle.theory.specs.Query.{Line as TheLine};
+ghost use Rattle.model.specs.Limits.{mostTables, mostViews, mostPartitions};
 ghost use Rattle.model.specs.Fields.{Numbered};
 ghost use Rattle.model.specs.Value.{tablesValue};
 ghost use Rattle.model.specs.Parsed.{goodValue};
@@ -13,8 +14,9 @@ ghost use Rattle.policy_text.specs.Text.{enter, tables as tableBlock, views as 
 ghost use Rattle.policy_text.specs.Declared.{Declared};
 ghost use Rattle.policy_text.specs.Policy.{policyValue};
 ghost use Rattle.policy_lines.specs.Value.{tableValue, viewValue, partitionValue, viewList};
-ghost use Rattle.load.specs.Steps.{enteredValue, lineFault, ViewTabled, Numbering, moreTables, moreViews, morePartitions};
+ghost use Rattle.load.specs.Steps.{Granting, enteredValue, lineFault, ViewTabled, Numbering, moreTables, moreViews, morePartitions};
 use model::Line;
+use model::MOST_VIEWS;
 use model::Parsed;
 use model::Policy;
 use model::Tables;
@@ -32,9 +34,9 @@ pub struct Entered {
 }
 
 fn table_fault(tables: Tables, t: TableLine) -> u64
-    requires { ⌜ Numbering 16 (t .ok) (t .outside) (t .number) ⌝ }
+    requires { ⌜ Numbering mostTables (t .ok) (t .outside) (t .number) ⌝ }
     ensures { λ r. ⌜ ((d : Declared) (o : Option (Numbered ℕ)) → tables ≡ tablesValue (d .widths) → t ≡ tableValue o → r ≡ lineFault o (tableFault d)) ⌝ }
-    ensures { λ r. ⌜ (r ≡ 0 → tables .count < 16) ⌝ }
+    ensures { λ r. ⌜ (r ≡ 0 → tables .count < mostTables) ⌝ }
 {
     if !t.ok {
         return 1;
@@ -49,7 +51,7 @@ fn table_fault(tables: Tables, t: TableLine) -> u64
 }
 
 fn with_table(p: Policy, columns: u64) -> Policy
-    requires { ⌜ p .tables .count < 16 ⌝ }
+    requires { ⌜ p .tables .count < mostTables ⌝ }
     ensures { λ r. ⌜ ((d : Declared) → p ≡ policyValue d → r ≡ policyValue (moreTables d columns)) ⌝ }
 {
     let mut r = p;
@@ -79,9 +81,9 @@ pub fn enter_table(p: Policy, line: &[u8]) -> Entered
 
 // The checks of a view's line against the tables and the number of views so far.
 fn view_fault(tables: Tables, views: usize, e: ViewLine) -> u64
-    requires { ⌜ Numbering 32 (e .ok) (e .outside) (e .number) × ViewTabled (e .ok) (e .outside) (e .view) ⌝ }
+    requires { ⌜ Numbering mostViews (e .ok) (e .outside) (e .number) × ViewTabled (e .ok) (e .outside) (e .view) ⌝ }
     ensures { λ r. ⌜ ((d : Declared) (o : Option (Numbered TheLine)) → tables ≡ tablesValue (d .widths) → views ≡ length (d .views) → e ≡ viewValue o → r ≡ lineFault o (viewFault d)) ⌝ }
-    ensures { λ r. ⌜ (r ≡ 0 → views < 32) ⌝ }
+    ensures { λ r. ⌜ (r ≡ 0 → views < mostViews) ⌝ }
 {
     if !e.ok {
         return 1;
@@ -97,7 +99,7 @@ fn view_fault(tables: Tables, views: usize, e: ViewLine) -> u64
 }
 
 fn with_view(p: Policy, v: Parsed) -> Policy
-    requires { ⌜ p .«view_count» < 32 ⌝ }
+    requires { ⌜ p .«view_count» < mostViews ⌝ }
     ensures { λ r. ⌜ ((d : Declared) (A : TheLine) → p ≡ policyValue d → v ≡ goodValue (A .table) (A .columns) → r ≡ policyValue (moreViews d A)) ⌝ }
 {
     let mut r = p;
@@ -131,9 +133,9 @@ pub fn enter_view(p: Policy, line: &[u8]) -> Entered
 
 // The checks of a partition's line against the numbers of views and of partitions so far.
 fn partition_fault(views: usize, partitions: usize, e: PartitionLine) -> u64
-    requires { ⌜ Numbering 32 (e .ok) (e .outside) (e .number) ⌝ }
+    requires { ⌜ Numbering mostPartitions (e .ok) (e .outside) (e .number) ⌝ }
     ensures { λ r. ⌜ ((d : Declared) (o : Option (Numbered (List ℕ))) → views ≡ length (d .views) → partitions ≡ length (d .partitions) → e ≡ partitionValue o → r ≡ lineFault o (partitionFault d)) ⌝ }
-    ensures { λ r. ⌜ (r ≡ 0 → partitions < 32) ⌝ }
+    ensures { λ r. ⌜ (r ≡ 0 → partitions < mostPartitions) ⌝ }
 {
     if !e.ok {
         return 1;
@@ -154,13 +156,31 @@ fn partition_fault(views: usize, partitions: usize, e: PartitionLine) -> u64
     0
 }
 
+// The words of the views with partition `i`, counted from 0, in those that it grants: the views of a word.
+fn granting(grants: [u64; MOST_VIEWS], views: u64, i: u64) -> [u64; MOST_VIEWS]
+    requires { ⌜ i < mostPartitions ⌝ }
+    ensures { λ r. ⌜ Granting grants views i r ⌝ }
+{
+    let mut r = grants;
+    let mut k = 0;
+    while k < MOST_VIEWS {
+        let on = words::has_bit(views, k as u64);
+        let g = r[k];
+        r[k] = words::set_bit_if(g, i, on);
+        k += 1;
+    }
+    r
+}
+
 fn with_partition(p: Policy, views: u64) -> Policy
-    requires { ⌜ p .«partition_count» < 32 ⌝ }
+    requires { ⌜ p .«partition_count» < mostPartitions ⌝ }
     ensures { λ r. ⌜ ((d : Declared) (vs : List ℕ) → p ≡ policyValue d → views ≡ viewList vs .views → r ≡ policyValue (morePartitions d vs)) ⌝ }
 {
     let mut r = p;
     let at = p.partition_count;
-    r.partitions[at] = views;
+    let grants = p.grants;
+    let granted = granting(grants, views, at as u64);
+    r.grants = granted;
     r.partition_count = at + 1;
     r
 }

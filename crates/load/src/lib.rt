@@ -13,6 +13,9 @@ ghost use Rattle.load.specs.Value.{loadingValue};
 ghost use Rattle.load.specs.Steps.{BlocksLoaded, enteredValue, blockNumber, progressValue, steppedValue};
 use enter::Entered;
 use model::Line;
+use model::MOST_COLUMNS;
+use model::MOST_TABLES;
+use model::MOST_VIEWS;
 use model::Outcome;
 use model::Policy;
 use model::Tables;
@@ -48,17 +51,17 @@ pub fn empty_policy() -> Policy
 {
     let unused = Line {
         table: 0,
-        terms: [Term { mark: 0, number: 0 }; 8],
+        terms: [Term { mark: 0, number: 0 }; MOST_COLUMNS],
     };
     Policy {
         tables: Tables {
             count: 0,
-            columns: [0; 16],
+            columns: [0; MOST_TABLES],
         },
         view_count: 0,
-        views: [unused; 32],
+        views: [unused; MOST_VIEWS],
         partition_count: 0,
-        partitions: [0; 32],
+        grants: [0; MOST_VIEWS],
     }
 }
 

@@ -78,7 +78,7 @@ terms-malformed o (some ts) e = absurd (true≢false (sym (terms-ok ts) ∙ e))
 -- a table past its limit
 table-past : (o : Option ℕ) (q : Option (List Term)) → parsedTerms q .ok ≡ true → (limited o ≡ Malformed → ⊥) → upToValue (limited o) 16 ≡ 0
     → blankValue true true ≡ parsedLine (lineOf o q)
-unfolding limited both parsedTerms blankValue parsedLine lineWithin mostTables
+unfolding limited both parsedTerms blankValue parsedLine lineWithin
 table-past none q ok f e = absurd (f refl)
 table-past (some n) none ok f e = absurd (false≢true ok)
 table-past (some n) (some ts) ok f e = rw (up-to-past 16 (lit≤ tt) n e)
@@ -110,7 +110,7 @@ tabled p n =
 
 none-past : (o : Option ℕ) (q : Option (List Term)) → parsedTerms q .ok ≡ true → (upToValue (limited o) 16 ≡ 0 → ⊥) → parsedTerms q .outside ≡ false
     → tabled (parsedTerms q) (upToValue (limited o) 16) ≡ parsedLine (lineOf o q)
-unfolding limited upToValue both parsedTerms blankValue goodValue parsedLine lineWithin mostTables
+unfolding limited upToValue both parsedTerms blankValue goodValue parsedLine lineWithin
 none-past none q ok f e = absurd (f refl)
 none-past (some n) none ok f e = absurd (false≢true ok)
 none-past (some n) (some ts) ok f e = go (all termWithin ts) e

@@ -54,7 +54,7 @@ pub record Writable (A : Line) : Type 0 where
   pub terms : T (all termWithin (A .columns))
 
 pub within-writable : (A : Line) → T (lineWithin A) → Writable A
-unfolding lineWithin mostTables
+unfolding lineWithin
 within-writable A h =
     let k = and-iff (upTo mostTables (A .table)) (all termWithin (A .columns)) .0 h in
     let t = up-to-iff 16 (A .table) .0 (k .0) in

@@ -7,16 +7,16 @@ use Rattle.theory.specs.Executable.Test.{all}
 use Rattle.text.specs.Numeral.{constantLimit}
 
 -- "Tables 1 to 16; columns 1 to 8; views 1 to 32 in all; partitions 1 to 32; lines in a query 1 to 8; variables 0 to 63"
-unfoldable pub mostTables : ℕ
+abbrev pub mostTables : ℕ
 mostTables = 16
 
 unfoldable pub mostColumns : ℕ
 mostColumns = 8
 
-unfoldable pub mostViews : ℕ
+abbrev pub mostViews : ℕ
 mostViews = 32
 
-unfoldable pub mostPartitions : ℕ
+abbrev pub mostPartitions : ℕ
 mostPartitions = 32
 
 unfoldable pub mostLines : ℕ
@@ -37,5 +37,5 @@ termWithin (hidden n) = leb n lastVariable
 
 -- the numbers of a line are within their limits (2)
 unfoldable pub lineWithin : Line → Bool
-unfolding upTo mostTables termWithin all
+unfolding upTo termWithin all
 lineWithin A = upTo mostTables (A .table) && all termWithin (A .columns)

@@ -7,6 +7,7 @@ use lib.ListN.{length, take, replicate}
 use Rattle.theory.specs.Query.{Query}
 use Rattle.theory.specs.Query.{Term as TheTerm, Line as TheLine}
 use Rattle.theory.specs.Executable.Test.{kind, number}
+use Rattle.model.specs.Limits.{mostTables}
 use Rattle.model.specs.declared.Term.{Term}
 use Rattle.model.specs.declared.Line.{Line}
 use Rattle.model.specs.declared.Tables.{Tables}
@@ -48,4 +49,4 @@ queryValue Q = record { count = length Q; lines = pad 8 unusedLine (map lineValu
 
 unfoldable pub tablesValue : List ℕ → Tables
 unfolding pad
-tablesValue widths = record { count = length widths; columns = pad 16 0 widths }
+tablesValue widths = record { count = length widths; columns = pad mostTables 0 widths }

@@ -3,7 +3,7 @@ ghost use mathlib.Core.Bool.{true};
 ghost use mathlib.Core.List.{List};
 ghost use Prim.Native.Nat.{ℕ, _≤_};
 ghost use Rattle.theory.specs.Query.{Line as TheLine};
-ghost use Rattle.model.specs.Limits.{lineWithin};
+ghost use Rattle.model.specs.Limits.{mostTables, lineWithin};
 ghost use Rattle.model.specs.Checks.{misfit};
 ghost use Rattle.model.specs.Value.{tablesValue};
 ghost use Rattle.model.specs.Parsed.{goodValue};
@@ -14,7 +14,7 @@ use crate::Tables;
 // What turns back a line within its limits that stands behind lines whose shown and hidden variables are these bits: 4, 5,
 // 6, or 0.
 pub fn check_line(tables: Tables, shown: u64, hidden: u64, p: Parsed) -> u64
-    requires { ⌜ (1 ≤ p .table) × (p .table ≤ 16) ⌝ }
+    requires { ⌜ (1 ≤ p .table) × (p .table ≤ mostTables) ⌝ }
     ensures { λ r. ⌜ ((widths : List ℕ) (earlier : List TheLine) (A : TheLine) → tables ≡ tablesValue widths → Marked earlier shown hidden → lineWithin A ≡ true → p ≡ goodValue (A .table) (A .columns) → r ≡ misfit widths earlier A) ⌝ }
 {
     let table = p.table as usize;

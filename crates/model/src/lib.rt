@@ -26,7 +26,14 @@ pub const SHOWN: u64 = 2;
 
 pub const HIDDEN: u64 = 3;
 
-pub const MOST_TABLES: u64 = 16;
+// The limits of document 01.
+pub const MOST_TABLES: usize = 16;
+
+pub const MOST_COLUMNS: usize = 8;
+
+pub const MOST_VIEWS: usize = 32;
+
+pub const MOST_PARTITIONS: usize = 32;
 
 pub const LAST_VARIABLE: u64 = 63;
 
@@ -45,16 +52,17 @@ pub struct Line {
 // The columns of each table, 0 behind the last.
 pub struct Tables {
     pub count: usize,
-    pub columns: [u64; 16],
+    pub columns: [u64; MOST_TABLES],
 }
 
-// The views behind the last are all unused, the partitions behind the last 0. View n stands at bit n - 1 of a partition.
+// The views behind the last are all unused. For each view the partitions that grant it, partition n at bit n - 1; 0 behind the last
+// view.
 pub struct Policy {
     pub tables: Tables,
     pub view_count: usize,
-    pub views: [Line; 32],
+    pub views: [Line; MOST_VIEWS],
     pub partition_count: usize,
-    pub partitions: [u64; 32],
+    pub grants: [u64; MOST_VIEWS],
 }
 
 // The lines behind the last are all unused.

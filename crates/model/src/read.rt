@@ -161,7 +161,7 @@ pub fn read_line(s: &[u8]) -> Parsed
     if !p.ok {
         return p;
     }
-    let table = up_to(number, MOST_TABLES);
+    let table = up_to(number, MOST_TABLES as u64);
     if table == 0 {
         return blank(true, true);
     }

@@ -35,7 +35,7 @@ taken outside false e f g = absurd (true≢false (sym f ∙ ap outside (sym e) �
 
 pub table-limits : (o : Option (Numbered ℕ)) (t : TableLine) → t ≡ tableValue o → t .ok ≡ true → t .outside ≡ false
     → (1 ≤ t .number) × (t .number ≤ 16)
-unfolding tableValue noTable mostTables
+unfolding tableValue noTable
 table-limits none t e ok f = absurd (false≢true (ap (λ (x : TableLine). x .ok) (sym e) ∙ ok))
 table-limits (some n) t e ok f =
     let w = taken (λ (x : TableLine). x .outside) (upTo 16 (n .number) && upTo mostColumns (n .value)) e refl f in
@@ -44,7 +44,7 @@ table-limits (some n) t e ok f =
 
 view-taken : (o : Option (Numbered Line)) (e : ViewLine) → e ≡ viewValue o → e .ok ≡ true → e .outside ≡ false
     → (n : Numbered Line) × (e .number ≡ n .number) × (e .view .table ≡ n .value .table) × (upTo 32 (n .number) ≡ true) × (lineWithin (n .value) ≡ true)
-unfolding viewValue noView mostViews goodValue
+unfolding viewValue noView goodValue
 view-taken none e p ok f = absurd (false≢true (ap (λ (x : ViewLine). x .ok) (sym p) ∙ ok))
 view-taken (some n) e p ok f =
     let w = taken (λ (x : ViewLine). x .outside) (upTo 32 (n .number) && lineWithin (n .value)) p refl f in
@@ -57,7 +57,7 @@ view-limits o e p ok f = let w = view-taken o e p ok f in within-bounds 32 (w .0
 
 pub view-tabled : (o : Option (Numbered Line)) (e : ViewLine) → e ≡ viewValue o → e .ok ≡ true → e .outside ≡ false
     → (1 ≤ e .view .table) × (e .view .table ≤ 16)
-unfolding lineWithin mostTables
+unfolding lineWithin
 view-tabled o e p ok f =
     let w = view-taken o e p ok f in
     within-bounds 16 (w .0 .value .table) (w .2)
@@ -65,7 +65,7 @@ view-tabled o e p ok f =
 
 pub partition-limits : (o : Option (Numbered (List ℕ))) (p : PartitionLine) → p ≡ partitionValue o → p .ok ≡ true → p .outside ≡ false
     → (1 ≤ p .number) × (p .number ≤ 32)
-unfolding partitionValue noPartition mostPartitions
+unfolding partitionValue noPartition
 partition-limits none p e ok f = absurd (false≢true (ap (λ (x : PartitionLine). x .ok) (sym e) ∙ ok))
 partition-limits (some n) p e ok f =
     let w = taken (λ (x : PartitionLine). x .outside) (upTo 32 (n .number) && all (upTo mostViews) (n .value)) e refl f in

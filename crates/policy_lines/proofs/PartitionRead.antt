@@ -50,17 +50,17 @@ module _ {l : Option (Numbered (List ℕ))} {number : Numeral} {p : ViewList} {q
   partition-malformed e = ap partitionValue (sym (entry-malformed r told 32 (lit≤ tt) e))
 
   pub partition-outside : p .ok ≡ true → p .outside ≡ true → (number ≡ Malformed → ⊥) → noPartition true ≡ partitionValue l
-  unfolding partitionValue mostPartitions
+  unfolding partitionValue
   partition-outside ok e f = let w = entry-outside r told 32 (lit≤ tt) ok e f in sym (ap partitionValue (w .1) ∙ rw (w .2))
 
   pub partition-past : {k : ℕ} → p .ok ≡ true → (number ≡ Malformed → ⊥) → k ≡ upToValue number 32 → k ≡ 0
       → noPartition true ≡ partitionValue l
-  unfolding partitionValue mostPartitions
+  unfolding partitionValue
   partition-past ok f up e = let w = entry-past r told 32 (lit≤ tt) ok f up e in sym (ap partitionValue (w .1) ∙ rw (w .2))
 
   pub partition-within : {k : ℕ} → p .ok ≡ true → p .outside ≡ false → k ≡ upToValue number 32 → (k ≡ 0 → ⊥)
       → record { ok = true; outside = false; number = k; listed = p } ≡ partitionValue l
-  unfolding partitionValue mostPartitions viewListValue
+  unfolding partitionValue viewListValue
   partition-within {k} ok e up f =
       let w = entry-within r told 32 (lit≤ tt) ok e up f in
       let is : p ≡ viewList (w .0) = said ∙ ap viewListValue (w .1) ∙ rw (w .2) in

@@ -75,7 +75,7 @@ module _ {l : Option (Numbered ℕ)} {number columns : Numeral} {q : Option ℕ}
 
   pub table-past : {k : ℕ} → (number ≡ Malformed → ⊥) → (columns ≡ Malformed → ⊥) → k ≡ upToValue number 16 → k ≡ 0
       → noTable true ≡ tableValue l
-  unfolding tableValue mostTables
+  unfolding tableValue
   table-past f g up e =
       let x = formed-some q (λ z. g (said ∙ z)) in
       let w = numbered-past r 16 (lit≤ tt) up (x .1) f e in
@@ -94,7 +94,7 @@ module _ {l : Option (Numbered ℕ)} {number columns : Numeral} {q : Option ℕ}
 
   pub table-within : {k m : ℕ} → k ≡ upToValue number 16 → (k ≡ 0 → ⊥) → m ≡ upToValue columns 8 → (m ≡ 0 → ⊥)
       → record { ok = true; outside = false; number = k; columns = m } ≡ tableValue l
-  unfolding tableValue mostTables mostColumns
+  unfolding tableValue mostColumns
   table-within {k} {m} up f wide g =
       let x = number-within 8 (lit≤ tt) q (λ z. g (columns-up wide ∙ z)) in
       let is : m ≡ x .0 = columns-up wide ∙ x .3 in

@@ -53,16 +53,16 @@ module _ {l : Option (Numbered Line)} {number : Numeral} {p : Parsed} {q : Optio
   view-malformed e = ap viewValue (sym (entry-malformed r told 32 (lit≤ tt) e))
 
   pub view-outside : p .ok ≡ true → p .outside ≡ true → (number ≡ Malformed → ⊥) → noView true ≡ viewValue l
-  unfolding viewValue mostViews
+  unfolding viewValue
   view-outside ok e f = let w = entry-outside r told 32 (lit≤ tt) ok e f in sym (ap viewValue (w .1) ∙ rw (w .2))
 
   pub view-past : {k : ℕ} → p .ok ≡ true → (number ≡ Malformed → ⊥) → k ≡ upToValue number 32 → k ≡ 0 → noView true ≡ viewValue l
-  unfolding viewValue mostViews
+  unfolding viewValue
   view-past ok f up e = let w = entry-past r told 32 (lit≤ tt) ok f up e in sym (ap viewValue (w .1) ∙ rw (w .2))
 
   pub view-within : {k : ℕ} → p .ok ≡ true → p .outside ≡ false → k ≡ upToValue number 32 → (k ≡ 0 → ⊥)
       → record { ok = true; outside = false; number = k; view = p } ≡ viewValue l
-  unfolding viewValue mostViews parsedLine
+  unfolding viewValue parsedLine
   view-within {k} ok e up f =
       let w = entry-within r told 32 (lit≤ tt) ok e up f in
       let is : p ≡ goodValue (w .0 .table) (w .0 .columns) = said ∙ ap parsedLine (w .1) ∙ rw (w .2) in

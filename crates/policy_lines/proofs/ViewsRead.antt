@@ -42,14 +42,14 @@ module _ {s f : List ℕ} {l : ViewList} {past : Bool} {i n : ℕ} (x : NextView
   next-malformed e = rw (next-none numeral (upTo mostViews) viewList x (malformed-none (numeral f) (sym said ∙ e)))
 
   pub next-outside : {v : ℕ} → (number ≡ Malformed → ⊥) → v ≡ upToValue number 32 → v ≡ 0 → ViewsRead s l true (i + n + 1)
-  unfolding numeralValue mostViews
+  unfolding numeralValue
   next-outside formed e z =
       let w = number-past 32 (lit≤ tt) (numeral f) (λ g. formed (said ∙ g)) (ap (λ (m : Numeral). upToValue m 32) (sym said) ∙ sym e ∙ z) in
       next-past numeral (upTo 32) viewList x (w .0) (w .1) (w .2)
 
   pub next-within : {v : ℕ} {q : ViewList} → v ≡ upToValue number 32 → (v ≡ 0 → ⊥) → ((vs : List ℕ) → l ≡ viewList vs → q ≡ viewList (vs ++ v ∷ []))
       → ViewsRead s q past (i + n + 1)
-  unfolding numeralValue mostViews
+  unfolding numeralValue
   next-within {v} {q} e positive b =
       let up : v ≡ upToValue (numeralValue f) 32 = e ∙ ap (λ (m : Numeral). upToValue m 32) said in
       let w = number-within 32 (lit≤ tt) (numeral f) (λ g. positive (up ∙ g)) in

@@ -10,7 +10,7 @@ use Rattle.model.specs.Fields.{Numbered}
 use Rattle.model.specs.Limits.{mostTables, mostColumns, mostViews, mostPartitions, upTo, lineWithin}
 use Rattle.model.specs.Parsed.{blankValue, goodValue}
 use Rattle.policy_text.specs.WellFormed.{ascend}
-use Rattle.policy_text.specs.Policy.{viewsAfter}
+use Rattle.policy_text.specs.Policy.{viewsWord}
 use Rattle.policy_lines.specs.declared.TableLine.{TableLine}
 use Rattle.policy_lines.specs.declared.ViewLine.{ViewLine}
 use Rattle.policy_lines.specs.declared.ViewList.{ViewList}
@@ -22,7 +22,7 @@ unfoldable pub noTable : Bool → TableLine
 noTable ok = record { ok = ok; outside = ok; number = 0; columns = 0 }
 
 unfoldable pub tableValue : Option (Numbered ℕ) → TableLine
-unfolding noTable upTo mostTables mostColumns
+unfolding noTable upTo mostColumns
 tableValue none = noTable false
 tableValue (some e) =
     cond (upTo mostTables (e .number) && upTo mostColumns (e .value))
@@ -35,7 +35,7 @@ unfolding blankValue
 noView ok = record { ok = ok; outside = ok; number = 0; view = blankValue ok ok }
 
 unfoldable pub viewValue : Option (Numbered Line) → ViewLine
-unfolding noView upTo mostViews lineWithin goodValue
+unfolding noView upTo lineWithin goodValue
 viewValue none = noView false
 viewValue (some e) =
     cond (upTo mostViews (e .number) && lineWithin (e .value))
@@ -54,11 +54,11 @@ lastAfter n (v ∷ vs) = lastAfter v vs
 
 -- whether the views ascend, as bits, and the last of them
 unfoldable pub viewList : List ℕ → ViewList
-unfolding ascend viewsAfter lastAfter
-viewList vs = record { ok = true; outside = false; ascending = ascend vs; views = viewsAfter 0 vs; last = lastAfter 0 vs }
+unfolding ascend viewsWord lastAfter
+viewList vs = record { ok = true; outside = false; ascending = ascend vs; views = viewsWord vs; last = lastAfter 0 vs }
 
 unfoldable pub viewListValue : Option (List ℕ) → ViewList
-unfolding noViews all upTo mostViews viewList
+unfolding noViews all upTo viewList
 viewListValue none = noViews false
 viewListValue (some vs) = cond (all (upTo mostViews) vs) (viewList vs) (noViews true)
 
@@ -67,7 +67,7 @@ unfolding noViews
 noPartition ok = record { ok = ok; outside = ok; number = 0; listed = noViews ok }
 
 unfoldable pub partitionValue : Option (Numbered (List ℕ)) → PartitionLine
-unfolding noPartition upTo mostPartitions all mostViews viewList
+unfolding noPartition upTo all viewList
 partitionValue none = noPartition false
 partitionValue (some e) =
     cond (upTo mostPartitions (e .number) && all (upTo mostViews) (e .value))

@@ -6,18 +6,15 @@ ghost use Prim.Native.Nat.{ℕ, _+_, _^_, _<_, _≤_};
 ghost use lib.ListN.{length};
 ghost use Rattle.text.specs.Lines.{fields, fieldsFrom};
 ghost use Rattle.text.specs.Numeral.{numeral};
+ghost use Rattle.model.specs.Limits.{mostViews};
 ghost use Rattle.model.specs.Fields.{every, tableLine, viewLine, partitionLine};
 ghost use Rattle.policy_lines.specs.Value.{noTable, tableValue, noView, viewValue, noViews, viewList, viewListValue, noPartition, partitionValue};
+use model::MOST_COLUMNS;
+use model::MOST_PARTITIONS;
+use model::MOST_TABLES;
+use model::MOST_VIEWS;
 use model::Parsed;
 use text::Numeral;
-
-const MOST_TABLES: u64 = 16;
-
-const MOST_COLUMNS: u64 = 8;
-
-const MOST_VIEWS: u64 = 32;
-
-const MOST_PARTITIONS: u64 = 32;
 
 // A table's line: its number and columns.
 pub struct TableLine {
@@ -80,11 +77,11 @@ pub fn read_table(line: &[u8]) -> TableLine
     if let Numeral::Malformed = columns {
         return no_table(false);
     }
-    let t = model::up_to(number, MOST_TABLES);
+    let t = model::up_to(number, MOST_TABLES as u64);
     if t == 0 {
         return no_table(true);
     }
-    let w = model::up_to(columns, MOST_COLUMNS);
+    let w = model::up_to(columns, MOST_COLUMNS as u64);
     if w == 0 {
         return no_table(true);
     }
@@ -128,7 +125,7 @@ pub fn read_view(line: &[u8]) -> ViewLine
     if view.outside {
         return no_view(true);
     }
-    let k = model::up_to(number, MOST_VIEWS);
+    let k = model::up_to(number, MOST_VIEWS as u64);
     if k == 0 {
         return no_view(true);
     }
@@ -166,7 +163,7 @@ fn none_listed() -> ViewList
 
 // The views with one more behind them.
 fn with_view(l: ViewList, v: u64) -> ViewList
-    requires { ⌜ (1 ≤ v) × (v ≤ 32) ⌝ }
+    requires { ⌜ (1 ≤ v) × (v ≤ mostViews) ⌝ }
     ensures { λ r. ⌜ ((vs : List ℕ) → l ≡ viewList vs → r ≡ viewList (vs ++ v ∷ [])) ⌝ }
 {
     let mut ascending = l.ascending;
@@ -197,7 +194,7 @@ fn read_views(s: &[u8]) -> ViewList
         if let Numeral::Malformed = number {
             return no_views(false);
         }
-        let v = model::up_to(number, MOST_VIEWS);
+        let v = model::up_to(number, MOST_VIEWS as u64);
         if v == 0 {
             outside = true;
         } else {
@@ -251,7 +248,7 @@ pub fn read_partition(line: &[u8]) -> PartitionLine
     if listed.outside {
         return no_partition(true);
     }
-    let k = model::up_to(number, MOST_PARTITIONS);
+    let k = model::up_to(number, MOST_PARTITIONS as u64);
     if k == 0 {
         return no_partition(true);
     }

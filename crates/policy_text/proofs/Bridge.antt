@@ -1,10 +1,14 @@
 -- The policy value that the code holds stands for what the text declares, for every text that loading accepts.
 use mathlib.Core.Path.{_≡_, refl, sym, ap, ap₂, _∙_}
 use mathlib.Core.List.{List, [], _∷_, map, List·Memᴰ·head, List·Memᴰ·tail}
-use Prim.Native.Nat.{ℕ, _≤_}
-use lib.ListN.{length, take, length-map}
+use Prim.Native.Nat.{ℕ, _+_, _≤_, _<_}
+use native.Mathlib.Nat.{zero-add}
+use lib.ListN.{length, take, getD, length-map}
 use Rattle.theory.specs.Query.{_∈_}
-use Rattle.model.specs.Limits.{mostViews, mostColumns}
+use Rattle.theory.proofs.Lists.{at-place, below-place, there}
+use Rattle.words.specs.TestBits.{upFrom}
+use Rattle.words.proofs.TestBits.{made-of}
+use Rattle.model.specs.Limits.{mostTables, mostViews, mostColumns}
 use Rattle.model.specs.Value.{pad, lineValue, unusedLine, tablesValue}
 use Rattle.model.specs.Abstract.{asLine}
 use Rattle.model.proofs.Pad.{pad-take}
@@ -13,10 +17,10 @@ use Rattle.model.proofs.Limits.{up-to-iff}
 use Rattle.policy_text.specs.Text.{load, accepted}
 use Rattle.policy_text.specs.Declared.{Declared}
 use Rattle.policy_text.specs.WellFormed.{WellFormed}
-use Rattle.policy_text.specs.Policy.{policyValue, viewsAfter}
-use Rattle.policy_text.specs.Abstract.{viewsIn, declaredBy}
+use Rattle.policy_text.specs.Policy.{policyValue, grantsOf}
+use Rattle.policy_text.specs.Abstract.{viewsIn, grantedAt, declaredBy}
 use Rattle.policy_text.proofs.Loaded.{loaded-well-formed}
-use Rattle.policy_text.proofs.PartitionWords.{in-after}
+use Rattle.policy_text.proofs.Grants.{partition-back}
 
 -- a map undone on every element
 map-back : {X Y : Type 0} (f : X → Y) (g : Y → X) (l : List X) → ((x : X) → x ∈ l → g (f x) ≡ x) → map g (map f l) ≡ l
@@ -33,14 +37,21 @@ entries-back n none f g l h =
 pub stands-for : (d : Declared) → WellFormed d → declaredBy (policyValue d) ≡ d
 unfolding declaredBy policyValue tablesValue mostColumns
 stands-for d w =
-    let widths = pad-take 16 0 (d .widths) in
-    let views = entries-back 32 unusedLine lineValue asLine (d .views)
+    let widths = pad-take mostTables 0 (d .widths) in
+    let views = entries-back mostViews unusedLine lineValue asLine (d .views)
     (λ A i. as-line A (few-terms (d .widths) narrow A (w .views .each A i .fits))) in
-    let partitions = entries-back 32 0 (viewsAfter 0) (viewsIn mostViews) (d .partitions)
-    (λ vs i. in-after (length (d .views)) vs (w .partitions .each vs i)) in
-    λ i. record { widths = widths i; views = views i; partitions = partitions i }
+    let grants = map (grantsOf (d .partitions)) (upFrom 1 mostViews) in
+    let partitions = made-of (λ k. viewsIn mostViews (grantedAt grants k)) [] 0 (d .partitions) back in
+    λ i. record { widths = widths i; views = views i; partitions = sym partitions i }
   where
-    narrow : (n : ℕ) → n ∈ d .widths → n ≤ 8
+    back : (k : ℕ) → k < length (d .partitions)
+        → getD (d .partitions) k [] ≡ viewsIn mostViews (grantedAt (map (grantsOf (d .partitions)) (upFrom 1 mostViews)) (0 + k))
+    back k h =
+        let (vs, at) = below-place (d .partitions) k h in
+        let good = w .partitions .each vs (at-place (d .partitions) k at) in
+        rw zero-add (there (d .partitions) k [] at ∙ sym (partition-back (d .partitions) k (length (d .views)) vs at good))
+
+    narrow : (n : ℕ) → n ∈ d .widths → n ≤ mostColumns
     narrow n i = up-to-iff mostColumns n .0 (w .tables .each n i) .1
 
 pub load-stands-for : (text : List ℕ) (d : Declared) → load text ≡ accepted d → declaredBy (policyValue d) ≡ d

@@ -15,5 +15,5 @@ pub mod Loads
 pub mod Example
 -- The value stands for what the text declares.
 pub mod Ascend
-pub mod PartitionWords
+pub mod Grants
 pub mod Bridge

@@ -31,7 +31,7 @@ use Rattle.policy_text.proofs.Loaded.{loaded-well-formed, loaded-printe
 table-enters : (d : Declared) (w : ℕ) → length (d .widths) < mostTables → GoodWidth w
     → enter tables d (printLine (suc (length (d .widths))) (tableFields w))
     ≡ entered (record { widths = d .widths ++ w ∷ []; views = d .views; partitions = d .partitions })
-unfolding enter mostTables mostColumns
+unfolding enter mostColumns
 table-enters d w h g =
     let k = up-to-iff 8 w .0 g in
     let n = suc (length (d .widths)) in
@@ -42,7 +42,7 @@ view-enters : (d : Declared) (A : Line) → OneToMost mostTables GoodWidth (d .w
     → length (d .views) < mostViews → GoodView (d .widths) A
     → enter views d (printLine (suc (length (d .views))) (lineFields A))
     ≡ entered (record { widths = d .widths; views = d .views ++ A ∷ []; partitions = d .partitions })
-unfolding enter mostViews
+unfolding enter
 view-enters d A ts h g =
     let s = view-size (d .widths) A ts g in
     let n = suc (length (d .views)) in
@@ -56,7 +56,7 @@ partition-enters : (d : Declared) (vs : List ℕ)
     → length (d .partitions) < mostPartitions → GoodPartition (length (d .views)) vs
     → enter partitions d (printLine (suc (length (d .partitions))) (partitionFields vs))
     ≡ entered (record { widths = d .widths; views = d .views; partitions = d .partitions ++ vs ∷ [] })
-unfolding enter mostPartitions
+unfolding enter
 partition-enters d vs h g =
     let s = partition-size (length (d .views)) vs g in
     let n = suc (length (d .partitions)) in

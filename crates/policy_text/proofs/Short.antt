@@ -53,7 +53,7 @@ partition-short n vs h s =
     (simp length-map (omega arith))
 
 pub print-short : (d : Declared) → WellFormed d → length (print d) ≤ 16384
-unfolding print printLines endEach tableColumns viewTableTerms partitionViews mostTables mostViews mostPartitions
+unfolding print printLines endEach tableColumns viewTableTerms partitionViews
 print-short d w =
     let a = block-short tableFields 16 21 _ (d .widths) (omega arith) (w .tables) table-short in
     let b = block-short lineFields 32 119 _ (d .views) (omega arith) (w .views)

@@ -47,7 +47,6 @@ pub record PartitionSize (vs : List ℕ) : Type 0 where
   pub most : length vs ≤ 32
 
 pub partition-size : (views : ℕ) (vs : List ℕ) → GoodPartition views vs → PartitionSize vs
-unfolding mostViews
 partition-size views vs g =
     record { numbers = λ v m. let k = within v m in omega arith; most = ascend-short 32 vs (g .ascending) within }
   where

@@ -43,7 +43,7 @@ tableChecks d e =
 
 -- the number of the first that turns the line back, 0 where none does; so in each block
 unfoldable pub tableFault : Declared → Numbered ℕ → ℕ
-unfolding firstFault upTo mostTables mostColumns
+unfolding firstFault upTo mostColumns
 tableFault d e = firstFault (tableChecks d e)
 
 -- and 4, 5 and 6
@@ -54,7 +54,7 @@ viewChecks d e =
     ∷ fitting (d .widths) [] (e .value)
 
 unfoldable pub viewFault : Declared → Numbered Line → ℕ
-unfolding firstFault upTo mostViews lineWithin known wide clashing
+unfolding firstFault upTo lineWithin known wide clashing
 viewFault d e = firstFault (viewChecks d e)
 
 -- 3 also "a partition's views that don't ascend strictly"
@@ -66,7 +66,7 @@ partitionChecks d e =
     ∷ []
 
 unfoldable pub partitionFault : Declared → Numbered (List ℕ) → ℕ
-unfolding firstFault upTo mostViews mostPartitions ascend all any
+unfolding firstFault upTo ascend all any
 partitionFault d e = firstFault (partitionChecks d e)
 
 -- a line's number that turns it back, or what is declared with it

@@ -63,7 +63,7 @@ module _ (p : Parsed) (A : Line) (e : p ≡ parsedLine (some A)) where
   is-good o = e ∙ ap (λ (b : Bool). cond b (goodValue (A .table) (A .columns)) (blankValue true true)) (is-within o)
 
   pub is-tabled : LineTabled p
-  unfolding lineWithin upTo goodValue mostTables
+  unfolding lineWithin upTo goodValue
   is-tabled o =
       let w = and-iff (upTo mostTables (A .table)) (all termWithin (A .columns)) .0 (true-is (lineWithin A) (is-within o)) .0 in
       let u = and-iff (leb 1 (A .table)) (leb (A .table) 16) .0 w in

@@ -24,7 +24,7 @@ pub record Parts (p : Policy) : Type 0 where
 
 module _ (p : Policy) where
   pub loadable-parts : Loadable p → Parts p
-  unfolding policyValue mostViews mostPartitions
+  unfolding policyValue
   loadable-parts l =
       let d = l .declared in
       let w = loadable-iff d .0 (l .text, l .loads) in
@@ -44,7 +44,7 @@ module _ (p : Policy) where
       }
 
   pub parts-loadable : Parts p → Loadable p
-  unfolding policyValue mostViews mostPartitions
+  unfolding policyValue
   parts-loadable h =
       let d : Declared = record { widths = h .widths; views = h .views .things; partitions = h .partitions .things } in
       let w : WellFormed d =

@@ -53,7 +53,6 @@ after-in (suc n) m =
 
 module _ (n m : ℕ) (few : n ≤ 32) where
   of-good : GoodPartition n (viewsIn n m)
-  unfolding mostViews
   of-good =
       record {
         within = λ v i. let k = in-below n m v i in up-to-iff 32 v .1 (k .0, omega (arith, k .1));
@@ -85,9 +84,7 @@ shifted-iff n m = (
 
 module _ (views n : ℕ) (l : List ℕ) where
   pub partitions-checked : PartitionsHeld views n l → Checked 32 (PartitionPlace views) 0 n l
-  unfolding mostPartitions
   partitions-checked h = held-checked (GoodPartition views) (viewsAfter 0) 0 32 n l h
 
   pub checked-partitions : length l ≡ 32 → Checked 32 (PartitionPlace views) 0 n l → PartitionsHeld views n l
-  unfolding mostPartitions
   checked-partitions long c = checked-held (GoodPartition views) (viewsAfter 0) 0 32 n l long c

@@ -24,7 +24,7 @@ width-iff w = (
 
 module _ (t : Tables) where
   tables-held : ((widths : List ℕ) × TablesOf widths t) → HoldsList 16 GoodWidth (λ w. w) 0 (t .count) (t .columns)
-  unfolding tablesValue mostTables
+  unfolding tablesValue
   tables-held r =
       record {
         things = r .0;
@@ -34,7 +34,7 @@ module _ (t : Tables) where
       }
 
   held-tables : HoldsList 16 GoodWidth (λ w. w) 0 (t .count) (t .columns) → (widths : List ℕ) × TablesOf widths t
-  unfolding tablesValue mostTables
+  unfolding tablesValue
   held-tables h =
       let columns = h .is ∙ ap (pad 16 0) (map-self (λ w. w) (h .things) (λ w m. refl)) in
       (h .things, record { listed = h .listed; is = λ i. record { count = h .count i; columns = columns i } })

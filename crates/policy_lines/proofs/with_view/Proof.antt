@@ -1,4 +1,4 @@
--- `entries::with_view`: the views still ascend where the new one is past the last.
+-- `with_view`: the views still ascend where the new one is past the last.
 use mathlib.Core.Bool.{_&&_, and-true, and-false}
 use mathlib.Core.Logic.{⊎-elim}
 use mathlib.Core.Path.{_≡_, _∙_}
@@ -22,7 +22,8 @@ ascending c =
     ⊎-elim (λ w. w .1 ∙ rw (le-ltb _ _ (w .0 .taken), and-false)) (λ w. w .1 ∙ rw (lt-ltb _ _ (w .0 .left), and-true)) (c .if1 .came)
 
 returns : tie.Need-returns
-returns c = listed-more _ _ _ _ (c .before .before .before .pre .0) (ascending (c .before)) (c .set-bit .ensures)
+returns c =
+    let s = c .before .before .before in listed-more _ _ _ _ (s .pre .0) (s .pre .1) (ascending (c .before)) (c .set-bit .ensures)
 
 pub with-view-spec : {M : Type 1} → statement M
 with-view-spec = tie.close (tie.spec sub-set-bit set-bit-requires returns)
