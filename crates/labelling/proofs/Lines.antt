@@ -56,7 +56,6 @@ module _ {d : Declared} {tables : Tables} {masks views : List ℕ} (ready : Read
   width-is = ap (λ (t : ℕ). getD (d .widths) (t - 1) 0) table-is ∙ sym (l .fits .width)
 
   pub narrow : getD (d .widths) (table - 1) 0 ≤ 8
-  unfolding mostColumns
   narrow =
       let m = getD-mem (d .widths) (table - 1) 0 (omega (arith, first-table, table-is, l .fits .last)) in
       up-to-iff 8 _ .0 (ready .good .tables .each _ m) .1

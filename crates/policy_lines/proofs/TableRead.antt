@@ -86,7 +86,7 @@ module _ {l : Option (Numbered ℕ)} {number columns : Numeral} {q : Option ℕ}
 
   pub columns-past : {m : ℕ} → (number ≡ Malformed → ⊥) → (columns ≡ Malformed → ⊥) → m ≡ upToValue columns 8 → m ≡ 0
       → noTable true ≡ tableValue l
-  unfolding tableValue mostColumns
+  unfolding tableValue
   columns-past f g up e =
       let x = number-past 8 (lit≤ tt) q (λ z. g (said ∙ z)) (sym (columns-up up) ∙ e) in
       let w = numbered-formed r (x .1) f in
@@ -94,7 +94,7 @@ module _ {l : Option (Numbered ℕ)} {number columns : Numeral} {q : Option ℕ}
 
   pub table-within : {k m : ℕ} → k ≡ upToValue number 16 → (k ≡ 0 → ⊥) → m ≡ upToValue columns 8 → (m ≡ 0 → ⊥)
       → record { ok = true; outside = false; number = k; columns = m } ≡ tableValue l
-  unfolding tableValue mostColumns
+  unfolding tableValue
   table-within {k} {m} up f wide g =
       let x = number-within 8 (lit≤ tt) q (λ z. g (columns-up wide ∙ z)) in
       let is : m ≡ x .0 = columns-up wide ∙ x .3 in

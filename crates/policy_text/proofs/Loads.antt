@@ -31,7 +31,7 @@ use Rattle.policy_text.proofs.Loaded.{loaded-well-formed, loaded-printe
 table-enters : (d : Declared) (w : ℕ) → length (d .widths) < mostTables → GoodWidth w
     → enter tables d (printLine (suc (length (d .widths))) (tableFields w))
     ≡ entered (record { widths = d .widths ++ w ∷ []; views = d .views; partitions = d .partitions })
-unfolding enter mostColumns
+unfolding enter
 table-enters d w h g =
     let k = up-to-iff 8 w .0 g in
     let n = suc (length (d .widths)) in

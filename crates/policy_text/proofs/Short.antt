@@ -36,7 +36,7 @@ block-short fieldsOf most m Good l small h short =
 -- ---- the lines of the three blocks
 
 table-short : (n w : ℕ) → n < 10 ^ 10 → GoodWidth w → Within 21 (printLine n (tableFields w))
-unfolding printLine tableFields mostColumns
+unfolding printLine tableFields
 table-short n w h g =
     let k = up-to-iff 8 w .0 g in
     length-joined 10 (decimal n) (decimal w ∷ [])

@@ -43,7 +43,7 @@ tableChecks d e =
 
 -- the number of the first that turns the line back, 0 where none does; so in each block
 unfoldable pub tableFault : Declared → Numbered ℕ → ℕ
-unfolding firstFault upTo mostColumns
+unfolding firstFault upTo
 tableFault d e = firstFault (tableChecks d e)
 
 -- and 4, 5 and 6

@@ -20,7 +20,7 @@ pub record Parts (p : Policy) : Type 0 where
   pub widths : List ℕ
   pub tables : TablesOf widths (p .tables)
   pub views : ViewsHeld widths (p .«view_count») (p .views)
-  pub partitions : PartitionsHeld (p .«view_count») (p .«partition_count») (p .partitions)
+  pub partitions : PartitionsHeld (p .«view_count») (p .«partition_count») (p .grants)
 
 module _ (p : Policy) where
   pub loadable-parts : Loadable p → Parts p
@@ -39,7 +39,7 @@ module _ (p : Policy) where
               things = d .partitions;
               listed = rw views (w .partitions);
               count = ap (λ (q : Policy). q .«partition_count») (l .value);
-              is = ap (λ (q : Policy). q .partitions) (l .value);
+              is = ap (λ (q : Policy). q .grants) (l .value);
             };
       }
 
@@ -61,7 +61,7 @@ module _ (p : Policy) where
               «view_count» = h .views .count i;
               views = h .views .is i;
               «partition_count» = h .partitions .count i;
-              partitions = h .partitions .is i;
+              grants = h .partitions .is i;
             };
       }
 

@@ -1,77 +1,32 @@
--- A partition's word: the views of a partition as bits, and back.
-use mathlib.Core.Path.{_≡_, refl, sym, _∙_}
-use mathlib.Core.Logic.{_↔_, ⊎-elim}
-use mathlib.Core.Bool.{true}
-use mathlib.Core.List.{List, [], _∷_, _++_, append-nil, List·Memᴰ·head, List·Memᴰ·tail}
-use Prim.Native.Nat.{ℕ, zero, suc, _+_, _-_, _*_, _/_, _%_, _^_, _≤_, _<_}
-use native.Mathlib.Nat.{zero-mul, one-mul, zero-add, add-comm, mod-lt, mod-eq-of-lt, div-eq-of-lt, div-lt-iff-lt-mul}
-use native.Mathlib.Numerals.{one-add}
+-- The words of views that partitions grant: which lists of words are those of good partitions, and the partitions of such a list.
+use mathlib.Core.Path.{_≡_, sym, ap, subst, _∙_}
+use mathlib.Core.Logic.{_↔_, by-cases}
+use mathlib.Core.Bool.{Bool, true}
+use mathlib.Core.List.{List, [], map}
+use mathlib.Core.Option.{some, Option·some-injective}
+use Prim.Native.Nat.{ℕ, _+_, _-_, _/_, _^_, _≤_, _<_}
+use native.Mathlib.Nat.{zero-add, one-mul, div-eq-of-lt, div-lt-iff-lt-mul}
+use native.Mathlib.Decide.{decLt}
 use native.Mathlib.Omega.{arith}
 use borrow.Author.Tests.{eqb-true, eq-eqb}
-use lib.Dec.{eqb}
-use lib.ListN.{length}
-use lib.Pow.{pow-pos, mod-pow-add}
+use lib.Dec.{T, eqb, ltb}
+use lib.ListN.{length, getD, getElem?, length-map}
+use lib.Pow.{pow-pos}
 use Rattle.theory.specs.Query.{_∈_}
+use Rattle.theory.proofs.Lists.{place, at-place}
 use Rattle.words.specs.Bits.{bit}
-use Rattle.words.specs.Sets.{setBit}
-use Rattle.words.proofs.Bits.{bit-cases, is-set, is-clear, bit-beyond}
-use Rattle.words.proofs.SetBits.{set-bit-adds, set-bit-below}
+use Rattle.words.specs.TestBits.{upFrom}
+use Rattle.words.proofs.Answers.{true-holds, holds-true}
+use Rattle.words.proofs.Bits.{bit-zero, bit-within, same-bits, is-set}
+use Rattle.words.proofs.TestBits.{up-from-length, made-of, made-at, at-made}
 use Rattle.model.specs.Limits.{mostViews, mostPartitions}
-use Rattle.policy_text.specs.WellFormed.{GoodPartition}
-use Rattle.policy_text.specs.Policy.{viewsAfter}
-use Rattle.policy_text.specs.Abstract.{viewsIn}
 use Rattle.model.proofs.Limits.{up-to-iff}
-use Rattle.policy_text.proofs.PartitionWords.{in-below, in-ascend, good-below}
-use Rattle.validity.specs.Parts.{ValueOf, PartitionPlace, PartitionsHeld}
-use Rattle.validity.proofs.Held.{Checked, checked-held, held-checked}
-
--- ---- from a word to its views
-
-after-append : (m : ℕ) (vs ws : List ℕ) → viewsAfter m (vs ++ ws) ≡ viewsAfter (viewsAfter m vs) ws
-unfolding viewsAfter
-after-append m [] ws = refl
-after-append m (v ∷ vs) ws = after-append (setBit m (v - 1)) vs ws
-
--- bit n of a word above its lower bits
-next-bit : (m n : ℕ) → m % 2 ^ suc n ≡ bit m n * 2 ^ n + m % 2 ^ n
-next-bit m n = rw one-add at (mod-pow-add m 1 n)
-
--- a view set above lower bits
-set-above : (n r : ℕ) → r < 2 ^ n → viewsAfter r (suc n ∷ []) ≡ 2 ^ n + r
-unfolding viewsAfter
-set-above n r h = let at : suc n - 1 ≡ n = omega arith in rw (at, set-bit-adds r n (bit-beyond n h)) (add-comm r (2 ^ n))
-
-after-in : (n m : ℕ) → viewsAfter 0 (viewsIn n m) ≡ m % 2 ^ n
-unfolding viewsIn viewsAfter
-after-in zero m = omega arith
-after-in (suc n) m =
-    let lower = after-in n m in
-    ⊎-elim (λ e. rw (is-clear m n e, append-nil, lower, next-bit, e, zero-mul, zero-add))
-    (λ e. rw (is-set m n e, after-append, lower, next-bit, e, one-mul) (set-above n (m % 2 ^ n) (mod-lt m (pow-pos n)))) (bit-cases m n)
-
--- ---- the words of partitions
-
-module _ (n m : ℕ) (few : n ≤ 32) where
-  of-good : GoodPartition n (viewsIn n m)
-  of-good =
-      record {
-        within = λ v i. let k = in-below n m v i in up-to-iff 32 v .1 (k .0, omega (arith, k .1));
-        ascending = in-ascend n m;
-        declared = λ v i. in-below n m v i .1;
-      }
-
-  after-below : (k : ℕ) (vs : List ℕ) → k < 2 ^ n → ((v : ℕ) → v ∈ vs → (1 ≤ v) × (v ≤ n)) → viewsAfter k vs < 2 ^ n
-  unfolding viewsAfter
-  after-below k [] h below = h
-  after-below k (v ∷ vs) h below =
-      let b = below v (List·Memᴰ·head refl) in
-      after-below (setBit k (v - 1)) vs (set-bit-below n k (v - 1) h (omega arith)) (λ w i. below w (List·Memᴰ·tail i))
-
-  pub word-iff : (m < 2 ^ n) ↔ ValueOf (GoodPartition n) (viewsAfter 0) m
-  word-iff = (
-    λ h. record { thing = viewsIn n m; good = of-good; is = sym (after-in n m ∙ mod-eq-of-lt h) },
-    λ p. rw (p .is) (after-below 0 (p .thing) (pow-pos n) (good-below n (p .thing) (p .good))),
-  )
+use Rattle.policy_text.specs.WellFormed.{GoodPartition}
+use Rattle.policy_text.specs.Policy.{grantsOf}
+use Rattle.policy_text.specs.Abstract.{viewsIn, grantedAt}
+use Rattle.policy_text.proofs.Grants.{grants-bit, grants-below, grants-at, in-views, views-in, views-ascend, good-below}
+use Rattle.validity.specs.Parts.{GrantPlace, PartitionsHeld}
+use Rattle.validity.proofs.Held.{place-used, place-unused, used-place, unused-place}
 
 -- no bit at n or past it
 pub shifted-iff : (n m : ℕ) → (eqb (m / 2 ^ n) 0 ≡ true) ↔ (m < 2 ^ n)
@@ -80,11 +35,103 @@ shifted-iff n m = (
   λ h. eq-eqb (m / 2 ^ n) 0 (div-eq-of-lt h),
 )
 
--- ---- the partitions, place by place
+-- what the code finds of the words: from 1 to the most partitions, and each word as it should be
+pub record Granted (views n : ℕ) (grants : List ℕ) : Type 0 where
+  pub counted : (1 ≤ n) × (n ≤ mostPartitions)
+  pub places : (k : ℕ) → k < mostViews → GrantPlace n (ltb k views) (getD grants k 0)
 
-module _ (views n : ℕ) (l : List ℕ) where
-  pub partitions-checked : PartitionsHeld views n l → Checked 32 (PartitionPlace views) 0 n l
-  partitions-checked h = held-checked (GoodPartition views) (viewsAfter 0) 0 32 n l h
+module _ (views n : ℕ) (grants : List ℕ) where
+  -- ---- from the partitions to the words
 
-  pub checked-partitions : length l ≡ 32 → Checked 32 (PartitionPlace views) 0 n l → PartitionsHeld views n l
-  checked-partitions long c = checked-held (GoodPartition views) (viewsAfter 0) 0 32 n l long c
+  pub partitions-granted : PartitionsHeld views n grants → Granted views n grants
+  partitions-granted h = record {
+    counted = subst (λ (m : ℕ). (1 ≤ m) × (m ≤ mostPartitions)) (sym (h .count)) (h .listed .nonempty, h .listed .few);
+    places = λ k b. by-cases (decLt k views) (λ l. used-place _ 0 k views l (small k b)) (λ l. unused-place _ 0 k views (omega arith) (none k b l));
+  }
+    where
+      ps : List (List ℕ)
+      ps = h .things
+
+      word : (k : ℕ) → k < mostViews → getD grants k 0 ≡ grantsOf ps (k + 1)
+      word k b = ap (λ (l : List ℕ). getD l k 0) (h .is) ∙ grants-at ps k b
+
+      small : (k : ℕ) → k < mostViews → getD grants k 0 < 2 ^ n
+      small k b =
+          subst (λ (m : ℕ). getD grants k 0 < 2 ^ m) (sym (h .count)) (subst (λ (w : ℕ). w < 2 ^ length ps) (sym (word k b)) (grants-below ps (k + 1)))
+
+      -- no partition lists a view past the last
+      none : (k : ℕ) → k < mostViews → (k < views → ⊥) → getD grants k 0 ≡ 0
+      none k b l =
+          word k b
+          ∙ same-bits (length ps) (grantsOf ps (k + 1)) 0 (grants-below ps (k + 1)) (pow-pos (length ps)) (λ i. (
+            λ e.
+                let (ns, at, m) = grants-bit ps (k + 1) i .0 e in
+                absurd (l (omega (arith, good-below views ns (h .listed .each ns (at-place ps i at)) (k + 1) m .1))),
+            λ e. absurd (omega (arith, bit-zero i, e)),
+          ))
+
+  -- ---- from the words to the partitions
+
+  -- the views of partition i, counted from 0
+  abbrev partition : ℕ → List ℕ
+  partition i = viewsIn views (grantedAt grants i)
+
+  partition-good : views ≤ mostViews → (i : ℕ) → GoodPartition views (partition i)
+  partition-good few i = record {
+    within = λ v m. let (a, b, t) = in-views (grantedAt grants i) views v m in up-to-iff mostViews v .1 (a, omega arith);
+    ascending = views-ascend (grantedAt grants i) views;
+    declared = λ v m. in-views (grantedAt grants i) views v m .1;
+  }
+
+  pub granted-partitions : views ≤ mostViews → length grants ≡ mostViews → Granted views n grants → PartitionsHeld views n grants
+  unfolding grantedAt
+  granted-partitions few long g = record {
+    things = ps;
+    listed = record {
+      nonempty = rw count (g .counted .0);
+      few = rw count (g .counted .1);
+      each = λ ns m.
+          let (i, e) = place m in
+          let (b, q) = made-at partition 0 n i ns e in subst (GoodPartition views) (sym q) (partition-good few _);
+    };
+    count = sym count;
+    is = rw long at (made-of (grantsOf ps) 0 1 grants (λ k h. word k (rw long at h)));
+  }
+    where
+      ps : List (List ℕ)
+      ps = map partition (upFrom 0 n)
+
+      count : length ps ≡ n
+      count = length-map (upFrom 0 n) partition ∙ up-from-length 0 n
+
+      -- the view at place k is in partition i where its word has the bit
+      listed-iff : (k i : ℕ) → (k + 1 ∈ partition i) ↔ ((k < views) × (bit (getD grants k 0) i ≡ 1))
+      listed-iff k i =
+          let back : k + 1 - 1 ≡ k = omega arith in (
+            λ m. let (x, y, t) = in-views (grantedAt grants i) views (k + 1) m in (omega arith, eqb-true _ _ (sym (holds-true _ (rw back at t)))),
+            λ r. views-in (grantedAt grants i) views (k + 1) (omega arith) (omega (arith, r .0)) (rw back (true-holds (is-set _ i (r .1)))),
+          )
+
+      small : (k : ℕ) → k < mostViews → getD grants k 0 < 2 ^ n
+      small k h =
+          by-cases (decLt k views) (λ l. place-used _ 0 k views l (g .places k h))
+          (λ l. rw (place-unused _ 0 k views (omega arith) (g .places k h)) (pow-pos n))
+
+      used : (k i : ℕ) → k < mostViews → bit (getD grants k 0) i ≡ 1 → k < views
+      used k i h e =
+          by-cases (decLt k views) (λ l. l)
+          (λ l. absurd (omega (arith, bit-zero i, rw (place-unused _ 0 k views (omega arith) (g .places k h)) at e)))
+
+      word : (k : ℕ) → k < mostViews → getD grants k 0 ≡ grantsOf ps (1 + k)
+      word k h =
+          let next : 1 + k ≡ k + 1 = omega arith in
+          rw next (same-bits n (getD grants k 0) (grantsOf ps (k + 1)) (small k h) (rw count at (grants-below ps (k + 1))) (λ i. (
+            λ e.
+                let b = bit-within n i (small k h) e in
+                let at : getElem? ps i ≡ some (partition i) = rw zero-add at (at-made partition 0 n i b) in
+                grants-bit ps (k + 1) i .1 (partition i, at, listed-iff k i .1 (used k i h e, e)),
+            λ e.
+                let (ns, at, m) = grants-bit ps (k + 1) i .0 e in
+                let q : ns ≡ partition i = rw zero-add at (made-at partition 0 n i ns at .1) in
+                listed-iff k i .0 (subst (λ (l : List ℕ). k + 1 ∈ l) q m) .1,
+          )))

@@ -53,7 +53,7 @@ module _ (widths : List ℕ) (t : Tables) (tables : TablesOf widths t) where
         (omega (arith, same, v .good .fits .first), omega (arith, same, v .good .fits .last, tables-count))
 
     terms-view : 1 ≤ l .table → l .table ≤ t .count → TermsHeld (getD (t .columns) (l .table - 1) 0) (l .terms) → ViewOf widths l
-    unfolding lineWithin known wide lineValue termsValue mostColumns
+    unfolding lineWithin known wide lineValue termsValue
     terms-view some last d =
         let A : TheLine = record { table = l .table; columns = d .held .things } in
         let terms = d .held .is ∙ sym (kept (map termValue (A .columns)) (rw length-map (d .held .listed .few))) in
@@ -72,7 +72,7 @@ module _ (widths : List ℕ) (t : Tables) (tables : TablesOf widths t) where
         }
 
     view-terms : ViewOf widths l → TermsHeld (getD (t .columns) (l .table - 1) 0) (l .terms)
-    unfolding lineWithin wide lineValue termsValue mostColumns
+    unfolding lineWithin wide lineValue termsValue
     view-terms v =
         let A = v .thing in
         let at = view-table v in

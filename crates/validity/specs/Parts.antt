@@ -3,18 +3,19 @@
 use mathlib.Core.Path.{_≡_}
 use mathlib.Core.Bool.{Bool, true, false}
 use mathlib.Core.List.{List, map}
-use Prim.Native.Nat.{ℕ}
+use Prim.Native.Nat.{ℕ, _^_, _<_}
 use lib.Dec.{T}
 use lib.ListN.{length}
 use Rattle.theory.specs.Query.{shown, hidden, _∈_}
 use Rattle.theory.specs.Query.{Term as TheTerm}
+use Rattle.words.specs.TestBits.{upFrom}
 use Rattle.model.specs.Limits.{mostTables, mostColumns, mostViews, mostPartitions, termWithin}
 use Rattle.model.specs.Value.{pad, unusedTerm, termValue, unusedLine, lineValue, tablesValue}
 use Rattle.model.specs.declared.Term.{Term}
 use Rattle.model.specs.declared.Line.{Line}
 use Rattle.model.specs.declared.Tables.{Tables}
 use Rattle.policy_text.specs.WellFormed.{OneToMost, GoodWidth, GoodView, GoodPartition}
-use Rattle.policy_text.specs.Policy.{viewsAfter}
+use Rattle.policy_text.specs.Policy.{grantsOf}
 
 -- ---- any part
 
@@ -73,8 +74,13 @@ ViewsHeld widths = HoldsList mostViews (GoodView widths) lineValue unusedLine
 
 -- ---- the partitions
 
-abbrev pub PartitionPlace : ℕ → Bool → ℕ → Type 0
-PartitionPlace views = Place (ValueOf (GoodPartition views) (viewsAfter 0)) 0
+-- the word of a view: the partitions that grant it, of n
+abbrev pub GrantPlace : ℕ → Bool → ℕ → Type 0
+GrantPlace n = Place (λ g. g < 2 ^ n) 0
 
-abbrev pub PartitionsHeld : ℕ → ℕ → List ℕ → Type 0
-PartitionsHeld views = HoldsList mostPartitions (GoodPartition views) (viewsAfter 0) 0
+-- the words of n good partitions of a policy with that many views
+pub record PartitionsHeld (views n : ℕ) (grants : List ℕ) : Type 0 where
+  pub things : List (List ℕ)
+  pub listed : OneToMost mostPartitions (GoodPartition views) things
+  pub count : n ≡ length things
+  pub is : grants ≡ map (grantsOf things) (upFrom 1 mostViews)

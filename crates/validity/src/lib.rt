@@ -6,13 +6,18 @@ ghost use mathlib.Core.Bool.{true};
 ghost use mathlib.Core.List.{List};
 ghost use Prim.Native.Nat.{ℕ, _≤_, _<_};
 ghost use Rattle.words.specs.Sets.{setBit};
+ghost use Rattle.model.specs.Limits.{mostTables, mostColumns, mostViews, mostPartitions};
 ghost use Rattle.model.specs.Value.{unusedTerm, unusedLine};
 ghost use Rattle.validity.specs.Loadable.{Loadable};
-ghost use Rattle.validity.specs.Parts.{WidthPlace, TablesOf, TermOf, TermPlace, TermsHeld, ViewOf, ViewPlace, ViewsHeld, PartitionPlace, PartitionsHeld};
+ghost use Rattle.validity.specs.Parts.{WidthPlace, TablesOf, TermOf, TermPlace, TermsHeld, ViewOf, ViewPlace, ViewsHeld, GrantPlace, PartitionsHeld};
 use model::CONSTANT;
 use model::HIDDEN;
 use model::LAST_VARIABLE;
 use model::Line;
+use model::MOST_COLUMNS;
+use model::MOST_PARTITIONS;
+use model::MOST_TABLES;
+use model::MOST_VIEWS;
 use model::Policy;
 use model::SHOWN;
 use model::Tables;
@@ -32,8 +37,8 @@ pub fn valid(p: Policy) -> bool
     if !valid_views(p) {
         return false;
     }
-    let masks = p.partitions;
-    valid_partitions(p.view_count, p.partition_count, masks)
+    let grants = p.grants;
+    valid_grants(p.view_count, p.partition_count, grants)
 }
 
 // From 1 to the most.
@@ -48,11 +53,11 @@ fn counted(n: usize, most: usize) -> bool
 fn valid_tables(t: Tables) -> bool
     ensures { λ r. ⌜ (r ≡ true) ↔ ((widths : List ℕ) × TablesOf widths t) ⌝ }
 {
-    if !counted(t.count, 16) {
+    if !counted(t.count, MOST_TABLES) {
         return false;
     }
     let mut i = 0;
-    while i < 16 {
+    while i < MOST_TABLES {
         let w = t.columns[i];
         if !valid_width(i < t.count, w) {
             return false;
@@ -67,7 +72,7 @@ fn valid_width(used: bool, w: u64) -> bool
     ensures { λ r. ⌜ (r ≡ true) ↔ WidthPlace used w ⌝ }
 {
     if used {
-        return 1 <= w && w <= 8;
+        return 1 <= w && w <= MOST_COLUMNS as u64;
     }
     w == 0
 }
@@ -75,16 +80,16 @@ fn valid_width(used: bool, w: u64) -> bool
 // ---- views
 
 fn valid_views(p: Policy) -> bool
-    requires { ⌜ p .tables .count ≤ 16 ⌝ }
+    requires { ⌜ p .tables .count ≤ mostTables ⌝ }
     ensures { λ r. ⌜ ((widths : List ℕ) → TablesOf widths (p .tables) → (r ≡ true) ↔ ViewsHeld widths (p .«view_count») (p .views)) ⌝ }
 {
     let n = p.view_count;
-    if !counted(n, 32) {
+    if !counted(n, MOST_VIEWS) {
         return false;
     }
     let t = p.tables;
     let mut i = 0;
-    while i < 32 {
+    while i < MOST_VIEWS {
         let l = p.views[i];
         if !valid_view(i < n, t, l) {
             return false;
@@ -96,7 +101,7 @@ fn valid_views(p: Policy) -> bool
 
 // A view, or an unused line behind the last.
 fn valid_view(used: bool, t: Tables, l: Line) -> bool
-    requires { ⌜ t .count ≤ 16 ⌝ }
+    requires { ⌜ t .count ≤ mostTables ⌝ }
     ensures { λ r. ⌜ ((widths : List ℕ) → TablesOf widths t → (r ≡ true) ↔ ViewPlace widths used l) ⌝ }
 {
     if used {
@@ -106,7 +111,7 @@ fn valid_view(used: bool, t: Tables, l: Line) -> bool
 }
 
 fn valid_line(t: Tables, l: Line) -> bool
-    requires { ⌜ t .count ≤ 16 ⌝ }
+    requires { ⌜ t .count ≤ mostTables ⌝ }
     ensures { λ r. ⌜ ((widths : List ℕ) → TablesOf widths t → (r ≡ true) ↔ ViewOf widths l) ⌝ }
 {
     let table = l.table;
@@ -122,12 +127,12 @@ fn valid_line(t: Tables, l: Line) -> bool
 }
 
 fn valid_terms(w: u64, l: Line) -> bool
-    ensures { λ r. ⌜ (1 ≤ w → w ≤ 8 → (r ≡ true) ↔ TermsHeld w (l .terms)) ⌝ }
+    ensures { λ r. ⌜ (1 ≤ w → w ≤ mostColumns → (r ≡ true) ↔ TermsHeld w (l .terms)) ⌝ }
 {
     let mut shown = 0;
     let mut hidden = 0;
     let mut i = 0;
-    while i < 8 {
+    while i < MOST_COLUMNS {
         let t = l.terms[i];
         if !valid_term((i as u64) < w, t) {
             return false;
@@ -186,7 +191,7 @@ fn unused_line(l: Line) -> bool
         return false;
     }
     let mut i = 0;
-    while i < 8 {
+    while i < MOST_COLUMNS {
         let t = l.terms[i];
         if !unused_term(t) {
             return false;
@@ -198,31 +203,32 @@ fn unused_line(l: Line) -> bool
 
 // ---- partitions
 
-fn valid_partitions(views: usize, n: usize, masks: [u64; 32]) -> bool
-    requires { ⌜ views ≤ 32 ⌝ }
-    ensures { λ r. ⌜ (r ≡ true) ↔ PartitionsHeld views n masks ⌝ }
+// The words of the views that n partitions grant.
+fn valid_grants(views: usize, n: usize, grants: [u64; MOST_VIEWS]) -> bool
+    requires { ⌜ views ≤ mostViews ⌝ }
+    ensures { λ r. ⌜ (r ≡ true) ↔ PartitionsHeld views n grants ⌝ }
 {
-    if !counted(n, 32) {
+    if !counted(n, MOST_PARTITIONS) {
         return false;
     }
-    let mut i = 0;
-    while i < 32 {
-        let m = masks[i];
-        if !valid_partition(i < n, views, m) {
+    let mut k = 0;
+    while k < MOST_VIEWS {
+        let g = grants[k];
+        if !valid_grant(k < views, n, g) {
             return false;
         }
-        i += 1;
+        k += 1;
     }
     true
 }
 
-// A word with no bit past the views, or 0 behind the last partition.
-fn valid_partition(used: bool, views: usize, m: u64) -> bool
-    requires { ⌜ views ≤ 32 ⌝ }
-    ensures { λ r. ⌜ (r ≡ true) ↔ PartitionPlace views used m ⌝ }
+// A word with no bit past the partitions, or 0 behind the last view.
+fn valid_grant(used: bool, n: usize, g: u64) -> bool
+    requires { ⌜ n ≤ mostPartitions ⌝ }
+    ensures { λ r. ⌜ (r ≡ true) ↔ GrantPlace n used g ⌝ }
 {
     if used {
-        return (m >> views) == 0;
+        return (g >> n) == 0;
     }
-    m == 0
+    g == 0
 }

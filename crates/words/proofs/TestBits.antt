@@ -134,7 +134,19 @@ up-from-more m zero = ap (λ (x : ℕ). x ∷ []) (omega arith)
 up-from-more m (suc n) =
     ap (λ (l : List ℕ). m ∷ l) (up-from-more (suc m) n ∙ ap (λ (x : ℕ). upFrom (suc m) n ++ x ∷ []) (omega arith))
 
--- what is made of each number, read at a place
+-- what is made of each number, at a place
+pub made-at : {X : Type 0} (f : ℕ → X) (m n k : ℕ) (x : X) → getElem? (map f (upFrom m n)) k ≡ some x → (k < n) × (x ≡ f (m + k))
+unfolding upFrom
+made-at f m zero k x e = absurd (no-element e)
+made-at f m (suc n) zero x e = (omega arith, sym (Option·some-injective (f m) x e) ∙ ap f (omega arith))
+made-at f m (suc n) (suc k) x e = let (h, q) = made-at f (suc m) n k x e in (suc-le-suc h, q ∙ ap f (omega arith))
+
+pub at-made : {X : Type 0} (f : ℕ → X) (m n k : ℕ) → k < n → getElem? (map f (upFrom m n)) k ≡ some (f (m + k))
+unfolding upFrom
+at-made f m zero k h = absurd (not-suc-le-zero h)
+at-made f m (suc n) zero h = ap (λ (x : ℕ). some (f x)) (omega arith)
+at-made f m (suc n) (suc k) h = at-made f (suc m) n k (le-of-suc-le-suc h) ∙ ap (λ (x : ℕ). some (f x)) (omega arith)
+
 pub from-get : {X : Type 0} (f : ℕ → X) (d : X) (m n k : ℕ) → k < n → getD (map f (upFrom m n)) k d ≡ f (m + k)
 unfolding upFrom
 from-get f d m zero k h = absurd (not-suc-le-zero h)

@@ -24,8 +24,8 @@ returns-2 c =
     let h = loadable-parts (c .before .before .before .before .before .args .p) l in
     fails (c .before .valid-views .ensures (h .widths) (h .tables)) (c .if2 .taken) (h .views))
 
-valid-partitions-requires : tie.Need-valid-partitions-requires
-valid-partitions-requires c κs =
+valid-grants-requires : tie.Need-valid-grants-requires
+valid-grants-requires c κs =
     let t = passes (c .before .before .before .before .valid-tables .ensures) (c .before .before .before .if1 .left) in
     views-checked (t .0) _ _ (passes (c .before .before .valid-views .ensures (t .0) (t .1)) (c .before .if2 .left)) .counted .1
 
@@ -34,7 +34,7 @@ returns-3 c =
     let p = c .before .before .before .before .before .before .before .args .p in
     let t = passes (c .before .before .before .before .before .valid-tables .ensures) (c .before .before .before .before .if1 .left) in
     let v = passes (c .before .before .before .valid-views .ensures (t .0) (t .1)) (c .before .before .if2 .left) in
-    Iff·trans (c .valid-partitions .ensures) (
+    Iff·trans (c .valid-grants .ensures) (
       λ h. parts-loadable p (record { widths = t .0; tables = t .1; views = v; partitions = h }),
       λ l. loadable-parts p l .partitions,
     )
@@ -47,5 +47,5 @@ valid-spec =
     returns
     valid-views-requires
     returns-2
-    valid-partitions-requires
+    valid-grants-requires
     returns-3)
