@@ -100,7 +100,8 @@ returns-2 c =
     let b = r .before .before .before .before in
     let m = b .before .before .before .before .before in
     let (d, e, l) = loaded m in
-    let all : b .low-bits .result ≡ allOpen d = b .low-bits .ensures ∙ ap (λ (n : ℕ). 2 ^ n - 1) (partition-count l) in
+    let all : record { mask = b .low-bits .result } ≡ allOpen d =
+    ap (λ (m : ℕ). record { mask = m }) (b .low-bits .ensures ∙ ap (λ (n : ℕ). 2 ^ n - 1) (partition-count l)) in
     let n : named m .put-bytes .result ≡ 31 = named m .put-bytes .ensures .next in
     let z : length (named m .put-bytes .last .0) ≡ length (start m .args .out .now) = named m .put-bytes .ensures .size in
     let h : 524288 ≤ length (start m .args .out .now) = start m .pre .1 in
