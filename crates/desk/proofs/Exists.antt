@@ -15,8 +15,8 @@ use Rattle.desk.specs.declared.opening.Session.{Session}
 use Rattle.desk.specs.declared.deciding.Reply.the-variants.{Yes, No, Refused}
 use Rattle.desk.specs.declared.deciding.Decision.{Decision}
 use Rattle.desk.specs.Reply.{said}
-use Rattle.desk.specs.Session.{openCount, narrowed}
-use Rattle.desk.specs.Deciding.{unfit, stillOpen, Verdict, turnedBack, answered, decideQuery, decideUnder, Gives, Decided}
+use Rattle.desk.specs.Session.{openCount}
+use Rattle.desk.specs.Deciding.{unfit, stillOpen, narrowed, Verdict, turnedBack, answered, decideQuery, decideUnder, Gives, Decided}
 use Rattle.desk.specs.Calls.{Call, Calls, none-left, one-call}
 use Rattle.desk.specs.Demands.{Demand3Met}
 

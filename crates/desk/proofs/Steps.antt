@@ -20,7 +20,8 @@ use Rattle.desk.specs.Session.{openCount}
 use Rattle.desk.specs.Deciding.{unfit, stillOpen, Verdict, turnedBack, answered, decideQuery, decideUnder, Gives}
 use Rattle.desk.specs.Calls.{Call, Says, Asks, Answerable}
 use Rattle.desk.specs.Demands.{Right}
-use Rattle.desk.proofs.Held.{Step, passed, denied, granted, Held, held-fit, held-step, one-open, left-iff, all-before, the-last, asks-once}
+use Rattle.desk.proofs.Held.{Step, passed, denied, granted, asks-once}
+use Rattle.desk.proofs.Held.{Held, held-fit, one-open, all-before, the-last, left-iff, held-step}
 use Rattle.desk.proofs.ReplyWords.{no-yes, turned-yes, turned-no}
 
 -- ---- a call is a step
@@ -97,7 +98,10 @@ module _ (d : Declared) (good : WellFormed d) {before : List Call} (c : Call) {m
     yes-count = k .0;
     no-count = k .1;
     no-exactly = (λ n. (Q, asks, none-answers Q asks none), λ r. says);
-    yes-exactly = (λ y. absurd (no-yes says y), λ r. absurd (none-answers Q asks none (subst (Answerable d before) (asks-once d c (r .1) asks) (r .2))));
+    yes-exactly = (
+      λ y. absurd (no-yes says y),
+      λ r. absurd (none-answers Q asks none (subst (Answerable d before) (asks-once d c (r .1) asks) (r .2))),
+    );
   }
   step-right (granted Q asks some says) k = record {
     yes-count = k .0;

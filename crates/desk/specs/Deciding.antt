@@ -16,7 +16,7 @@ use Rattle.desk.specs.declared.opening.Session.{Session}
 use Rattle.desk.specs.declared.deciding.Decision.{Decision}
 use Rattle.desk.specs.Reply.{Said, said, yes, no}
 use Rattle.desk.specs.Reply.{refused as turned}
-use Rattle.desk.specs.Session.{openCount, narrowed}
+use Rattle.desk.specs.Session.{openCount}
 
 -- 9: "a session with no partition open, or one beyond the policy's": from bit n on a word of n bits has none
 unfoldable pub unfit : Declared → Session → Bool
@@ -31,6 +31,10 @@ passing f (vs ∷ ps) mask = cond (f vs) (mask % 2) 0 + 2 * passing f ps (mask /
 unfoldable pub stillOpen : Declared → Query → ℕ → ℕ
 unfolding passing settles granted
 stillOpen d Q mask = passing (λ vs. settles (granted (d .views) vs) Q) (d .partitions) mask
+
+-- the session with these partitions open, and otherwise as it was
+abbrev pub narrowed : Session → ℕ → Session
+narrowed s left = record { mask = left }
 
 -- what a call says, and the session that it leaves
 pub record Verdict : Type 0 where

@@ -23,9 +23,10 @@ use Rattle.cutting.proofs.Walk.{cut-none}
 use Rattle.run.specs.Run.{lineOf, linesFrom}
 use Rattle.run.proofs.Line.{replyLine}
 
--- the query of this number starts at the place `at`, its line goes to the place `to`, and the session's partitions are those
--- of `s`; a query but the first has 12 bytes at least, a line 92 at most
-pub record Progress (p : Policy) (queries was : List ℕ) (start : ℕ) (opened : Session) (is : List ℕ) (s : Session) (query at to : ℕ) : Type 0 where
+-- the query of this number starts at the place `at` and finds the session s, and its line goes to the place `to`; a query but the
+-- first has 12 bytes at least, a line 92 at most
+pub record Progress (p : Policy) (queries was : List ℕ) (start : ℕ) (opened : Session) (is : List ℕ) (s : Session)
+    (query at to : ℕ) : Type 0 where
   pub within : at ≤ length queries
   pub some : 1 ≤ query
   pub few : query * 12 ≤ at + 23

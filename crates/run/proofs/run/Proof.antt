@@ -23,7 +23,8 @@ named c = c .before .before .before .before
 abbrev start : tie.At-match-keys2 → tie.Start
 start c = named c .before .before .before .before .before .before
 
-loaded : (c : tie.At-match-keys2) → (d : Declared) × (load (start c .args .policy .now) ≡ accepted d) × LoadedTo (c .before .load .result .policy) d
+loaded : (c : tie.At-match-keys2)
+    → (d : Declared) × (load (start c .args .policy .now) ≡ accepted d) × LoadedTo (c .before .load .result .policy) d
 loaded c = loads-to (start c .args .policy .now) (c .before .load .result) (c .before .load .ensures) (c .match .keys2)
 
 -- ---- the needs
