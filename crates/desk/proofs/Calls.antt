@@ -1,27 +1,23 @@
 -- A list of calls on a fresh session under a loaded policy: which partitions are open, and what each call says.
 use mathlib.Core.Path.{_≡_, sym, ap, subst, _∙_}
-use mathlib.Core.List.{List, [], _∷_, _++_, append-assoc, append-nil, head-eq-of-cons-eq, tail-eq-of-cons-eq, nil≢cons, List·Memᴰ·not-nil}
-use Prim.Native.Nat.{ℕ, _-_}
+use mathlib.Core.List.{List, [], _∷_, _++_, append-assoc, append-nil, head-eq-of-cons-eq, tail-eq-of-cons-eq, nil≢cons}
+use Prim.Native.Nat.{ℕ}
 use native.Mathlib.Omega.{arith}
-use lib.ListN.{length}
-use lib.Pow.{pow-mono}
-use Rattle.words.proofs.ClearBits.{low-bits-set, low-bits-below}
 use Rattle.model.specs.declared.Policy.{Policy}
 use Rattle.model.specs.declared.Outcome.the-variants.{Accepted, Refused}
 use Rattle.policy_text.specs.Text.{refused, accepted, load}
 use Rattle.policy_text.specs.Declared.{Declared}
 use Rattle.policy_text.specs.Text.{Loading as TheLoading}
-use Rattle.policy_text.specs.WellFormed.{WellFormed}
 use Rattle.policy_text.specs.Policy.{policyValue}
 use Rattle.validity.specs.Loadable.{Loadable}
 use Rattle.load.specs.Value.{loadingValue}
 use Rattle.load.specs.declared.Loading.{Loading}
 use Rattle.desk.specs.declared.opening.Session.{Session}
-use Rattle.desk.specs.Opening.{allOpen}
 use Rattle.desk.specs.Calls.{Call, Calls, none-left, one-call}
 use Rattle.desk.specs.Demands.{Right}
 use Rattle.desk.proofs.Loaded.{loaded-to}
-use Rattle.desk.proofs.Steps.{Held, one-step}
+use Rattle.desk.proofs.Held.{Held, held-step}
+use Rattle.desk.proofs.Steps.{steps, counted, step-right}
 
 module _ (p : Policy) (l : Loadable p) where
   abbrev d : Declared
@@ -48,20 +44,12 @@ module _ (p : Policy) (l : Loadable p) where
       → Held d (before ++ cs) (t .mask) × AllRight before cs
   chain before {s = s} h none-left = (subst (λ (b : List Call). Held d b (s .mask)) (sym (append-nil before)) h, none-right before)
   chain before {s = s} {t = t} h (one-call {cs = cs} c g rest) =
-      let done = one-step d (loaded-to l .good) before c (s .mask) h (g .loaded l) in
-      let (held, right) = chain (before ++ c ∷ []) (done .held) rest in
-      (subst (λ (b : List Call). Held d b (t .mask)) (append-assoc before (c ∷ []) cs) held, one-right before c cs (done .right) right)
-
--- every partition is open, and none has a query to determine yet
-pub fresh : (d : Declared) → WellFormed d → Held d [] (allOpen d)
-unfolding allOpen
-fresh d w =
-    let n = length (d .partitions) in
-    record {
-      some = omega (arith, pow-mono {i = 1} (w .partitions .nonempty));
-      below = low-bits-below n n (omega arith);
-      each = λ i b. (λ e c m. absurd (List·Memᴰ·not-nil m), λ f. low-bits-set n i b);
-    }
+      let good = loaded-to l .good in
+      let step = steps d s c h (g .loaded l) in
+      let (held, right) = chain (before ++ c ∷ []) (held-step d good h step) rest in (
+        subst (λ (b : List Call). Held d b (t .mask)) (append-assoc before (c ∷ []) cs) held,
+        one-right before c cs (step-right d good c h step (counted d s c (g .loaded l))) right,
+      )
 
 pub refused≢accepted : {n k : ℕ} → Refused n k ≡ Accepted → ⊥
 refused≢accepted e = let z : _≡_ {A = ℕ} 1 0 = cc in omega arith

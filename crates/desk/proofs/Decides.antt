@@ -9,25 +9,26 @@ use Rattle.model.specs.declared.Policy.{Policy}
 use Rattle.query_text.specs.Text.{refused, accepted, read}
 use Rattle.policy_text.specs.Declared.{Declared}
 use Rattle.labelling.specs.Text.{LoadedTo}
+use Rattle.desk.specs.declared.opening.Session.{Session}
 use Rattle.desk.specs.Deciding.{unfit, stillOpen, turnedBack, answered, decideQuery, decideUnder}
 use Rattle.desk.proofs.Loaded.{partition-count}
 
 -- 9, by the policy value
-pub unfit-is : {p : Policy} {d : Declared} → LoadedTo p d → (mask : ℕ) {b : Bool} → b ≡ (eqb mask 0 || leb (2 ^ p .«partition_count») mask)
-    → b ≡ unfit d mask
+pub unfit-is : {p : Policy} {d : Declared} → LoadedTo p d → (s : Session) {b : Bool}
+    → b ≡ (eqb (s .mask) 0 || leb (2 ^ p .«partition_count») (s .mask)) → b ≡ unfit d s
 unfolding unfit
-unfit-is l mask e = e ∙ ap (λ (n : ℕ). eqb mask 0 || leb (2 ^ n) mask) (partition-count l)
+unfit-is l s e = e ∙ ap (λ (n : ℕ). eqb (s .mask) 0 || leb (2 ^ n) (s .mask)) (partition-count l)
 
-module _ (d : Declared) (mask : ℕ) (text : List ℕ) where
-  pub under-unfit : unfit d mask ≡ true → decideUnder d mask text ≡ turnedBack mask 9 0
+module _ (d : Declared) (s : Session) (text : List ℕ) where
+  pub under-unfit : unfit d s ≡ true → decideUnder d s text ≡ turnedBack s 9 0
   unfolding decideUnder
   under-unfit e = rw e
 
-  pub under-refused : (n k : ℕ) → unfit d mask ≡ false → read (d .widths) text ≡ refused n k → decideUnder d mask text ≡ turnedBack mask n k
+  pub under-refused : (n k : ℕ) → unfit d s ≡ false → read (d .widths) text ≡ refused n k → decideUnder d s text ≡ turnedBack s n k
   unfolding decideUnder decideQuery
   under-refused n k e r = rw (e, r)
 
-  pub under-accepted : (Q : Query) → unfit d mask ≡ false → read (d .widths) text ≡ accepted Q
-      → decideUnder d mask text ≡ answered mask (stillOpen d Q mask)
+  pub under-accepted : (Q : Query) → unfit d s ≡ false → read (d .widths) text ≡ accepted Q
+      → decideUnder d s text ≡ answered s (stillOpen d Q (s .mask))
   unfolding decideUnder decideQuery
   under-accepted Q e r = rw (e, r)

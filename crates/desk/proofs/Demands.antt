@@ -12,14 +12,15 @@ use Rattle.policy_text.specs.Text.{load}
 use Rattle.policy_text.proofs.Loaded.{loaded-well-formed}
 use Rattle.policy_text.proofs.Loads.{loads-exactly}
 use Rattle.validity.specs.Loadable.{Loadable}
+use Rattle.desk.specs.declared.opening.Session.{Session}
 use Rattle.desk.specs.declared.opening.Opening.{Opening}
 use Rattle.desk.specs.Opening.{allOpen}
 use Rattle.desk.specs.Listing.{listReading, Lists}
 use Rattle.desk.specs.Demands.{Demand1, Demand2, Demand3}
 use Rattle.desk.proofs.Loaded.{loaded-to}
 use Rattle.desk.proofs.Masks.{open-count}
-use Rattle.desk.proofs.Steps.{Held}
-use Rattle.desk.proofs.Calls.{chain, fresh, loaded}
+use Rattle.desk.proofs.Held.{Held, fresh}
+use Rattle.desk.proofs.Calls.{chain, loaded}
 use Rattle.desk.proofs.Unique.{opened-unique, decided-unique, labels-unique, explanation-unique}
 use Rattle.desk.proofs.Stays.{yes-or-no, session-stays, labels-buffer-stays, explaining-buffer-stays}
 use Rattle.desk.proofs.Numbers.{loading-numbers, opening-numbers, deciding-numbers, labels-numbers, explaining-numbers}
@@ -60,8 +61,8 @@ demand-3 text r e a o opened cs s calls =
     let (d, loads, value) = loaded text (load text) r refl e a in
     let l : Loadable (r .policy) = record { text = text; declared = d; loads = loads; value = value } in
     let w = loaded-well-formed text d loads in
-    let start : o .session .mask ≡ allOpen d = ap (λ (x : Opening). x .session .mask) (opened .opened l) in
-    let (held, right) = chain (r .policy) l [] (subst (Held d []) (sym start) (fresh d w)) calls in (
+    let start : o .session ≡ allOpen d = ap (λ (x : Opening). x .session) (opened .opened l) in
+    let (held, right) = chain (r .policy) l [] (subst (λ (t : Session). Held d [] (t .mask)) (sym start) (fresh d w)) calls in (
       d,
       loads,
       record {

@@ -16,25 +16,24 @@ use Rattle.desk.specs.declared.deciding.Reply.the-variants.{Yes, No, Ref
 use Rattle.desk.specs.declared.deciding.Decision.{Decision}
 use Rattle.desk.specs.Reply.{said}
 use Rattle.desk.specs.Session.{openCount}
-use Rattle.desk.specs.Deciding.{unfit, stillOpen, Verdict, turnedBack, answered, decideQuery, decideUnder, Gives, Decided}
+use Rattle.desk.specs.Deciding.{unfit, stillOpen, narrowed, Verdict, turnedBack, answered, decideQuery, decideUnder, Gives, Decided}
 use Rattle.desk.specs.Calls.{Call, Calls, none-left, one-call}
 use Rattle.desk.specs.Demands.{Demand3Met}
 
 abbrev Given : Verdict → Type 0
 Given o = (r : Decision) × Gives r o
 
-turned-given : (mask n k : ℕ) → Given (turnedBack mask n k)
+turned-given : (s : Session) (n k : ℕ) → Given (turnedBack s n k)
 unfolding turnedBack said
-turned-given mask n k = (record { reply = Refused n k; session = record { mask = mask } }, record { reply = refl; session = refl })
+turned-given s n k = (record { reply = Refused n k; session = s }, record { reply = refl; session = refl })
 
-query-given : (d : Declared) (mask : ℕ) (v : Reading) → Given (decideQuery d mask v)
+query-given : (d : Declared) (s : Session) (v : Reading) → Given (decideQuery d s v)
 unfolding decideQuery answered said
-query-given d mask (refused n k) = turned-given mask n k
-query-given d mask (accepted Q) =
-    let left = stillOpen d Q mask in
-    either Given (eqb left 0)
-    (record { reply = No (openCount mask); session = record { mask = mask } }, record { reply = refl; session = refl })
-    (record { reply = Yes (openCount left); session = record { mask = left } }, record { reply = refl; session = refl })
+query-given d s (refused n k) = turned-given s n k
+query-given d s (accepted Q) =
+    let left = stillOpen d Q (s .mask) in
+    either Given (eqb left 0) (record { reply = No (openCount (s .mask)); session = s }, record { reply = refl; session = refl })
+    (record { reply = Yes (openCount left); session = narrowed s left }, record { reply = refl; session = refl })
 
 -- what is declared is fixed by the value
 pub declared-once : {p : Policy} (l k : Loadable p) → l .declared ≡ k .declared
@@ -43,15 +42,16 @@ declared-once l k =
     ∙ ap declaredBy (sym (l .value) ∙ k .value)
     ∙ stands-for (k .declared) (loaded-well-formed (k .text) (k .declared) (k .loads))
 
-pub decides : (p : Policy) → Loadable p → (s : Session) (text : List ℕ) → (r : Decision) × Decided p s text r
+-- every session and text has a decision under a loaded policy
+pub decided-exists : {p : Policy} → Loadable p → (s : Session) (text : List ℕ) → (r : Decision) × Decided p s text r
 unfolding decideUnder
-decides p l s text =
-    let (r, g) = either Given (unfit (l .declared) (s .mask)) (turned-given (s .mask) 9 0)
-    (query-given (l .declared) (s .mask) (read (l .declared .widths) text)) in (
+decided-exists l s text =
+    let d = l .declared in
+    let (r, g) = either Given (unfit d s) (turned-given s 9 0) (query-given d s (read (d .widths) text)) in (
       r,
       record {
         unloaded = λ f. absurd (f l);
-        loaded = λ k. subst (λ (d : Declared). Gives r (decideUnder d (s .mask) text)) (declared-once l k) g;
+        loaded = λ k. subst (λ (e : Declared). Gives r (decideUnder e s text)) (declared-once l k) g;
       },
     )
 
@@ -59,9 +59,9 @@ calls-exist : (p : Policy) → Loadable p → (s : Session) (texts : List (List 
     → (cs : List Call) × (t : Session) × (map (λ (c : Call). c .text) cs ≡ texts) × Calls p s cs t
 calls-exist p l s [] = ([], s, refl, none-left)
 calls-exist p l s (x ∷ xs) =
-    let (r, d) = decides p l s x in
+    let (r, d) = decided-exists l s x in
     let (cs, t, e, c) = calls-exist p l (r .session) xs in
     let k : Call = record { text = x; gave = r } in (k ∷ cs, t, ap (λ (ys : List (List ℕ)). x ∷ ys) e, one-call k d c)
 
 pub demand-3-met : Demand3Met
-demand-3-met p l = record { decision = decides p l; calls = calls-exist p l }
+demand-3-met p l = record { decision = decided-exists l; calls = calls-exist p l }

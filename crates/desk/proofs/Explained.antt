@@ -37,7 +37,8 @@ not-explains before n k = record { reply = refl; buffer = refl }
 -- ---- the words and the buffer
 
 module _ (l : Labels) (granted : ℕ) (w : Words)
-    (gives : (ws : List ℕ) → l ≡ labelsValue ws → length ws ≤ 8 → w ≡ wordsValue (explained granted ws)) (ws : List ℕ) (h : HoldsLabels l ws) where
+    (gives : (ws : List ℕ) → l ≡ labelsValue ws → length ws ≤ 8 → w ≡ wordsValue (explained granted ws))
+    (ws : List ℕ) (h : HoldsLabels l ws) where
   value : w ≡ wordsValue (explained granted ws)
   value = gives ws (h .is) (h .few)
 
@@ -58,12 +59,14 @@ module _ (l : Labels) (granted : ℕ) (w : Words)
   pub words-narrow : (i : ℕ) → getD (w .words) i 0 < 2 ^ 32
   unfolding wordsValue
   words-narrow i =
-      subst (λ (x : ℕ). x < 2 ^ 32) (sym (ap (λ (x : Words). getD (x .words) i 0) value ∙ pad-get 8 0 (explained granted ws) i)) (most-get few-words i)
+      subst (λ (x : ℕ). x < 2 ^ 32)
+      (sym (ap (λ (x : Words). getD (x .words) i 0) value ∙ pad-get 8 0 (explained granted ws) i)) (most-get few-words i)
 
   pub explains-short : {before : List ℕ} → length before < w .count
       → Explains (Refused 10 0) before (explainedBy before (settled granted ws) (explained granted ws))
   unfolding explainedBy
-  explains-short {before} g = rw (lt-ltb (length before) (length (explained granted ws)) (omega (arith, count-is))) (not-explains before 10 0)
+  explains-short {before} g =
+      rw (lt-ltb (length before) (length (explained granted ws)) (omega (arith, count-is))) (not-explains before 10 0)
 
   pub explains-given : (before : List ℕ) {after : List ℕ} {r : Explaining} {b : Bool}
       → saidExplaining r ≡ record { given = true; settles = b; count = w .count; number = 0; line = 0 } → b ≡ settled granted ws
@@ -100,8 +103,8 @@ module _ {p : Policy} {n : ℕ} {text before : List ℕ} where
   unfolding explainUnder
   no-partition is e = record { unloaded = λ m. absurd (m is); loaded = λ l. rw (declared-place l n false e) (not-explains before 4 0) }
 
-  pub text-refused : {m k : ℕ} → Loadable p → upTo (p .«partition_count») n ≡ true → ((l : Loadable p) → read (l .declared .widths) text ≡ refused m k)
-      → ExplanationGiven p n text before (Refused m k) before
+  pub text-refused : {m k : ℕ} → Loadable p → upTo (p .«partition_count») n ≡ true
+      → ((l : Loadable p) → read (l .declared .widths) text ≡ refused m k) → ExplanationGiven p n text before (Refused m k) before
   unfolding explainUnder explainReading
   text-refused {m} {k} is e h = record {
     unloaded = λ f. absurd (f is);
@@ -118,5 +121,6 @@ module _ {p : Policy} {n : ℕ} {text before : List ℕ} where
       record {
         unloaded = λ m. absurd (m is);
         loaded = λ l.
-            rw (declared-place l n true e, h l .reads, ← partition-word (loaded-to l) (n - 1)) (given (labels (l .declared .views) (h l .query)) (h l .held));
+            rw (declared-place l n true e, h l .reads, ← partition-word (loaded-to l) (n - 1))
+            (given (labels (l .declared .views) (h l .query)) (h l .held));
       }

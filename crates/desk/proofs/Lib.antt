@@ -4,6 +4,8 @@ pub mod Loaded
 pub mod Masks
 pub mod Settled
 pub mod Decides
+pub mod ReplyWords
+pub mod Held
 pub mod Steps
 -- A session lent to a call.
 pub mod MachineValues

@@ -38,10 +38,11 @@ use Rattle.desk.specs.Opening.{Opened}
 use Rattle.desk.specs.Deciding.{unfit, stillOpen, Verdict, turnedBack, answered, decideQuery, decideUnder, Decided}
 use Rattle.desk.specs.Buffer.{tooShort}
 use Rattle.desk.specs.Listing.{SaidListing, saidListing, Listed, notListed, given, listed, listReading, LabelsGiven}
-use Rattle.desk.specs.Explaining.{SaidExplaining, saidExplaining, Explained, notExplained, explainedBy, explainReading, explainUnder, ExplanationGiven}
+use Rattle.desk.specs.Explaining.{SaidExplaining, saidExplaining, Explained, notExplained, explainedBy, explainReading, explainUnder}
+use Rattle.desk.specs.Explaining.{ExplanationGiven}
 use Rattle.desk.specs.Outcomes.{decidingNumbers, labelsNumbers, explainingNumbers}
 use Rattle.desk.proofs.Calls.{refused≢accepted}
-use Rattle.desk.proofs.Steps.{turned-yes, turned-no}
+use Rattle.desk.proofs.ReplyWords.{turned-yes, turned-no}
 use Rattle.desk.proofs.Unique.{either-way}
 
 -- ---- loading and opening
@@ -69,16 +70,16 @@ opening-numbers p r g n k o =
 abbrev DecidingNumber : Said → Type 0
 DecidingNumber s = s .word ≡ turned → s .number ∈ decidingNumbers
 
-under-deciding : (d : Declared) (mask : ℕ) (text : List ℕ) → DecidingNumber (decideUnder d mask text .says)
+under-deciding : (d : Declared) (s : Session) (text : List ℕ) → DecidingNumber (decideUnder d s text .says)
 unfolding decideUnder decideQuery turnedBack answered any
-under-deciding d mask text =
-    either (λ (v : Verdict). DecidingNumber (v .says)) (unfit d mask) (λ e. found-in decidingNumbers 9 tt)
+under-deciding d s text =
+    either (λ (v : Verdict). DecidingNumber (v .says)) (unfit d s) (λ e. found-in decidingNumbers 9 tt)
     (by-reading (read (d .widths) text) refl)
   where
-    by-reading : (v : Reading) → read (d .widths) text ≡ v → DecidingNumber (decideQuery d mask v .says)
+    by-reading : (v : Reading) → read (d .widths) text ≡ v → DecidingNumber (decideQuery d s v .says)
     by-reading (refused n k) q = λ e. List·Memᴰ·tail (List·Memᴰ·tail (read-refuses (d .widths) text n k q))
     by-reading (accepted Q) q =
-        either (λ (v : Verdict). DecidingNumber (v .says)) (eqb (stillOpen d Q mask) 0) (λ e. absurd (turned-no refl (sym e)))
+        either (λ (v : Verdict). DecidingNumber (v .says)) (eqb (stillOpen d Q (s .mask)) 0) (λ e. absurd (turned-no refl (sym e)))
         (λ e. absurd (turned-yes refl (sym e)))
 
 pub deciding-numbers : (p : Policy) (s : Session) (text : List ℕ) (r : Decision) → Decided p s text r
@@ -86,7 +87,7 @@ pub deciding-numbers : (p : Policy) (s : Session) (text : List ℕ) (r : Decisio
 unfolding turnedBack
 deciding-numbers p s text r g e =
     either-way {L = Loadable p} (member ℕ-discrete (said (r .reply) .number) decidingNumbers)
-    (λ l. subst DecidingNumber (sym (g .loaded l .reply)) (under-deciding (l .declared) (s .mask) text) e)
+    (λ l. subst DecidingNumber (sym (g .loaded l .reply)) (under-deciding (l .declared) s text) e)
     (λ f. List·Memᴰ·head (ap (λ (x : Said). x .number) (g .unloaded f .reply)))
 
 -- ---- labels

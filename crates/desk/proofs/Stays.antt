@@ -26,36 +26,35 @@ use Rattle.desk.specs.Reply.{yes as affirmed, no as denied, refused as t
 use Rattle.desk.specs.Deciding.{unfit, stillOpen, Verdict, turnedBack, answered, decideQuery, decideUnder, Decided}
 use Rattle.desk.specs.Buffer.{tooShort}
 use Rattle.desk.specs.Listing.{SaidListing, saidListing, Listed, notListed, given, listed, listReading, LabelsGiven}
-use Rattle.desk.specs.Explaining.{SaidExplaining, saidExplaining, Explained, notExplained, explainedBy, explainReading, explainUnder, ExplanationGiven}
-use Rattle.desk.proofs.Steps.{turned-yes}
-use Rattle.desk.proofs.Unique.{either-way}
+use Rattle.desk.specs.Explaining.{SaidExplaining, saidExplaining, Explained, notExplained, explainedBy, explainReading, explainUnder}
+use Rattle.desk.specs.Explaining.{ExplanationGiven}
+use Rattle.desk.proofs.ReplyWords.{turned-yes}
+use Rattle.desk.proofs.Unique.{either-way, same-session?}
 
 -- ---- deciding
 
-abbrev Stays : ℕ → Verdict → Type 0
-Stays mask v = v .says .word ≡ turned → v .leaves ≡ mask
+abbrev Stays : Session → Verdict → Type 0
+Stays s v = v .says .word ≡ turned → v .leaves ≡ s
 
-under-stays : (d : Declared) (mask : ℕ) (text : List ℕ) → Stays mask (decideUnder d mask text)
+under-stays : (d : Declared) (s : Session) (text : List ℕ) → Stays s (decideUnder d s text)
 unfolding decideUnder turnedBack
-under-stays d mask text = either (Stays mask) (unfit d mask) (λ e. refl) (by-reading (read (d .widths) text))
+under-stays d s text = either (Stays s) (unfit d s) (λ e. refl) (by-reading (read (d .widths) text))
   where
-    by-reading : (v : Reading) → Stays mask (decideQuery d mask v)
+    by-reading : (v : Reading) → Stays s (decideQuery d s v)
     by-reading (refused n k) = λ e. refl
-    by-reading (accepted Q) = either (Stays mask) (eqb (stillOpen d Q mask) 0) (λ e. refl) (λ e. absurd (turned-yes refl (sym e)))
+    by-reading (accepted Q) = either (Stays s) (eqb (stillOpen d Q (s .mask)) 0) (λ e. refl) (λ e. absurd (turned-yes refl (sym e)))
 
 pub session-stays : (p : Policy) (s : Session) (text : List ℕ) (r : Decision) → Decided p s text r
     → said (r .reply) .word ≡ turned → r .session ≡ s
 unfolding turnedBack
 session-stays p s text r g e =
-    let same : r .session .mask ≡ s .mask =
-    either-way {L = Loadable p} (ℕ-discrete (r .session .mask) (s .mask))
+    either-way {L = Loadable p} (same-session? (r .session) s)
     (λ l. let k = g .loaded l in
-    k .session ∙ under-stays (l .declared) (s .mask) text (sym (ap (λ (x : Said). x .word) (k .reply)) ∙ e))
-    (λ f. g .unloaded f .session) in
-    λ i. record { mask = same i }
+    k .session ∙ under-stays (l .declared) s text (sym (ap (λ (x : Said). x .word) (k .reply)) ∙ e))
+    (λ f. g .unloaded f .session)
 
 pub yes-or-no : (p : Policy) (l : Loadable p) (s : Session) (text : List ℕ) (r : Decision) → Decided p s text r
-    → unfit (l .declared) (s .mask) ≡ false → (Q : Query) → read (l .declared .widths) text ≡ accepted Q
+    → unfit (l .declared) s ≡ false → (Q : Query) → read (l .declared .widths) text ≡ accepted Q
     → (said (r .reply) .word ≡ affirmed) ⊎ (said (r .reply) .word ≡ denied)
 unfolding decideUnder decideQuery answered
 yes-or-no p l s text r g fit Q e =

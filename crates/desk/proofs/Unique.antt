@@ -2,7 +2,7 @@
 -- loads to the policy value.
 use mathlib.Core.Path.{_≡_, refl, sym, ap, _∙_}
 use mathlib.Core.Bool.{cond}
-use mathlib.Core.List.{List, [], _∷_, nil≢cons, List-discrete}
+use mathlib.Core.List.{List, [], _∷_, nil≢cons, head-eq-of-cons-eq, List-discrete}
 use Prim.Native.Nat.{ℕ}
 use native.Mathlib.Decide.{ℕ-discrete, map-dec}
 use native.Mathlib.Omega.{arith}
@@ -122,6 +122,13 @@ outcomes = record { code = outcome-code; apart = go }
     go (TurnedBack n k) Accepted e = absurd (nil≢cons (sym e))
     go (TurnedBack n j) (TurnedBack m k) e = cc
 
+-- a session is what its fields hold
+sessions : Code Session
+sessions = record { code = λ s. s .mask ∷ []; apart = λ a b e. let mask = head-eq-of-cons-eq e in λ i. record { mask = mask i } }
+
+pub same-session? : (s t : Session) → Dec (s ≡ t)
+same-session? = same? sessions
+
 -- ---- "the contract determines the reply, the session and each buffer cell, refusals too"
 
 pub opened-unique : (p : Policy) (r t : Opening) → Opened p r → Opened p t → r ≡ t
@@ -130,11 +137,11 @@ opened-unique p r t x y =
     either-way {L = Loadable p} (same? outcomes (r .outcome) (t .outcome))
     (λ l. ap (λ (o : Opening). o .outcome) (x .opened l ∙ sym (y .opened l)))
     (λ f. ap (λ (o : Opening). o .outcome) (x .turned f ∙ sym (y .turned f))) in
-    let mask : r .session .mask ≡ t .session .mask =
-    either-way {L = Loadable p} (ℕ-discrete (r .session .mask) (t .session .mask))
-    (λ l. ap (λ (o : Opening). o .session .mask) (x .opened l ∙ sym (y .opened l)))
-    (λ f. ap (λ (o : Opening). o .session .mask) (x .turned f ∙ sym (y .turned f))) in
-    λ i. record { outcome = outcome i; session = record { mask = mask i } }
+    let session : r .session ≡ t .session =
+    either-way {L = Loadable p} (same-session? (r .session) (t .session))
+    (λ l. ap (λ (o : Opening). o .session) (x .opened l ∙ sym (y .opened l)))
+    (λ f. ap (λ (o : Opening). o .session) (x .turned f ∙ sym (y .turned f))) in
+    λ i. record { outcome = outcome i; session = session i }
 
 pub decided-unique : (p : Policy) (s : Session) (text : List ℕ) (r t : Decision) → Decided p s text r → Decided p s text t → r ≡ t
 decided-unique p s text r t x y =
@@ -142,10 +149,10 @@ decided-unique p s text r t x y =
     either-way {L = Loadable p} (same? replies (r .reply) (t .reply))
     (λ l. said-apart (r .reply) (t .reply) (x .loaded l .reply ∙ sym (y .loaded l .reply)))
     (λ f. said-apart (r .reply) (t .reply) (x .unloaded f .reply ∙ sym (y .unloaded f .reply))) in
-    let mask : r .session .mask ≡ t .session .mask =
-    either-way {L = Loadable p} (ℕ-discrete (r .session .mask) (t .session .mask)) (λ l. x .loaded l .session ∙ sym (y .loaded l .session))
+    let session : r .session ≡ t .session =
+    either-way {L = Loadable p} (same-session? (r .session) (t .session)) (λ l. x .loaded l .session ∙ sym (y .loaded l .session))
     (λ f. x .unloaded f .session ∙ sym (y .unloaded f .session)) in
-    λ i. record { reply = reply i; session = record { mask = mask i } }
+    λ i. record { reply = reply i; session = session i }
 
 pub labels-unique : (p : Policy) (text before : List ℕ) (r t : Listing) (after then : List ℕ)
     → LabelsGiven p text before r after → LabelsGiven p text before t then → (r ≡ t) × (after ≡ then)

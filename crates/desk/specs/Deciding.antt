@@ -19,8 +19,8 @@ use Rattle.desk.specs.Reply.{refused as turned}
 use Rattle.desk.specs.Session.{openCount}
 
 -- 9: "a session with no partition open, or one beyond the policy's": from bit n on a word of n bits has none
-unfoldable pub unfit : Declared → ℕ → Bool
-unfit d mask = eqb mask 0 || leb (2 ^ length (d .partitions)) mask
+unfoldable pub unfit : Declared → Session → Bool
+unfit d s = eqb (s .mask) 0 || leb (2 ^ length (d .partitions)) (s .mask)
 
 -- the partitions of a word that pass a test
 unfoldable pub passing : (List ℕ → Bool) → List (List ℕ) → ℕ → ℕ
@@ -32,37 +32,41 @@ unfoldable pub stillOpen : Declared → Query → ℕ → ℕ
 unfolding passing settles granted
 stillOpen d Q mask = passing (λ vs. settles (granted (d .views) vs) Q) (d .partitions) mask
 
+-- the session with these partitions open, and otherwise as it was
+abbrev pub narrowed : Session → ℕ → Session
+narrowed s left = record { mask = left }
+
 -- what a call says, and the session that it leaves
 pub record Verdict : Type 0 where
   pub says : Said
-  pub leaves : ℕ
+  pub leaves : Session
 
 -- "On any refusal the session … stay[s] … and a count in the reply is 0."
-unfoldable pub turnedBack : ℕ → ℕ → ℕ → Verdict
-turnedBack mask number line = record { says = record { word = turned; count = 0; number = number; line = line }; leaves = mask }
+unfoldable pub turnedBack : Session → ℕ → ℕ → Verdict
+turnedBack s number line = record { says = record { word = turned; count = 0; number = number; line = line }; leaves = s }
 
 -- "keeps open only those that settle the query; if none would be left the answer is no and the session stays"
-unfoldable pub answered : ℕ → ℕ → Verdict
-answered mask left =
-    cond (eqb left 0) (record { says = record { word = no; count = openCount mask; number = 0; line = 0 }; leaves = mask })
-    (record { says = record { word = yes; count = openCount left; number = 0; line = 0 }; leaves = left })
+unfoldable pub answered : Session → ℕ → Verdict
+answered s left =
+    cond (eqb left 0) (record { says = record { word = no; count = openCount (s .mask); number = 0; line = 0 }; leaves = s })
+    (record { says = record { word = yes; count = openCount left; number = 0; line = 0 }; leaves = narrowed s left })
 
-unfoldable pub decideQuery : Declared → ℕ → Reading → Verdict
+unfoldable pub decideQuery : Declared → Session → Reading → Verdict
 unfolding turnedBack answered stillOpen
-decideQuery d mask (refused n k) = turnedBack mask n k
-decideQuery d mask (accepted Q) = answered mask (stillOpen d Q mask)
+decideQuery d s (refused n k) = turnedBack s n k
+decideQuery d s (accepted Q) = answered s (stillOpen d Q (s .mask))
 
 -- "Then 9 … Then the text", under what a loaded policy declares
-unfoldable pub decideUnder : Declared → ℕ → List ℕ → Verdict
+unfoldable pub decideUnder : Declared → Session → List ℕ → Verdict
 unfolding unfit turnedBack decideQuery read
-decideUnder d mask text = cond (unfit d mask) (turnedBack mask 9 0) (decideQuery d mask (read (d .widths) text))
+decideUnder d s text = cond (unfit d s) (turnedBack s 9 0) (decideQuery d s (read (d .widths) text))
 
 -- the reply and the session of a call
 pub record Gives (r : Decision) (o : Verdict) : Type 0 where
   pub reply : said (r .reply) ≡ o .says
-  pub session : r .session .mask ≡ o .leaves
+  pub session : r .session ≡ o .leaves
 
 -- "Deciding. 8. Then 9 …"
 pub record Decided (p : Policy) (s : Session) (text : List ℕ) (r : Decision) : Type 0 where
-  pub unloaded : (Loadable p → ⊥) → Gives r (turnedBack (s .mask) 8 0)
-  pub loaded : (l : Loadable p) → Gives r (decideUnder (l .declared) (s .mask) text)
+  pub unloaded : (Loadable p → ⊥) → Gives r (turnedBack s 8 0)
+  pub loaded : (l : Loadable p) → Gives r (decideUnder (l .declared) s text)

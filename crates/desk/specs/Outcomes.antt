@@ -56,7 +56,7 @@ pub record Outcomes : Type 0 where
       → ExplanationGiven p n text before r after → ExplanationGiven p n text before t then → (r ≡ t) × (after ≡ then)
   -- a well-formed policy, session and query
   pub yes-or-no : (p : Policy) (l : Loadable p) (s : Session) (text : List ℕ) (r : Decision) → Decided p s text r
-      → unfit (l .declared) (s .mask) ≡ false → (Q : Query) → read (l .declared .widths) text ≡ readAs Q
+      → unfit (l .declared) s ≡ false → (Q : Query) → read (l .declared .widths) text ≡ readAs Q
       → (said (r .reply) .word ≡ yes) ⊎ (said (r .reply) .word ≡ no)
   -- "Everything else is turned back by one of its listed numbers"
   pub loading-numbers : (text : List ℕ) (r : Loading) → r ≡ loadingValue (load text)

@@ -32,7 +32,7 @@ pub struct Decision {
 
 // The session stays.
 fn refused(s: Session, number: u64, line: u64) -> Decision
-    ensures { λ r. ⌜ Gives r (turnedBack (s .mask) number line) ⌝ }
+    ensures { λ r. ⌜ Gives r (turnedBack s number line) ⌝ }
 {
     let reply = Reply::Refused { number, line };
     Decision { reply, session: s }
@@ -77,7 +77,7 @@ fn settling(partitions: [u64; 32], n: usize, mask: u64, l: Labels) -> u64
 
 // The reply where these open partitions settle the query.
 fn answer(s: Session, left: u64) -> Decision
-    ensures { λ r. ⌜ Gives r (answered (s .mask) left) ⌝ }
+    ensures { λ r. ⌜ Gives r (answered s left) ⌝ }
 {
     if left == 0 {
         let reply = Reply::No {
@@ -101,7 +101,7 @@ pub fn decide_loaded(
     text: &[u8],
 ) -> Decision
     requires { ⌜ SomePolicy p × TableMasks p (now masks) × ViewsLaid p (now views) ⌝ }
-    ensures { λ r. ⌜ ((d : Declared) → LoadedTo p d → Gives r (decideUnder d (s .mask) (now (text .entry)))) ⌝ }
+    ensures { λ r. ⌜ ((d : Declared) → LoadedTo p d → Gives r (decideUnder d s (now (text .entry)))) ⌝ }
 {
     let n = p.partition_count;
     if unfit(s.mask, n) {

@@ -1,3 +1,4 @@
+-- The output line by line, the bytes written, and what demand 3 says of them.
 pub mod Line
 pub mod Progress
 pub mod Written

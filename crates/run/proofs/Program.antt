@@ -17,7 +17,7 @@ use Rattle.desk.specs.Opening.{allOpen, Opened}
 use Rattle.desk.specs.Deciding.{Verdict, decideUnder, Gives}
 use Rattle.desk.specs.Calls.{Call, Calls, none-left, one-call}
 use Rattle.desk.specs.Demands.{AsDemanded}
-use Rattle.desk.proofs.Exists.{declared-once, decides}
+use Rattle.desk.proofs.Exists.{declared-once, decided-exists}
 use Rattle.desk.proofs.Demands.{demand-3}
 use Rattle.cutting.specs.Cut.{cut}
 use Rattle.run.specs.Output.{outputNames}
@@ -37,13 +37,13 @@ record Called (p : Policy) (d : Declared) (s : Session) (k : ℕ) (texts : List 
   left : Session
   made : Calls p s calls left
   texts-are : map (λ (c : Call). c .text) calls ≡ texts
-  lines : linesFrom d (s .mask) k texts ≡ callLines k calls
+  lines : linesFrom d s k texts ≡ callLines k calls
 
 called : (p : Policy) (l : Loadable p) (s : Session) (k : ℕ) (texts : List (List ℕ)) → Called p (l .declared) s k texts
 unfolding linesFrom callLines
 called p l s k [] = record { calls = []; left = s; made = none-left; texts-are = refl; lines = refl }
 called p l s k (t ∷ ts) =
-    let (r, g) = decides p l s t in
+    let (r, g) = decided-exists l s t in
     let c : Call = record { text = t; gave = r } in
     let rest = called p l (r .session) (suc k) ts in
     record {
@@ -51,14 +51,14 @@ called p l s k (t ∷ ts) =
       left = rest .left;
       made = one-call c g (rest .made);
       texts-are = ap (λ (us : List (List ℕ)). t ∷ us) (rest .texts-are);
-      lines = rw (line-is k t r (decideUnder (l .declared) (s .mask) t) (g .loaded l), sym (g .loaded l .session), rest .lines);
+      lines = rw (line-is k t r (decideUnder (l .declared) s t) (g .loaded l), sym (g .loaded l .session), rest .lines);
     }
 
 -- ---- the session
 
 -- what opening gives under what is declared
 opens : Declared → Opening
-opens d = record { outcome = Accepted; session = record { mask = allOpen d } }
+opens d = record { outcome = Accepted; session = allOpen d }
 
 opens-opened : {p : Policy} (l : Loadable p) → Opened p (opens (l .declared))
 unfolding opens

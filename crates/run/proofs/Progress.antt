@@ -12,6 +12,7 @@ use Rattle.words.specs.Bits.{onesBelow}
 use Rattle.model.specs.declared.Policy.{Policy}
 use Rattle.policy_text.specs.Declared.{Declared}
 use Rattle.labelling.specs.Text.{LoadedTo}
+use Rattle.desk.specs.declared.opening.Session.{Session}
 use Rattle.desk.specs.declared.deciding.Decision.{Decision}
 use Rattle.desk.specs.Deciding.{Verdict, decideUnder, Gives}
 use Rattle.writing.specs.Wrote.{Wrote}
@@ -22,9 +23,10 @@ use Rattle.cutting.proofs.Walk.{cut-none}
 use Rattle.run.specs.Run.{lineOf, linesFrom}
 use Rattle.run.proofs.Line.{replyLine}
 
--- the query of this number starts at the place `at`, its line goes to the place `to`, and the session's partitions are those
--- of `mask`; a query but the first has 12 bytes at least, a line 92 at most
-pub record Progress (p : Policy) (queries was : List ℕ) (start opened : ℕ) (is : List ℕ) (mask query at to : ℕ) : Type 0 where
+-- the query of this number starts at the place `at` and finds the session s, and its line goes to the place `to`; a query but the
+-- first has 12 bytes at least, a line 92 at most
+pub record Progress (p : Policy) (queries was : List ℕ) (start : ℕ) (opened : Session) (is : List ℕ) (s : Session)
+    (query at to : ℕ) : Type 0 where
   pub within : at ≤ length queries
   pub some : 1 ≤ query
   pub few : query * 12 ≤ at + 23
@@ -33,9 +35,10 @@ pub record Progress (p : Policy) (queries was : List ℕ) (start opened : ℕ) (
   pub so-far : List ℕ
   pub wrote : Wrote was start so-far is to
   pub to-come : (d : Declared) → LoadedTo p d
-      → so-far ++ linesFrom d mask query (cut (drop at queries)) ≡ linesFrom d opened 1 (cut queries)
+      → so-far ++ linesFrom d s query (cut (drop at queries)) ≡ linesFrom d opened 1 (cut queries)
 
-pub progress-none : (p : Policy) (queries was : List ℕ) (start opened : ℕ) → Progress p queries was start opened was opened 1 0 start
+pub progress-none : (p : Policy) (queries was : List ℕ) (start : ℕ) (opened : Session)
+    → Progress p queries was start opened was opened 1 0 start
 progress-none p queries was start opened =
     record {
       within = zero-le;
@@ -54,22 +57,22 @@ line-of : (query left : ℕ) (r : Decision) (o : Verdict) → Gives r o → left
 unfolding lineOf
 line-of query left r o g e = rw (e, g .reply, g .session)
 
-lines-more : (d : Declared) (mask query : ℕ) (text : List ℕ) (texts : List (List ℕ)) (r : Decision) (left : ℕ)
-    → Gives r (decideUnder d mask text) → left ≡ onesBelow 64 (r .session .mask)
-    → linesFrom d mask query (text ∷ texts) ≡ replyLine query (r .reply) left ++ linesFrom d (r .session .mask) (query + 1) texts
+lines-more : (d : Declared) (s : Session) (query : ℕ) (text : List ℕ) (texts : List (List ℕ)) (r : Decision) (left : ℕ)
+    → Gives r (decideUnder d s text) → left ≡ onesBelow 64 (r .session .mask)
+    → linesFrom d s query (text ∷ texts) ≡ replyLine query (r .reply) left ++ linesFrom d (r .session) (query + 1) texts
 unfolding linesFrom
-lines-more d mask query text texts r left g e =
-    rw (line-of query left r (decideUnder d mask text) g e, g .session, add-one query)
+lines-more d s query text texts r left g e =
+    rw (line-of query left r (decideUnder d s text) g e, g .session, add-one query)
 
-module _ {p : Policy} {queries was : List ℕ} {start opened : ℕ} {is : List ℕ} {mask query at to : ℕ}
-    (w : Progress p queries was start opened is mask query at to) where
+module _ {p : Policy} {queries was : List ℕ} {start : ℕ} {opened : Session} {is : List ℕ} {s : Session} {query at to : ℕ}
+    (w : Progress p queries was start opened is s query at to) where
   -- every query has its line
   pub progress-all : length queries ≤ at → (d : Declared) → LoadedTo p d → Wrote was start (linesFrom d opened 1 (cut queries)) is to
   unfolding linesFrom
   progress-all h d l =
       wrote-as
       (sym (append-nil (w .so-far))
-      ∙ ap (λ (ts : List (List ℕ)). w .so-far ++ linesFrom d mask query ts) (sym (ap cut (drop-of-length-le queries h) ∙ cut-none))
+      ∙ ap (λ (ts : List (List ℕ)). w .so-far ++ linesFrom d s query ts) (sym (ap cut (drop-of-length-le queries h) ∙ cut-none))
       ∙ w .to-come d l)
       (w .wrote)
 
@@ -77,17 +80,18 @@ module _ {p : Policy} {queries was : List ℕ} {start opened : ℕ} {is : List �
     -- a query more, with at least 12 bytes where it is not the first
     few-more : (query + 1) * 12 ≤ at + n + 23
     few-more =
-        by-cases (decLt 1 query) (λ h. let s = w .starts h more in omega (arith, w .few, c .line (omega (arith, s .line, s .ended)), s .line))
+        by-cases (decLt 1 query)
+        (λ h. let t = w .starts h more in omega (arith, w .few, c .line (omega (arith, t .line, t .ended)), t .line))
         (λ h. omega (arith, w .few, c .some))
 
     starts-more : at + n < length queries → Starts (drop (at + n) queries)
     starts-more h = rw drop-drop at (c .starts (omega (arith, length-drop at queries)))
 
     pub progress-more : (r : Decision) (left to' : ℕ) (is' : List ℕ)
-        → ((d : Declared) → LoadedTo p d → Gives r (decideUnder d mask (take n (drop at queries))))
+        → ((d : Declared) → LoadedTo p d → Gives r (decideUnder d s (take n (drop at queries))))
         → left ≡ onesBelow 64 (r .session .mask)
         → Wrote is to (replyLine query (r .reply) left) is' to' → to' ≤ to + 92
-        → Progress p queries was start opened is' (r .session .mask) (query + 1) (at + n) to'
+        → Progress p queries was start opened is' (r .session) (query + 1) (at + n) to'
     progress-more r left to' is' g e v b =
         let line = replyLine query (r .reply) left in
         record {
@@ -99,9 +103,10 @@ module _ {p : Policy} {queries was : List ℕ} {start opened : ℕ} {is : List �
           so-far = w .so-far ++ line;
           wrote = wrote-more (w .wrote) v;
           to-come = λ d l.
-              ap (λ (t : List ℕ). (w .so-far ++ line) ++ linesFrom d (r .session .mask) (query + 1) (cut t)) (sym (drop-drop n at queries))
-              ∙ append-assoc (w .so-far) line (linesFrom d (r .session .mask) (query + 1) (cut (drop n (drop at queries))))
-              ∙ ap (λ (x : List ℕ). w .so-far ++ x) (sym (lines-more d mask query (take n (drop at queries)) (cut (drop n (drop at queries))) r left (g d l) e))
-              ∙ ap (λ (ts : List (List ℕ)). w .so-far ++ linesFrom d mask query ts) (sym (c .pieces))
+              ap (λ (t : List ℕ). (w .so-far ++ line) ++ linesFrom d (r .session) (query + 1) (cut t)) (sym (drop-drop n at queries))
+              ∙ append-assoc (w .so-far) line (linesFrom d (r .session) (query + 1) (cut (drop n (drop at queries))))
+              ∙ ap (λ (x : List ℕ). w .so-far ++ x)
+              (sym (lines-more d s query (take n (drop at queries)) (cut (drop n (drop at queries))) r left (g d l) e))
+              ∙ ap (λ (ts : List (List ℕ)). w .so-far ++ linesFrom d s query ts) (sym (c .pieces))
               ∙ w .to-come d l;
         }

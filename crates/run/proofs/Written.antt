@@ -23,7 +23,8 @@ use Rattle.run.specs.Run.{linesFrom, under, written}
 
 -- ---- how loading ended, by the tag of its outcome
 
-loads : (l : TheLoading) (v : Loading) → v ≡ loadingValue l → Tag 0 (v .outcome) → (d : Declared) × (l ≡ acceptedPolicy d) × (v .policy ≡ policyValue d)
+loads : (l : TheLoading) (v : Loading) → v ≡ loadingValue l → Tag 0 (v .outcome)
+    → (d : Declared) × (l ≡ acceptedPolicy d) × (v .policy ≡ policyValue d)
 unfolding loadingValue
 loads (refusedPolicy n k) v e h = let t : Tag 0 (Refused n k) = subst (λ (w : Loading). Tag 0 (w .outcome)) e h in absurd (omega arith)
 loads (acceptedPolicy d) v e h = (d, refl, ap (λ (w : Loading). w .policy) e)

@@ -4,6 +4,7 @@ use Prim.Native.Nat.{ℕ, suc}
 use Rattle.policy_text.specs.Text.{Loading, load}
 use Rattle.policy_text.specs.Declared.{Declared}
 use Rattle.policy_text.specs.Text.{refused as refusedPolicy, accepted as acceptedPolicy}
+use Rattle.desk.specs.declared.opening.Session.{Session}
 use Rattle.desk.specs.Reply.{refused}
 use Rattle.desk.specs.Session.{openCount}
 use Rattle.desk.specs.Opening.{allOpen}
@@ -14,13 +15,13 @@ use Rattle.run.specs.Output.{outputNames, outputLine}
 -- one query, and the others in the session that it leaves
 unfoldable pub lineOf : ℕ → Verdict → List ℕ
 unfolding outputLine
-lineOf k o = outputLine k (o .says .word) (openCount (o .leaves)) (o .says .number) (o .says .line)
+lineOf k o = outputLine k (o .says .word) (openCount (o .leaves .mask)) (o .says .number) (o .says .line)
 
 -- "decided in one session": the queries from number k on
-unfoldable pub linesFrom : Declared → ℕ → ℕ → List (List ℕ) → List ℕ
+unfoldable pub linesFrom : Declared → Session → ℕ → List (List ℕ) → List ℕ
 unfolding decideUnder lineOf
-linesFrom d mask k [] = []
-linesFrom d mask k (t ∷ ts) = let o = decideUnder d mask t in lineOf k o ++ linesFrom d (o .leaves) (suc k) ts
+linesFrom d s k [] = []
+linesFrom d s k (t ∷ ts) = let o = decideUnder d s t in lineOf k o ++ linesFrom d (o .leaves) (suc k) ts
 
 -- "A refused policy gives `0 refused 0` with number and line, alone under the names. No input under an accepted policy gives
 -- the names only."

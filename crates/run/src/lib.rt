@@ -68,7 +68,7 @@ fn decide_all(
     start: usize,
 ) -> usize
     requires { ⌜ SomePolicy p × TableMasks p (now masks) × ViewsLaid p (now views) × (length (now queries) ≤ 65536) × (start + 502596 ≤ length (now out)) ⌝ }
-    ensures { λ r. ⌜ ((d : Declared) → LoadedTo p d → Wrote (now (out .entry)) start (linesFrom d (opened .mask) 1 (cut (now (queries .entry)))) (now (out .exit)) r) ⌝ }
+    ensures { λ r. ⌜ ((d : Declared) → LoadedTo p d → Wrote (now (out .entry)) start (linesFrom d opened 1 (cut (now (queries .entry)))) (now (out .exit)) r) ⌝ }
     ensures { λ r. ⌜ r ≤ start + 502596 ⌝ }
 {
     let mut s = opened;

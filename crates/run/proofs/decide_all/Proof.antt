@@ -13,7 +13,7 @@ use Rattle.run.proofs.decide_all.Statement.{statement}
 use Rattle.run.proofs.decide_all.Tie as tie
 
 abbrev Inv-loop : tie.InvT-loop
-Inv-loop p masks views queries out₀ start s₀ query₀ at₀ to₀ out s query at to = Progress p queries out₀ start (s₀ .mask) out (s .mask) query at to
+Inv-loop p masks views queries out₀ start s₀ query₀ at₀ to₀ out s query at to = Progress p queries out₀ start s₀ out s query at to
 
 abbrev μ-loop : tie.MeasureT-loop
 μ-loop p masks views queries out₀ start s₀ query₀ at₀ to₀ out s query at to = length queries - at
@@ -102,7 +102,7 @@ loop-again c =
     progress-more (turn e .loop .inv) (e .next-cut .result) (cut-at e) (e .before .before .loop-test .taken)
     (d .decide-loaded .result) (o .ones .result) (r .put-reply .result) _
     (λ f l.
-    subst (λ (x : List ℕ). Gives (d .decide-loaded .result) (decideUnder f (turn e .loop .s .mask) (take (e .next-cut .result) x)))
+    subst (λ (x : List ℕ). Gives (d .decide-loaded .result) (decideUnder f (turn e .loop .s) (take (e .next-cut .result) x)))
     (to-end (turn e .loop .at) (text e)) (d .decide-loaded .ensures f l))
     (o .ones .ensures) (r .put-reply .ensures .0) (r .put-reply .ensures .1)
 

@@ -41,8 +41,9 @@ same-length c = search needs
 returns : tie.Need-returns
 unfolding wordBytes
 returns c =
-    let r = c .before .before .put-line in
-    (wrote-as (line-yes _ _ _ (c .before .before .before .before .before .before .match .keys1)) (r .ensures .0 yes refl), r .ensures .1 .1)
+    let r = c .before .before in
+    let m = r .before .before .before .before in
+    (wrote-as (line-yes _ _ _ (m .match .keys1)) (r .put-line .ensures .0 yes refl), r .put-line .ensures .1 .1)
 
 same-length-2 : tie.Need-same-length-2
 same-length-2 c = search needs
@@ -50,8 +51,9 @@ same-length-2 c = search needs
 returns-2 : tie.Need-returns-2
 unfolding wordBytes
 returns-2 c =
-    let r = c .before .before .put-line2 in
-    (wrote-as (line-no _ _ _ (c .before .before .before .before .before .before .match .keys2)) (r .ensures .0 no refl), r .ensures .1 .1)
+    let r = c .before .before in
+    let m = r .before .before .before .before in
+    (wrote-as (line-no _ _ _ (m .match .keys2)) (r .put-line2 .ensures .0 no refl), r .put-line2 .ensures .1 .1)
 
 same-length-3 : tie.Need-same-length-3
 same-length-3 c = search needs
@@ -59,8 +61,9 @@ same-length-3 c = search needs
 returns-3 : tie.Need-returns-3
 unfolding wordBytes
 returns-3 c =
-    let r = c .before .before .put-line3 in
-    (wrote-as (line-refused _ _ _ _ _ (c .before .before .before .before .before .before .reply .given .1)) (r .ensures .0 refused refl), r .ensures .1 .1)
+    let r = c .before .before in
+    let m = r .before .before .before .before in
+    (wrote-as (line-refused _ _ _ _ _ (m .reply .given .1)) (r .put-line3 .ensures .0 refused refl), r .put-line3 .ensures .1 .1)
 
 pub put-reply-spec : {M : Type 1} → statement M
 put-reply-spec =

@@ -23,7 +23,8 @@ named c = c .before .before .before .before
 abbrev start : tie.At-match-keys2 → tie.Start
 start c = named c .before .before .before .before .before .before
 
-loaded : (c : tie.At-match-keys2) → (d : Declared) × (load (start c .args .policy .now) ≡ accepted d) × LoadedTo (c .before .load .result .policy) d
+loaded : (c : tie.At-match-keys2)
+    → (d : Declared) × (load (start c .args .policy .now) ≡ accepted d) × LoadedTo (c .before .load .result .policy) d
 loaded c = loads-to (start c .args .policy .now) (c .before .load .result) (c .before .load .ensures) (c .match .keys2)
 
 -- ---- the needs
@@ -100,7 +101,8 @@ returns-2 c =
     let b = r .before .before .before .before in
     let m = b .before .before .before .before .before in
     let (d, e, l) = loaded m in
-    let all : b .low-bits .result ≡ allOpen d = b .low-bits .ensures ∙ ap (λ (n : ℕ). 2 ^ n - 1) (partition-count l) in
+    let all : record { mask = b .low-bits .result } ≡ allOpen d =
+    ap (λ (m : ℕ). record { mask = m }) (b .low-bits .ensures ∙ ap (λ (n : ℕ). 2 ^ n - 1) (partition-count l)) in
     let n : named m .put-bytes .result ≡ 31 = named m .put-bytes .ensures .next in
     let z : length (named m .put-bytes .last .0) ≡ length (start m .args .out .now) = named m .put-bytes .ensures .size in
     let h : 524288 ≤ length (start m .args .out .now) = start m .pre .1 in

@@ -1,3 +1,4 @@
+-- `desk::deciding::decide_checked`: 8 where no text loads to the value, else what `decide_loaded` gives.
 use borrow.Author.Needs.{needs}
 use Rattle.words.proofs.Answers.{passes, fails}
 use Rattle.desk.proofs.Loaded.{loaded-to}
@@ -24,14 +25,19 @@ view-rows-requires c κs = search needs
 
 decide-loaded-requires : tie.Need-decide-loaded-requires
 decide-loaded-requires c κs =
-    let l = passes (c .before .before .before .before .before .valid .ensures) (c .before .before .before .before .if1 .left) in
-    ((l .declared, loaded-to l), c .before .before .before .table-views .ensures, c .before .before .view-rows .ensures)
+    let v = c .before .before in
+    let t = v .before in
+    let i = t .before in
+    let l = passes (i .before .valid .ensures) (i .if1 .left) in
+    ((l .declared, loaded-to l), t .table-views .ensures, v .view-rows .ensures)
 
 returns-2 : tie.Need-returns-2
-returns-2 c = record {
-  unloaded = λ n. absurd (n (passes (c .before .before .before .before .before .before .valid .ensures) (c .before .before .before .before .before .if1 .left)));
-  loaded = λ l. c .decide-loaded .ensures (l .declared) (loaded-to l);
-}
+returns-2 c =
+    let i = c .before .before .before .before .before in
+    record {
+      unloaded = λ n. absurd (n (passes (i .before .valid .ensures) (i .if1 .left)));
+      loaded = λ l. c .decide-loaded .ensures (l .declared) (loaded-to l);
+    }
 
 pub decide-checked-spec : {M : Type 1} → statement M
 decide-checked-spec =

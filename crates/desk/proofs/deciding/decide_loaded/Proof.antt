@@ -1,3 +1,4 @@
+-- `desk::deciding::decide_loaded`: 9, what the text is turned back for, or what `answer` says of the partitions left.
 use mathlib.Core.Path.{sym, ap, subst, _∙_}
 use native.Mathlib.Omega.{arith}
 use borrow.Author.Needs.{needs}

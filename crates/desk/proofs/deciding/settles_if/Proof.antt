@@ -1,3 +1,4 @@
+-- `desk::deciding::settles_if`: both tests, the second where the first passes.
 use borrow.Author.Needs.{needs}
 use borrow.Author.Tests.{not-true, not-false}
 use Rattle.desk.proofs.deciding.settles_if.Statement.{statement}

@@ -1,3 +1,4 @@
+-- `desk::deciding::settling`. The invariant: the bits below i are those of the open partitions that settle the query.
 use mathlib.Core.Path.{_≡_, ap, _∙_}
 use mathlib.Core.Bool.{Bool, _&&_}
 use mathlib.Core.List.{List}

@@ -1,3 +1,4 @@
+-- `desk::deciding::unfit`: the two tests of 9.
 use borrow.Author.Needs.{needs}
 use borrow.Author.Tests.{eq-eqb, ne-eqb}
 use native.Mathlib.Omega.{arith}

@@ -16,7 +16,9 @@ same-length c = search needs
 
 returns-2 : tie.Need-returns-2
 returns-2 c = λ ws e.
-    lists-given (c .before .before .before .before .before .before .before .args .l) ws e _ (omega arith) (c .before .before .copy-words .ensures)
+    let d = c .before .before in
+    let s = d .before .before .before .before .before in
+    lists-given (s .args .l) ws e _ (omega arith) (d .copy-words .ensures)
 
 pub give-labels-spec : {M : Type 1} → statement M
 give-labels-spec = tie.close (tie.spec returns copy-words-requires same-length returns-2)
