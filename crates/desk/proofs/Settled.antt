@@ -23,7 +23,7 @@ use Rattle.policy_text.specs.Declared.{Declared}
 use Rattle.words.proofs.Bits.{same-bits}
 use Rattle.labelling.specs.Settled.{settled, granted}
 use Rattle.labelling.specs.Text.{LoadedTo}
-use Rattle.labelling.proofs.Partitions.{settled-settles}
+use Rattle.labelling.proofs.Partitions.{settled-settles, good-known}
 use Rattle.desk.specs.Deciding.{passing, stillOpen}
 use Rattle.desk.specs.Settling.{Settles, Settling}
 use Rattle.desk.proofs.Loaded.{partition-word}
@@ -62,8 +62,9 @@ module _ {p : Policy} {d : Declared} (l : LoadedTo p d) (Q : Query) (fits : AllF
       let k = passing-iff f (d .partitions) mask i in
       let vs = getD (d .partitions) i [] in
       let same : (b : i < length (d .partitions)) → settled (getD (p .partitions) i 0) (labels (d .views) Q) ≡ f vs =
-      λ b. ap (λ (x : ℕ). settled x (labels (d .views) Q)) (partition-word l i)
-      ∙ settled-settles d (l .good) vs (l .good .partitions .each vs (getD-mem (d .partitions) i [] b)) Q fits in (
+      λ b.
+      let known = good-known (d .views) vs (l .good .partitions .each vs (getD-mem (d .partitions) i [] b)) in
+      ap (λ (x : ℕ). settled x (labels (d .views) Q)) (partition-word l i) ∙ settled-settles d (l .good) vs known Q fits in (
         λ h. let r = s i .0 h in
             let b : i < length (d .partitions) = rw e at (r .there) in k .1 (b, subst T (same b) (r .settles), r .open-before),
         λ h. let (b, t, o) = k .0 h in s i .1 (record { there = rw e b; open-before = o; settles = subst T (sym (same b)) t }),

@@ -1,6 +1,6 @@
--- A partition settles a query, by its labels, exactly when it determines it.
+-- Known views settle a query, by covering and by its labels, exactly when they determine it; so does a partition of the policy.
 use mathlib.Core.Path.{_≡_, refl, sym, ap, ap₂, subst, _∙_}
-use mathlib.Core.Logic.{_↔_, inr, ⊎-elim}
+use mathlib.Core.Logic.{_↔_, Iff·trans}
 use mathlib.Core.Bool.{Bool, _&&_}
 use mathlib.Core.List.{List, [], _∷_, map, List·Memᴰ·head, List·Memᴰ·tail, Memᴰ·map, Memᴰ·of-map}
 use mathlib.Core.Option.{some, Option·some-injective}
@@ -9,7 +9,7 @@ use native.Mathlib.Omega.{arith}
 use lib.Dec.{T}
 use lib.ListN.{length, getElem?}
 use Rattle.theory.specs.Query.{Line, Query, _∈_, NoClash}
-use Rattle.theory.specs.Archive.{AllFit, Determines}
+use Rattle.theory.specs.Archive.{AllFit, Determines, DeterminedBy}
 use Rattle.theory.specs.Cover.{Covers}
 use Rattle.theory.specs.Executable.Test.{all, any}
 use Rattle.theory.specs.Executable.Cover.{covers}
@@ -23,19 +23,18 @@ use Rattle.theory.proofs.Executable.Label.{viewBits-bit}
 use Rattle.theory.proofs.Determine.{settles-iff-determines, no-view-determines}
 use Rattle.words.specs.Bits.{bit}
 use Rattle.words.specs.Sets.{meet}
-use Rattle.words.proofs.Bits.{bit-zero}
 use Rattle.words.proofs.Parts.{high-part}
 use Rattle.words.proofs.Tests.{meet-iff}
-use Rattle.model.specs.Limits.{mostTables, mostViews}
+use Rattle.model.specs.Limits.{mostViews}
 use Rattle.query_text.specs.Text.{accepted, read}
 use Rattle.query_text.proofs.Accepted.{accepted-well-read}
 use Rattle.policy_text.specs.Declared.{Declared, Grants, PartitionDetermines}
 use Rattle.policy_text.specs.WellFormed.{WellFormed, GoodPartition}
-use Rattle.policy_text.specs.Policy.{viewsAfter}
-use Rattle.policy_text.proofs.PartitionWords.{after-bit, good-below}
+use Rattle.policy_text.specs.Policy.{viewsWord}
+use Rattle.policy_text.proofs.Grants.{word-bit, good-below}
 use Rattle.words.proofs.Answers.{true-holds, holds-true}
 use Rattle.reduce.specs.Agree.{lineAt}
-use Rattle.labelling.specs.Settled.{holdsOne, settled, granted}
+use Rattle.labelling.specs.Settled.{holdsOne, settled, granted, Known, Numbered}
 use Rattle.labelling.proofs.Lines.{shown-fits}
 
 -- ---- tests on lists
@@ -52,12 +51,14 @@ all-same f g (x ∷ l) h = ap₂ (λ (a b : Bool). a && b) (h x (List·Memᴰ·h
 
 -- ---- one label
 
-module _ (views : List Line) (vs : List ℕ) (few : length views ≤ 32) (good : GoodPartition (length views) vs) (A : Line) (small : A .table < 2 ^ 32) where
-  listed : (v : ℕ) → 1 ≤ v → (bit (viewsAfter 0 vs) (v - 1) ≡ 1) ↔ (v ∈ vs)
+module _ (views : List Line) (ns : List ℕ) (few : length views ≤ mostViews) (known : Known views ns)
+    (A : Line) (small : A .table < 2 ^ 32) where
+  listed : (v : ℕ) → 1 ≤ v → (bit (viewsWord ns) (v - 1) ≡ 1) ↔ (v ∈ ns)
   listed v h =
-      let b = after-bit 0 vs (λ w m. good-below (length views) vs good w m .0) v h in (
-        λ e. ⊎-elim (λ z. absurd (omega (arith, z, bit-zero (v - 1)))) (λ m. m) (b .0 e),
-        λ m. b .1 (inr m),
+      let b = word-bit ns (v - 1) in
+      let same : v - 1 + 1 ≡ v = omega arith in (
+        λ e. subst (λ (x : ℕ). x ∈ ns) same (b .0 e .1),
+        λ m. b .1 (omega (arith, h, known v m .1, few), subst (λ (x : ℕ). x ∈ ns) (sym same) m),
       )
 
   high : label views A / 2 ^ 32 ≡ viewBits views A
@@ -68,97 +69,128 @@ module _ (views : List Line) (vs : List ℕ) (few : length views ≤ 32) (good :
   unfolding lineAt
   line-there k e = there views k _ e
 
-  holds-granted : meet 64 (label views A / 2 ^ 32) (viewsAfter 0 vs) ≡ any (λ v. covers v A) (granted views vs)
+  holds-granted : meet 64 (label views A / 2 ^ 32) (viewsWord ns) ≡ any (λ v. covers v A) (granted views ns)
   unfolding granted
   holds-granted =
       same-test _ _
       (λ t.
-      let r = meet-iff 64 (label views A / 2 ^ 32) (viewsAfter 0 vs) .0 (sym (holds-true _ t)) in
-      let c = viewBits-bit views A (r .0) .0 (sym (ap (λ (w : ℕ). bit w (r .0)) high) ∙ r .2) in
-      let m = listed (r .0 + 1) (omega arith) .0 (ap (λ (k : ℕ). bit (viewsAfter 0 vs) k) (omega arith) ∙ r .3) in
-      any-iff (λ v. covers v A) (granted views vs) .1 (
-        lineAt views (r .0 + 1 - 1),
+      let (k, _, x, y) = meet-iff 64 (label views A / 2 ^ 32) (viewsWord ns) .0 (sym (holds-true _ t)) in
+      let (v, at, c) = viewBits-bit views A k .0 (sym (ap (λ (w : ℕ). bit w k) high) ∙ x) in
+      let m = listed (k + 1) (omega arith) .0 (ap (λ (i : ℕ). bit (viewsWord ns) i) (omega arith) ∙ y) in
+      let e = line-there (k + 1 - 1) (ap (getElem? views) (omega arith) ∙ at) in
+      any-iff (λ v. covers v A) (granted views ns) .1 (
+        lineAt views (k + 1 - 1),
         Memᴰ·map (λ v. lineAt views (v - 1)) m,
-        covers-iff _ A .1 (subst (λ (v : Line). Covers v A) (sym (line-there (r .0 + 1 - 1) (ap (getElem? views) (omega arith) ∙ c .1))) (c .2)),
+        covers-iff _ A .1 (subst (λ (u : Line). Covers u A) (sym e) c),
       ))
       (λ t.
-      let r = any-iff (λ v. covers v A) (granted views vs) .0 t in
-      let w = Memᴰ·of-map (λ v. lineAt views (v - 1)) vs (r .1) in
-      let b = good-below (length views) vs good (w .0) (w .1) in
-      let p = below-place views (w .0 - 1) (omega (arith, b .0, b .1)) in
-      let e = line-there (w .0 - 1) (p .1) in
-      true-holds (meet-iff 64 (label views A / 2 ^ 32) (viewsAfter 0 vs) .1 (
-        w .0 - 1,
-        omega (arith, b .1, few),
-        ap (λ (x : ℕ). bit x (w .0 - 1)) high
-            ∙ viewBits-bit views A (w .0 - 1) .1 (p .0, p .1, subst (λ (v : Line). Covers v A) (sym (w .2) ∙ e) (covers-iff (r .0) A .0 (r .2))),
-        listed (w .0) (b .0) .1 (w .1),
+      let (v, m, c) = any-iff (λ v. covers v A) (granted views ns) .0 t in
+      let (n, i, e) = Memᴰ·of-map (λ v. lineAt views (v - 1)) ns m in
+      let (from, to) = known n i in
+      let (u, at) = below-place views (n - 1) (omega (arith, from, to)) in
+      let covered = subst (λ (w : Line). Covers w A) (sym e ∙ line-there (n - 1) at) (covers-iff v A .0 c) in
+      true-holds (meet-iff 64 (label views A / 2 ^ 32) (viewsWord ns) .1 (
+        n - 1,
+        omega (arith, to, few),
+        ap (λ (x : ℕ). bit x (n - 1)) high ∙ viewBits-bit views A (n - 1) .1 (u, at, covered),
+        listed n from .1 i,
       )))
 
 -- ---- all labels
 
-module _ (d : Declared) (good : WellFormed d) (vs : List ℕ) (partition : GoodPartition (length (d .views)) vs) (Q : Query) (fits : AllFit (d .widths) Q) where
-  pub settled-settles : settled (viewsAfter 0 vs) (labels (d .views) Q) ≡ settles (granted (d .views) vs) Q
+module _ (d : Declared) (good : WellFormed d) (ns : List ℕ) (known : Known (d .views) ns)
+    (Q : Query) (fits : AllFit (d .widths) Q) where
+  pub settled-settles : settled (viewsWord ns) (labels (d .views) Q) ≡ settles (granted (d .views) ns) Q
   unfolding settled holdsOne labels settles
   settled-settles =
-      all-map (λ w. meet 64 (w / 2 ^ 32) (viewsAfter 0 vs)) (label (d .views)) (show (reduce Q))
-      ∙ all-same (λ A. meet 64 (label (d .views) A / 2 ^ 32) (viewsAfter 0 vs)) (λ A. any (λ v. covers v A) (granted (d .views) vs)) (show (reduce Q))
+      all-map (λ w. meet 64 (w / 2 ^ 32) (viewsWord ns)) (label (d .views)) (show (reduce Q))
+      ∙ all-same (λ A. meet 64 (label (d .views) A / 2 ^ 32) (viewsWord ns)) (λ A. any (λ v. covers v A) (granted (d .views) ns))
+      (show (reduce Q))
       (λ A m.
       let f = shown-fits (d .widths) Q fits A m in
-      holds-granted (d .views) vs (good .views .few) partition A (omega (arith, f .last, good .tables .few)))
+      holds-granted (d .views) ns (good .views .few) known A (omega (arith, f .last, good .tables .few)))
 
   -- "A partition determines a query …": any two archives that agree on its views agree on the query
-  pub settled-iff-determines : NoClash Q → T (settled (viewsAfter 0 vs) (labels (d .views) Q)) ↔ Determines (d .widths) (granted (d .views) vs) Q
-  settled-iff-determines clear =
-      let s = settles-iff-determines (d .widths) (granted (d .views) vs) Q clear fits in
-      (λ t. s .0 (subst T settled-settles t), λ p. subst T (sym settled-settles) (s .1 p))
+  pub settled-iff-determines : NoClash Q
+      → T (settled (viewsWord ns) (labels (d .views) Q)) ↔ Determines (d .widths) (granted (d .views) ns) Q
+  settled-iff-determines clear = rw settled-settles (settles-iff-determines (d .widths) (granted (d .views) ns) Q clear fits)
 
--- ---- a partition of the policy
+-- ---- views by their numbers
 
-module _ (d : Declared) (good : WellFormed d) (n : ℕ) (vs : List ℕ) (at : getElem? (d .partitions) n ≡ some vs) where
-  partition-good : GoodPartition (length (d .views)) vs
-  partition-good = good .partitions .each vs (at-place (d .partitions) n at)
-
-  -- its views, from their numbers
-  granted-iff : (v : Line) → Grants d n v ↔ (v ∈ granted (d .views) vs)
+module _ (views : List Line) (ns : List ℕ) (known : Known views ns) where
+  granted-iff : (v : Line) → Numbered views ns v ↔ (v ∈ granted views ns)
   unfolding granted lineAt
   granted-iff v = (
     λ g.
-        let same : g .numbers ≡ vs = Option·some-injective (g .numbers) vs (sym (g .partition) ∙ at) in
-        subst (λ (u : Line). u ∈ granted (d .views) vs) (there (d .views) (g .number - 1) _ (g .view))
-        (Memᴰ·map (λ k. lineAt (d .views) (k - 1)) (subst (λ (l : List ℕ). g .number ∈ l) same (g .listed))),
+        subst (λ (u : Line). u ∈ granted views ns) (there views (g .number - 1) _ (g .view))
+        (Memᴰ·map (λ k. lineAt views (k - 1)) (g .listed)),
     λ m.
-        let (k, i, e) = Memᴰ·of-map (λ k. lineAt (d .views) (k - 1)) vs m in
-        let b = good-below (length (d .views)) vs partition-good k i in
-        let (u, p) = below-place (d .views) (k - 1) (omega (arith, b .0, b .1)) in
+        let (k, i, e) = Memᴰ·of-map (λ k. lineAt views (k - 1)) ns m in
+        let (from, to) = known k i in
+        let (u, at) = below-place views (k - 1) (omega (arith, from, to)) in
         record {
-          numbers = vs;
-          partition = at;
           number = k;
           listed = i;
-          from-one = b .0;
-          view = p ∙ ap some (sym (there (d .views) (k - 1) _ p) ∙ e);
+          from-one = from;
+          view = at ∙ ap some (sym (there views (k - 1) _ at) ∙ e);
         },
   )
 
-  determines-granted : (Q : Query) → PartitionDetermines d n Q ↔ Determines (d .widths) (granted (d .views) vs) Q
-  determines-granted Q = (
+  determines-granted : (widths : List ℕ) (Q : Query) → DeterminedBy widths (Numbered views ns) Q ↔ Determines widths (granted views ns) Q
+  determines-granted widths Q = (
     λ p D E fitD fitE agree. p D E fitD fitE (λ v g. agree v (granted-iff v .0 g)),
     λ p D E fitD fitE agree. p D E fitD fitE (λ v m. agree v (granted-iff v .1 m)),
   )
 
-  module _ (Q : Query) (clear : NoClash Q) (fits : AllFit (d .widths) Q) where
-    -- by covering, as deciding has it
-    pub settles-iff-partition : T (settles (granted (d .views) vs) Q) ↔ PartitionDetermines d n Q
-    settles-iff-partition =
-        let s = settles-iff-determines (d .widths) (granted (d .views) vs) Q clear fits in
-        let k = determines-granted Q in (λ t. k .1 (s .0 t), λ p. s .1 (k .0 p))
+  -- Known views settle a query exactly when they determine it: by covering, as deciding has it,
+  pub settles-iff-numbered : (widths : List ℕ) (Q : Query) → NoClash Q → AllFit widths Q
+      → T (settles (granted views ns) Q) ↔ DeterminedBy widths (Numbered views ns) Q
+  settles-iff-numbered widths Q clear fits =
+      let s = settles-iff-determines widths (granted views ns) Q clear fits in
+      let k = determines-granted widths Q in (λ t. k .1 (s .0 t), λ p. s .1 (k .0 p))
 
-    -- and by the words of its labels, as explaining has it
+-- and by the words of the labels, as explaining has it.
+pub settled-iff-numbered : (d : Declared) → WellFormed d → (ns : List ℕ) → Known (d .views) ns
+    → (Q : Query) → NoClash Q → AllFit (d .widths) Q
+    → T (settled (viewsWord ns) (labels (d .views) Q)) ↔ DeterminedBy (d .widths) (Numbered (d .views) ns) Q
+settled-iff-numbered d good ns known Q clear fits =
+    rw (settled-settles d good ns known Q fits) (settles-iff-numbered (d .views) ns known (d .widths) Q clear fits)
+
+-- ---- a partition of the policy
+
+-- its views are known
+pub good-known : (views : List Line) (vs : List ℕ) → GoodPartition (length views) vs → Known views vs
+good-known views vs g = good-below (length views) vs g
+
+module _ (d : Declared) (good : WellFormed d) (n : ℕ) (vs : List ℕ) (at : getElem? (d .partitions) n ≡ some vs) where
+  known : Known (d .views) vs
+  known = good-known (d .views) vs (good .partitions .each vs (at-place (d .partitions) n at))
+
+  grants-iff : (v : Line) → Grants d n v ↔ Numbered (d .views) vs v
+  grants-iff v = (
+    λ g.
+        let same : g .numbers ≡ vs = Option·some-injective (g .numbers) vs (sym (g .partition) ∙ at) in
+        record {
+          number = g .number;
+          listed = subst (λ (l : List ℕ). g .number ∈ l) same (g .listed);
+          from-one = g .from-one;
+          view = g .view;
+        },
+    λ k. record { numbers = vs; partition = at; number = k .number; listed = k .listed; from-one = k .from-one; view = k .view },
+  )
+
+  determines-numbered : (Q : Query) → DeterminedBy (d .widths) (Numbered (d .views) vs) Q ↔ PartitionDetermines d n Q
+  determines-numbered Q = (
+    λ p D E fitD fitE agree. p D E fitD fitE (λ v k. agree v (grants-iff v .1 k)),
+    λ p D E fitD fitE agree. p D E fitD fitE (λ v g. agree v (grants-iff v .0 g)),
+  )
+
+  module _ (Q : Query) (clear : NoClash Q) (fits : AllFit (d .widths) Q) where
+    pub settles-iff-partition : T (settles (granted (d .views) vs) Q) ↔ PartitionDetermines d n Q
+    settles-iff-partition = Iff·trans (settles-iff-numbered (d .views) vs known (d .widths) Q clear fits) (determines-numbered Q)
+
     pub settled-iff-partition : T (settled (viewsAfter 0 vs) (labels (d .views) Q)) ↔ PartitionDetermines d n Q
-    settled-iff-partition =
-        let e = settled-settles d good vs partition-good Q fits in
-        let k = settles-iff-partition in (λ t. k .0 (subst T e t), λ p. subst T (sym e) (k .1 p))
+    settled-iff-partition = Iff·trans (settled-iff-numbered d good vs known Q clear fits) (determines-numbered Q)
 
 -- "A partition may list no view": it determines no query
 pub no-views-no-query : (d : Declared) → WellFormed d → (n : ℕ) → getElem? (d .partitions) n ≡ some [] → (text : List ℕ) (Q : Query)
@@ -167,4 +199,5 @@ unfolding granted
 no-views-no-query d good n at text Q reads p =
     let w = accepted-well-read (d .widths) text Q reads in
     let (A, first) = below-place Q 0 (w .nonempty) in
-    no-view-determines (d .widths) Q A (w .clear) (w .fits) (at-place Q 0 first) (determines-granted d good n [] at Q .0 p)
+    let none = determines-granted (d .views) [] (known d good n [] at) (d .widths) Q .0 (determines-numbered d good n [] at Q .1 p) in
+    no-view-determines (d .widths) Q A (w .clear) (w .fits) (at-place Q 0 first) none

@@ -1,8 +1,11 @@
 -- Document 01, "Session": when a partition settles a query, read off its labels.
+use mathlib.Core.Path.{_≡_}
 use mathlib.Core.Bool.{Bool}
 use mathlib.Core.List.{List, map}
-use Prim.Native.Nat.{ℕ, _-_, _/_, _^_}
-use Rattle.theory.specs.Query.{Line}
+use mathlib.Core.Option.{some}
+use Prim.Native.Nat.{ℕ, _-_, _/_, _^_, _≤_}
+use lib.ListN.{length, getElem?}
+use Rattle.theory.specs.Query.{Line, _∈_}
 use Rattle.theory.specs.Executable.Test.{all}
 use Rattle.words.specs.Sets.{meet}
 use Rattle.reduce.specs.Agree.{lineAt}
@@ -21,3 +24,14 @@ settled partition ws = all (holdsOne partition) ws
 unfoldable pub granted : List Line → List ℕ → List Line
 unfolding lineAt
 granted views vs = map (λ v. lineAt views (v - 1)) vs
+
+-- "from 1 in file order": numbers of views that are there
+abbrev pub Known : List Line → List ℕ → Type 0
+Known views ns = (n : ℕ) → n ∈ ns → (1 ≤ n) × (n ≤ length views)
+
+-- v is the view of one of these numbers
+pub record Numbered (views : List Line) (ns : List ℕ) (v : Line) : Type 0 where
+  pub number : ℕ
+  pub listed : number ∈ ns
+  pub from-one : 1 ≤ number
+  pub view : getElem? views (number - 1) ≡ some v

@@ -6,35 +6,32 @@ pub mod Freeze
 pub mod Marked
 pub mod Archives
 pub mod Necessary
-use mathlib.Core.Path.{_≡_, refl, sym, _∙_, subst}
+pub mod OneLine
+use mathlib.Core.Path.{_≡_, refl, sym, subst}
 use mathlib.Core.Logic.{_↔_, Iff·symm}
-use mathlib.Core.Option.{some}
 use mathlib.Core.List.{List, [], _∷_, List·Memᴰ·head, List·Memᴰ·not-nil, List·Memᴰ·eq-of-singleton, Memᴰ·map, Memᴰ·of-map}
-use Prim.Native.Nat.{ℕ, zero, suc}
-use native.Mathlib.Nat.{not-suc-le-zero, le-of-suc-le-suc}
+use Prim.Native.Nat.{ℕ}
 use lib.Dec.{T}
-use lib.ListN.{getElem?}
-use Rattle.theory.specs.Query.{Term, constant, shown, hidden, over, Line, Query, _∈_, NoClash, Fits}
+use Rattle.theory.specs.Query.{over, Line, Query, _∈_, NoClash, Fits}
 use Rattle.theory.specs.Archive.{Archive, AllFit, Answer, Determines}
-use Rattle.theory.specs.Reduce.{Reduced, ReducesTo}
-use Rattle.theory.specs.Show.{Shared, Shown}
-use Rattle.theory.specs.Cover.{at, IsHidden, Covers, Rewrites}
+use Rattle.theory.specs.Reduce.{ReducesTo}
+use Rattle.theory.specs.Show.{Shown}
+use Rattle.theory.specs.Cover.{Covers, Rewrites}
 use Rattle.theory.specs.Executable.Test.{any}
 use Rattle.theory.specs.Executable.Reduce.{reduce}
 use Rattle.theory.specs.Executable.Show.{showTerm, show}
 use Rattle.theory.specs.Executable.Cover.{covers}
 use Rattle.theory.specs.Executable.Label.{settles}
-use Rattle.theory.proofs.Lists.{none≢some}
-use Rattle.theory.proofs.Cover.{equal-terms}
 use Rattle.theory.proofs.Rewrite.{covers-rewrites, rewrites-determines}
 use Rattle.theory.proofs.Reduce.{reduced-answers, reduced-reduced, reduced-subset, reduced-clear, reduced-map}
 use Rattle.theory.proofs.Executable.Test.{all-iff, any-iff}
 use Rattle.theory.proofs.Executable.Reduce.{reduce-reduces}
 use Rattle.theory.proofs.Executable.Show.{show-is-shown, shown-is-show}
 use Rattle.theory.proofs.Executable.Cover.{covers-iff}
-use Inside.{Unshared, CoversIn, covers-shown}
+use Inside.{covers-shown}
 use Sufficient.{covered-determines}
 use Necessary.{determined-covers}
+use OneLine.{views-determine-line}
 
 -- ---- a query
 
@@ -96,63 +93,13 @@ determines-grows widths vs ws Q inside d D E fitD fitE agree = d D E fitD fitE (
 
 -- ---- one line
 
-module _ (A : Line) where
-  one-reduced : Reduced (A ∷ [])
-  one-reduced zero g = List·Memᴰ·not-nil (g .2 A (List·Memᴰ·head refl))
-  one-reduced (suc i) g = not-suc-le-zero (le-of-suc-le-suc (g .0))
-
-  one-place : (i : ℕ) (B : Line) → getElem? (A ∷ []) i ≡ some B → i ≡ zero
-  one-place zero B e = refl
-  one-place (suc i) B e = absurd (none≢some e)
-
-  none-shared : (n : ℕ) → Shared (A ∷ []) n → ⊥
-  none-shared n s = s .apart (one-place (s .i) (s .A) (s .A-at) ∙ sym (one-place (s .j) (s .B) (s .B-at)))
-
-  hidden-unshared : (t : Term) → IsHidden t ↔ Unshared (A ∷ []) t
-  hidden-unshared (constant c) = (λ h. h, λ h. h)
-  hidden-unshared (shown n) = (λ h. h, λ h. h)
-  hidden-unshared (hidden n) = (λ h. none-shared n, λ h. tt)
-
-  covers-alone : (v : Line) → Covers v A ↔ CoversIn (A ∷ []) v A
-  covers-alone v = (
-    (λ c. record {
-      table = c .table;
-      width = c .width;
-      rules = λ p q l m.
-          let r = c .rules p q l m in
-          record {
-            constants = r .constants;
-            equals = equal-terms _ _ _ _ r (c .rules q p m l);
-            hides = λ h. hidden-unshared (at A p) .0 (r .hides h);
-            only = r .only;
-          };
-    }),
-    λ c. record {
-      table = c .table;
-      width = c .width;
-      rules = λ p q l m.
-          let r = c .rules p q l m in
-          record {
-            constants = r .constants;
-            equals = λ x e. r .equals e;
-            hides = λ h. hidden-unshared (at A p) .1 (r .hides h);
-            only = r .only;
-          };
-    },
-  )
-
 -- a single view determines a single line exactly when it covers it
 pub view-determines-line : (widths : List ℕ) (v A : Line) → Fits widths A → Determines widths (v ∷ []) (A ∷ []) ↔ Covers v A
-view-determines-line widths v A fits = (
-  (λ d.
-      let c = determined-covers widths (v ∷ []) (A ∷ []) (one-reduced A)
-      (λ B m. subst (Fits widths) (sym (List·Memᴰ·eq-of-singleton m)) fits) d A (List·Memᴰ·head refl) in
-      covers-alone A v .1
-      (subst (λ (u : Line). CoversIn (A ∷ []) u A) (List·Memᴰ·eq-of-singleton (c .1)) (c .2))),
-  λ c. covered-determines widths (v ∷ []) (A ∷ [])
-      (λ B m.
-      (v, List·Memᴰ·head refl, subst (CoversIn (A ∷ []) v) (sym (List·Memᴰ·eq-of-singleton m)) (covers-alone A v .0 c))),
-)
+view-determines-line widths v A fits =
+    let k = views-determine-line widths (v ∷ []) A fits in (
+      λ d. let (u, m, c) = k .0 d in subst (λ (w : Line). Covers w A) (List·Memᴰ·eq-of-singleton m) c,
+      λ c. k .1 (v, List·Memᴰ·head refl, c),
+    )
 
 -- "This must be proved the same as rewriting"
 pub covers-iff-rewrites : (widths : List ℕ) (v A : Line) → Fits widths A → Covers v A ↔ Rewrites widths v A
