@@ -16,7 +16,7 @@ use Rattle.theory.proofs.Reduce.{reduced-subset}
 use Rattle.theory.proofs.Executable.Reduce.{reduce-reduces}
 use Rattle.theory.proofs.Tuples.{getD-mem, fits-over}
 use Rattle.words.specs.Bits.{isSet}
-use Rattle.model.specs.Limits.{mostColumns, mostTables, mostViews}
+use Rattle.model.specs.Limits.{mostTables, mostViews}
 use Rattle.model.specs.Checks.{wide}
 use Rattle.model.specs.Rows.{laidTable, LaidAt}
 use Rattle.model.specs.Value.{pad, lineValue}
@@ -57,7 +57,6 @@ module _ {d : Declared} {tables : Tables} {masks views : List ℕ} (ready : Read
   width-is = ap (λ (t : ℕ). getD (d .widths) (t - 1) 0) table-is ∙ sym (l .fits .width)
 
   pub narrow : getD (d .widths) (table - 1) 0 ≤ 8
-  unfolding mostColumns
   narrow =
       let m = getD-mem (d .widths) (table - 1) 0 (omega (arith, first-table, table-is, l .fits .last)) in
       up-to-iff 8 _ .0 (ready .good .tables .each _ m) .1

@@ -16,7 +16,7 @@ use Rattle.theory.specs.Executable.Label.{label, labels}
 use Rattle.theory.proofs.Lists.{length-without}
 use Rattle.theory.proofs.Executable.Reduce.{reduce-reduces}
 use Rattle.theory.proofs.Executable.Test.{and-iff, all-iff}
-use Rattle.model.specs.Limits.{mostLines, mostTables, mostColumns, mostViews, lastVariable, upTo, termWithin, lineWithin}
+use Rattle.model.specs.Limits.{mostTables, mostColumns, mostViews, upTo, termWithin, lineWithin}
 use Rattle.model.specs.Value.{queryValue, tablesValue}
 use Rattle.model.specs.declared.Policy.{Policy}
 use Rattle.model.specs.declared.Query.{Query as QueryValue}
@@ -35,7 +35,7 @@ use Rattle.labelling.specs.Text.{LoadedTo}
 
 -- "variables 0 to 63"
 small-read : {widths : List ℕ} {Q : Query} → WellRead widths Q → Small Q
-unfolding lineWithin termWithin lastVariable
+unfolding lineWithin termWithin
 small-read w n A i m =
     let t = all-iff termWithin (A .columns) .0 (and-iff (upTo mostTables (A .table)) (all termWithin (A .columns)) .0 (w .within A i) .1) (hidden n) m in
     omega (arith, leb→le n 63 t)
@@ -65,7 +65,6 @@ ready {d = d} l masks views =
 
 pub posed : {q : QueryValue} (d : Declared) (text : List ℕ) (Q : Query) → WellFormed d → read (d .widths) text ≡ accepted Q
     → q ≡ queryValue Q → Posed q d Q
-unfolding mostColumns mostLines
 posed d text Q good e holds =
     let w = accepted-well-read (d .widths) text Q e in
     let narrow : (n : ℕ) → n ∈ d .widths → n ≤ 8 = λ n i. up-to-iff mostColumns n .0 (good .tables .each n i) .1 in
@@ -82,7 +81,7 @@ reduced-length (done {Q = P} r) = le-refl (length P)
 reduced-length (take-out {Q = P} i g r) = omega (arith, reduced-length r, length-without i P (g .0))
 
 pub few-labels : (views : List TheLine) (widths text : List ℕ) (Q : Query) → read widths text ≡ accepted Q → length (labels views Q) ≤ 8
-unfolding labels show mostLines
+unfolding labels show
 few-labels views widths text Q e =
     let w = accepted-well-read widths text Q e in
     let R = reduce Q in

@@ -17,7 +17,7 @@ use Rattle.text.proofs.Each.{Each, each-nil, each-cons, each-map}
 use Rattle.text.proofs.Decimals.{decimal-short, numeral-decimal}
 use Rattle.text.proofs.Joined.{Printable, Clean, decimal-clean, fields-joined, Within, length-joined}
 use Rattle.model.specs.Fields.{both, every, mapped, term, lineOfFields, queryLine, numbered, oneNumeral, tableLine, viewLine, partitionLine}
-use Rattle.model.specs.Limits.{mostTables, upTo, termWithin, lineWithin, lastVariable}
+use Rattle.model.specs.Limits.{mostTables, upTo, termWithin, lineWithin}
 use Rattle.model.specs.Print.{printTerm, lineFields, printQueryLine, tableFields, partitionFields, printLine}
 use Rattle.model.proofs.Limits.{up-to-iff}
 
@@ -63,7 +63,7 @@ within-writable A h =
 -- ---- what the fields say
 
 term-printed : (t : Term) → T (termWithin t) → term (printTerm t) ≡ some t
-unfolding term printTerm mapped termWithin constantLimit lastVariable
+unfolding term printTerm mapped termWithin constantLimit
 term-printed (constant c) h = rw (numeral-decimal c (omega (arith, leb→le)))
 term-printed (shown n) h = rw (numeral-decimal n (omega (arith, leb→le)))
 term-printed (hidden n) h = rw (numeral-decimal n (omega (arith, leb→le)))
@@ -128,7 +128,7 @@ partition-printed n vs h k =
 -- ---- how long a line is: each numeral is taken as 10 bytes
 
 term-short : (t : Term) → T (termWithin t) → Within 11 (printTerm t)
-unfolding printTerm termWithin constantLimit lastVariable
+unfolding printTerm termWithin constantLimit
 term-short (constant c) h = suc-le-suc (decimal-short c (omega (arith, leb→le)))
 term-short (shown n) h = suc-le-suc (decimal-short n (omega (arith, leb→le)))
 term-short (hidden n) h = suc-le-suc (decimal-short n (omega (arith, leb→le)))

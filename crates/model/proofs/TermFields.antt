@@ -17,7 +17,7 @@ use Rattle.text.specs.declared.Numeral.the-variants.{Malformed, Large, Value}
 use Rattle.model.specs.declared.Field.{Field}
 use Rattle.model.specs.declared.Field.the-variants.{Malformed as MalformedField, Outside, Within}
 use Rattle.model.specs.Fields.{mapped, term}
-use Rattle.model.specs.Limits.{termWithin, lastVariable}
+use Rattle.model.specs.Limits.{termWithin}
 use Rattle.model.specs.Value.{termValue}
 use Rattle.model.specs.Parsed.{fieldValue}
 use Rattle.model.specs.Marks.{markOf, numberWithin}
@@ -54,12 +54,12 @@ variable-within n mark other true e = rw other
 variable-within n mark other false e = rw (large n e)
 
 shown-read : (o : Option ℕ) → fieldValue (mapped shown o) ≡ marked 2 (limited o)
-unfolding fieldValue mapped limited termWithin termValue constantLimit lastVariable
+unfolding fieldValue mapped limited termWithin termValue constantLimit
 shown-read none = refl
 shown-read (some n) = variable-within n 2 refl (leb n constantLimit) refl
 
 hidden-read : (o : Option ℕ) → fieldValue (mapped hidden o) ≡ marked 3 (limited o)
-unfolding fieldValue mapped limited termWithin termValue constantLimit lastVariable
+unfolding fieldValue mapped limited termWithin termValue constantLimit
 hidden-read none = refl
 hidden-read (some n) = variable-within n 3 refl (leb n constantLimit) refl
 
@@ -122,7 +122,7 @@ field-says o e = subst⁻¹ (λ (f : Field). Says f o) e (says o)
 
 -- a variable within the limits has a bit in a word
 pub variable-small : (u : Term) → termWithin u ≡ true → 1 < termValue u .mark → termValue u .number < 64
-unfolding termWithin termValue lastVariable
+unfolding termWithin termValue
 variable-small (constant c) e h = absurd (omega arith)
 variable-small (shown n) e h = omega (arith, leb-true n 63 e)
 variable-small (hidden n) e h = omega (arith, leb-true n 63 e)

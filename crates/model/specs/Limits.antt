@@ -10,7 +10,7 @@ use Rattle.text.specs.Numeral.{constantLimit}
 unfoldable pub mostTables : ℕ
 mostTables = 16
 
-unfoldable pub mostColumns : ℕ
+abbrev pub mostColumns : ℕ
 mostColumns = 8
 
 unfoldable pub mostViews : ℕ
@@ -19,10 +19,10 @@ mostViews = 32
 unfoldable pub mostPartitions : ℕ
 mostPartitions = 32
 
-unfoldable pub mostLines : ℕ
+abbrev pub mostLines : ℕ
 mostLines = 8
 
-unfoldable pub lastVariable : ℕ
+abbrev pub lastVariable : ℕ
 lastVariable = 63
 
 -- from 1 to the most
@@ -30,7 +30,7 @@ unfoldable pub upTo : ℕ → ℕ → Bool
 upTo most n = leb 1 n && leb n most
 
 unfoldable pub termWithin : Term → Bool
-unfolding constantLimit lastVariable
+unfolding constantLimit
 termWithin (constant c) = leb c constantLimit
 termWithin (shown n) = leb n lastVariable
 termWithin (hidden n) = leb n lastVariable

@@ -18,7 +18,6 @@ markOf b = cond (eqb b 35) 1 (cond (eqb b 33) 2 (cond (eqb b 63) 3 0))
 
 -- a numeral that is not large is within the limit of constants
 unfoldable pub numberWithin : ℕ → ℕ → Bool
-unfolding lastVariable
 numberWithin mark n = eqb mark 1 || leb n lastVariable
 
 -- a word with the bit of the term's number set, where the term has the mark

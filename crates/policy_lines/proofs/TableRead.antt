@@ -17,7 +17,7 @@ use Rattle.text.specs.declared.Numeral.{Numeral}
 use Rattle.text.specs.declared.Numeral.the-variants.{Malformed}
 use Rattle.text.proofs.Lines.{before-le, fields-last, fields-more}
 use Rattle.model.specs.Fields.{Numbered, oneNumeral, tableLine}
-use Rattle.model.specs.Limits.{mostTables, mostColumns}
+use Rattle.model.specs.Limits.{mostTables}
 use Rattle.model.specs.Parsed.{upToValue}
 use Rattle.policy_lines.specs.Value.{noTable, tableValue}
 use Rattle.policy_lines.proofs.Numbered.{NumberRead, number-alone, number-read, unnumbered, nothing-read, numbered-past, numbered-formed, numbered-within, malformed-none, formed-some, number-past, number-within, from-rest}
@@ -86,7 +86,7 @@ module _ {l : Option (Numbered ℕ)} {number columns : Numeral} {q : Option ℕ}
 
   pub columns-past : {m : ℕ} → (number ≡ Malformed → ⊥) → (columns ≡ Malformed → ⊥) → m ≡ upToValue columns 8 → m ≡ 0
       → noTable true ≡ tableValue l
-  unfolding tableValue mostColumns
+  unfolding tableValue
   columns-past f g up e =
       let x = number-past 8 (lit≤ tt) q (λ z. g (said ∙ z)) (sym (columns-up up) ∙ e) in
       let w = numbered-formed r (x .1) f in
@@ -94,7 +94,7 @@ module _ {l : Option (Numbered ℕ)} {number columns : Numeral} {q : Option ℕ}
 
   pub table-within : {k m : ℕ} → k ≡ upToValue number 16 → (k ≡ 0 → ⊥) → m ≡ upToValue columns 8 → (m ≡ 0 → ⊥)
       → record { ok = true; outside = false; number = k; columns = m } ≡ tableValue l
-  unfolding tableValue mostTables mostColumns
+  unfolding tableValue mostTables
   table-within {k} {m} up f wide g =
       let x = number-within 8 (lit≤ tt) q (λ z. g (columns-up wide ∙ z)) in
       let is : m ≡ x .0 = columns-up wide ∙ x .3 in

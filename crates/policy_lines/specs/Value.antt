@@ -22,7 +22,7 @@ unfoldable pub noTable : Bool → TableLine
 noTable ok = record { ok = ok; outside = ok; number = 0; columns = 0 }
 
 unfoldable pub tableValue : Option (Numbered ℕ) → TableLine
-unfolding noTable upTo mostTables mostColumns
+unfolding noTable upTo mostTables
 tableValue none = noTable false
 tableValue (some e) =
     cond (upTo mostTables (e .number) && upTo mostColumns (e .value))

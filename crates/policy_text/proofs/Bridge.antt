@@ -31,7 +31,7 @@ entries-back n none f g l h =
     ap (map g) (ap (λ (k : ℕ). take k (pad n none (map f l))) (sym (length-map l f)) ∙ pad-take n none (map f l)) ∙ map-back f g l h
 
 pub stands-for : (d : Declared) → WellFormed d → declaredBy (policyValue d) ≡ d
-unfolding declaredBy policyValue tablesValue mostColumns
+unfolding declaredBy policyValue tablesValue
 stands-for d w =
     let widths = pad-take 16 0 (d .widths) in
     let views = entries-back 32 unusedLine lineValue asLine (d .views)

@@ -11,7 +11,7 @@ use Rattle.theory.specs.Query.{Line}
 use Rattle.text.specs.Lines.{lines, sameBytes}
 use Rattle.text.specs.Names.{tableColumns, viewTableTerms, partitionViews}
 use Rattle.model.specs.Fields.{Numbered}
-use Rattle.model.specs.Limits.{mostTables, mostColumns, mostViews, mostPartitions}
+use Rattle.model.specs.Limits.{mostTables, mostViews, mostPartitions}
 use Rattle.model.specs.Print.{tableFields, lineFields, partitionFields, printLine}
 use Rattle.model.proofs.Printed.{table-printed, view-printed, partition-printed}
 use Rattle.policy_text.specs.Text.{nothing, accepted, mostPolicyBytes, entered, tables, views, partitions, enter, isNext, nextBlock, policyEnds, loadFrom, loadLines, load}
@@ -31,7 +31,7 @@ use Rattle.policy_text.proofs.Loaded.{loaded-well-formed, loaded-printe
 table-enters : (d : Declared) (w : ℕ) → length (d .widths) < mostTables → GoodWidth w
     → enter tables d (printLine (suc (length (d .widths))) (tableFields w))
     ≡ entered (record { widths = d .widths ++ w ∷ []; views = d .views; partitions = d .partitions })
-unfolding enter mostTables mostColumns
+unfolding enter mostTables
 table-enters d w h g =
     let k = up-to-iff 8 w .0 g in
     let n = suc (length (d .widths)) in

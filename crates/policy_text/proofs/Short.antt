@@ -11,7 +11,7 @@ use Rattle.text.specs.Print.{decimal, endEach}
 use Rattle.text.proofs.Each.{each-nil, each-cons, each-map}
 use Rattle.text.proofs.Decimals.{decimal-short}
 use Rattle.text.proofs.Joined.{Within, length-joined, length-ended, length-parts}
-use Rattle.model.specs.Limits.{mostTables, mostColumns, mostViews, mostPartitions}
+use Rattle.model.specs.Limits.{mostTables, mostViews, mostPartitions}
 use Rattle.model.specs.Print.{tableFields, lineFields, partitionFields, printLine}
 use Rattle.model.proofs.Printed.{view-short}
 use Rattle.policy_text.specs.Declared.{Declared}
@@ -36,7 +36,7 @@ block-short fieldsOf most m Good l small h short =
 -- ---- the lines of the three blocks
 
 table-short : (n w : ℕ) → n < 10 ^ 10 → GoodWidth w → Within 21 (printLine n (tableFields w))
-unfolding printLine tableFields mostColumns
+unfolding printLine tableFields
 table-short n w h g =
     let k = up-to-iff 8 w .0 g in
     length-joined 10 (decimal n) (decimal w ∷ [])

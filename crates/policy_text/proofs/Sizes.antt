@@ -21,7 +21,6 @@ pub record ViewSize (A : Line) : Type 0 where
 
 pub view-size : (widths : List ℕ) (A : Line)
     → OneToMost mostTables GoodWidth widths → GoodView widths A → ViewSize A
-unfolding mostColumns
 view-size widths A tables g =
     let columns = up-to-iff mostColumns (length (A .columns)) .0 (width-is GoodWidth widths (tables .each) A (g .fits)) in
     record { writable = within-writable A (g .within); least = columns .0; most = columns .1 }

@@ -43,7 +43,7 @@ tableChecks d e =
 
 -- the number of the first that turns the line back, 0 where none does; so in each block
 unfoldable pub tableFault : Declared → Numbered ℕ → ℕ
-unfolding firstFault upTo mostTables mostColumns
+unfolding firstFault upTo mostTables
 tableFault d e = firstFault (tableChecks d e)
 
 -- and 4, 5 and 6

@@ -35,7 +35,6 @@ record SoFar (widths : List ℕ) (Q : Query) : Type 0 where
   clear : NoClash Q
 
 none-read : (widths : List ℕ) → SoFar widths []
-unfolding mostLines
 none-read widths =
     record {
       few = omega arith;
@@ -52,7 +51,7 @@ each-more P l A h k = each-append P l (A ∷ []) h (each-cons P A [] k (each-nil
 -- a line with a term and without a fault may stand behind them
 more-read : (widths : List ℕ) (earlier : List Line) (A : Line) → SoFar widths earlier → 1 ≤ length (A .columns)
     → fault widths earlier A ≡ 0 → SoFar widths (earlier ++ A ∷ [])
-unfolding fault firstFault mostLines
+unfolding fault firstFault
 more-read widths earlier A w t e =
     let a = no-fault (leb mostLines (length earlier)) 6 _ e in
     let b = no-fault (not (lineWithin A)) 1 _ (a .1) in

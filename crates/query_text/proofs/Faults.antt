@@ -11,7 +11,7 @@ use borrow.Author.Tests.{le-leb, lt-leb, not-true, not-false}
 use Rattle.theory.specs.Query.{Line}
 use Rattle.theory.specs.Executable.Test.{all}
 use Rattle.theory.proofs.Executable.Test.{and-iff}
-use Rattle.model.specs.Limits.{mostTables, upTo, mostLines, termWithin, lineWithin}
+use Rattle.model.specs.Limits.{mostTables, upTo, termWithin, lineWithin}
 use Rattle.model.specs.Checks.{firstFault, misfit}
 use Rattle.model.specs.Parsed.{blankValue, goodValue, parsedLine}
 use Rattle.model.specs.declared.Parsed.{Parsed}
@@ -74,15 +74,15 @@ module _ (p : Parsed) (A : Line) (e : p ≡ parsedLine (some A)) where
 module _ (widths : List ℕ) (earlier : List Line) (A : Line) (count : ℕ) (p : Parsed) (counted : count ≡ length earlier)
     (read : p ≡ parsedLine (some A)) where
   pub ninth : 8 ≤ count → 7 ≡ fault widths earlier A
-  unfolding fault firstFault mostLines
+  unfolding fault firstFault
   ninth l = rw (le-leb 8 (length earlier) (omega arith))
 
   module _ (few : count < 8) where
     pub past-limit : p .outside ≡ true → 2 ≡ fault widths earlier A
-    unfolding fault firstFault mostLines
+    unfolding fault firstFault
     past-limit o = rw (lt-leb 8 (length earlier) (omega arith), is-outside p A read o)
 
     -- what is left are the checks against the tables and the lines before it
     pub checked : p .outside ≡ false → misfit widths earlier A ≡ fault widths earlier A
-    unfolding fault firstFault mostLines misfit
+    unfolding fault firstFault misfit
     checked o = rw (lt-leb 8 (length earlier) (omega arith), is-within p A read o)

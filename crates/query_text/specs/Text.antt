@@ -34,7 +34,7 @@ lineChecks widths earlier A =
 
 -- the number of the first that does, 0 where none does
 unfoldable pub fault : List ℕ → List Line → Line → ℕ
-unfolding firstFault mostLines lineWithin known wide clashing
+unfolding firstFault lineWithin known wide clashing
 fault widths earlier A = firstFault (lineChecks widths earlier A)
 
 -- the text stops here: with a tail that lacks its end, or before the first line of values, it is faulty at this line

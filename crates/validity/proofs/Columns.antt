@@ -18,7 +18,7 @@ use Rattle.theory.specs.Executable.Test.{same, kind, number}
 use Rattle.theory.proofs.Executable.Test.{and-iff, same-iff}
 use Rattle.words.specs.Sets.{setBit, meet}
 use Rattle.words.proofs.Tests.{meet-iff}
-use Rattle.model.specs.Limits.{mostColumns, termWithin, lastVariable}
+use Rattle.model.specs.Limits.{mostColumns, termWithin}
 use Rattle.model.specs.Value.{termValue, unusedTerm}
 use Rattle.model.specs.declared.Term.{Term}
 use Rattle.validity.specs.Parts.{HoldsList, GoodTerm, TermOf, TermPlace, TermsHeld}
@@ -78,13 +78,12 @@ same-value t u e =
     (yes-eqb (suc-inj (ap (λ (x : Term). x .mark) e)), yes-eqb (ap (λ (x : Term). x .number) e)))
 
 pub terms-place : (w : ℕ) (ts : List Term) → TermsHeld w ts → (k : ℕ) → k < 8 → TermPlace (ltb k w) (getD ts k unusedTerm)
-unfolding mostColumns
 terms-place w ts d k b = held-checked GoodTerm termValue unusedTerm 8 w ts (d .held) .places k b
 
 module _ (w : ℕ) (ts : List Term) (h : HoldsList mostColumns GoodTerm termValue unusedTerm w ts) where
   -- a term that stands among them is held
   found-held : (u : TheTerm) (k : ℕ) → k < 8 → getD ts k unusedTerm ≡ termValue u → u ∈ h .things
-  unfolding termValue unusedTerm mostColumns
+  unfolding termValue unusedTerm
   found-held u k b e =
       by-cases (decLt k w)
       (λ l.
@@ -108,7 +107,7 @@ module _ {w : ℕ} {ts : List Term} {s h i : ℕ} (l : Looked w ts s h i) (all :
   -- a variable that is shown and hidden is a bit that both words have
   clash-meets : (d : HoldsList 8 GoodTerm termValue unusedTerm w ts) (n : ℕ) → shown n ∈ d .things → hidden n ∈ d .things
       → meet 64 s h ≡ true
-  unfolding termValue kind number termWithin lastVariable
+  unfolding termValue kind number termWithin
   clash-meets d n a b =
       let p = held-place GoodTerm termValue unusedTerm 8 w ts d (shown n) a in
       let q = held-place GoodTerm termValue unusedTerm 8 w ts d (hidden n) b in
@@ -132,7 +131,6 @@ module _ {w : ℕ} {ts : List Term} {s h i : ℕ} (l : Looked w ts s h i) (all :
       (found-held w ts (d .held) (hidden n) (q .0) (omega (arith, q .1, l .few)) (q .2))
 
   pub looked-done : length ts ≡ 8 → 1 ≤ w → w ≤ 8 → (not (meet 64 s h) ≡ true) ↔ TermsHeld w ts
-  unfolding mostColumns
   looked-done long some few =
       let d = looked-held long some few in (
         λ e. record { held = d; clear = λ n a b. false≢true (sym (not-true (meet 64 s h) e) ∙ clash-meets d n a b) },

@@ -5,7 +5,7 @@ use mathlib.Core.List.{List}
 use Prim.Native.Nat.{ℕ, _≤_}
 use lib.ListN.{length}
 use Rattle.theory.proofs.Tuples.{map-self}
-use Rattle.model.specs.Limits.{mostTables, mostColumns}
+use Rattle.model.specs.Limits.{mostTables}
 use Rattle.model.specs.Value.{pad, tablesValue}
 use Rattle.model.specs.declared.Tables.{Tables}
 use Rattle.model.proofs.Limits.{up-to-iff}
@@ -14,7 +14,6 @@ use Rattle.policy_text.specs.WellFormed.{GoodWidth}
 use Rattle.validity.proofs.Held.{Checked, checked-held, held-checked}
 
 pub width-iff : (w : ℕ) → ValueOf GoodWidth (λ w. w) w ↔ ((1 ≤ w) × (w ≤ 8))
-unfolding mostColumns
 width-iff w = (
   λ h. up-to-iff 8 w .0 (rw (h .is) (h .good)),
   λ k. record { thing = w; good = up-to-iff 8 w .1 k; is = refl },

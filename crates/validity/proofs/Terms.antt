@@ -10,7 +10,7 @@ use Rattle.theory.specs.Query.{constant, shown, hidden}
 use Rattle.theory.specs.Query.{Term as TheTerm}
 use Rattle.theory.specs.Executable.Test.{kind, number}
 use Rattle.text.specs.Numeral.{constantLimit}
-use Rattle.model.specs.Limits.{termWithin, lastVariable}
+use Rattle.model.specs.Limits.{termWithin}
 use Rattle.model.specs.Value.{termValue}
 use Rattle.model.specs.declared.Term.{Term}
 use Rattle.validity.specs.Parts.{TermOf}
@@ -27,7 +27,7 @@ pub data Marked (t : Term) : Type 0 where
 
 module _ (t : Term) where
   value-marked : (u : TheTerm) → T (termWithin u) → t ≡ termValue u → Marked t
-  unfolding termValue kind number termWithin lastVariable constantLimit
+  unfolding termValue kind number termWithin constantLimit
   value-marked (constant n) w e =
       as-constant (ap (λ (x : Term). x .mark) e) (rw (ap (λ (x : Term). x .number) e) (leb→le n 4_294_967_295 w))
   value-marked (shown n) w e = as-shown (ap (λ (x : Term). x .mark) e) (rw (ap (λ (x : Term). x .number) e) (leb→le n 63 w))
@@ -63,14 +63,14 @@ module _ (t : Term) where
   variable-large f large h = omega (arith, variable-bound f (holds-marked h))
 
   shown-holds : t .mark ≡ 2 → t .number ≤ 63 → TermOf t
-  unfolding termValue kind number termWithin lastVariable
+  unfolding termValue kind number termWithin
   shown-holds m b = record { thing = shown (t .number); good = le→leb (t .number) 63 b; is = term-path m refl }
 
   pub shown-iff : t .mark ≡ 2 → t .number ≤ 63 → (eqb (t .mark) 2 ≡ true) ↔ TermOf t
   shown-iff m b = (λ e. shown-holds m b, λ h. eq-eqb (t .mark) 2 m)
 
   hidden-holds : t .mark ≡ 3 → t .number ≤ 63 → TermOf t
-  unfolding termValue kind number termWithin lastVariable
+  unfolding termValue kind number termWithin
   hidden-holds m b = record { thing = hidden (t .number); good = le→leb (t .number) 63 b; is = term-path m refl }
 
   hidden-mark : (t .mark ≡ 1 → ⊥) → (t .mark ≡ 2 → ⊥) → Marked t → t .mark ≡ 3

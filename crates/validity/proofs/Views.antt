@@ -8,7 +8,7 @@ use lib.ListN.{length, getD, take, length-map}
 use lib.Seq.{take-all}
 use Rattle.theory.specs.Query.{Line as TheLine}
 use Rattle.theory.proofs.Executable.Test.{and-iff, all-iff}
-use Rattle.model.specs.Limits.{mostTables, mostColumns, mostViews, upTo, termWithin, lineWithin}
+use Rattle.model.specs.Limits.{mostTables, mostViews, upTo, termWithin, lineWithin}
 use Rattle.model.specs.Checks.{known, wide}
 use Rattle.model.specs.Value.{pad, unusedTerm, termValue, termsValue, unusedLine, lineValue, tablesValue}
 use Rattle.model.specs.declared.Line.{Line}
@@ -53,7 +53,7 @@ module _ (widths : List ℕ) (t : Tables) (tables : TablesOf widths t) where
         (omega (arith, same, v .good .fits .first), omega (arith, same, v .good .fits .last, tables-count))
 
     terms-view : 1 ≤ l .table → l .table ≤ t .count → TermsHeld (getD (t .columns) (l .table - 1) 0) (l .terms) → ViewOf widths l
-    unfolding lineWithin known wide lineValue termsValue mostTables mostColumns
+    unfolding lineWithin known wide lineValue termsValue mostTables
     terms-view some last d =
         let A : TheLine = record { table = l .table; columns = d .held .things } in
         let terms = d .held .is ∙ sym (kept (map termValue (A .columns)) (rw length-map (d .held .listed .few))) in
@@ -72,7 +72,7 @@ module _ (widths : List ℕ) (t : Tables) (tables : TablesOf widths t) where
         }
 
     view-terms : ViewOf widths l → TermsHeld (getD (t .columns) (l .table - 1) 0) (l .terms)
-    unfolding lineWithin wide lineValue termsValue mostTables mostColumns
+    unfolding lineWithin wide lineValue termsValue mostTables
     view-terms v =
         let A = v .thing in
         let at = view-table v in
