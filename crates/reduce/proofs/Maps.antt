@@ -1,7 +1,7 @@
 -- An assignment among the candidates is a map that sends the lines at the bits of one word to those at the bits of another.
 use mathlib.Core.Path.{_≡_, subst}
 use mathlib.Core.List.{List}
-use Prim.Native.Nat.{ℕ, _+_, _*_, _/_, _%_, _^_, _<_}
+use Prim.Native.Nat.{ℕ, _^_, _<_}
 use native.Mathlib.Decide.{ℕ-discrete, decLt}
 use native.Mathlib.Omega.{arith}
 use lib.Dec.{T}
@@ -11,19 +11,15 @@ use Rattle.theory.specs.Reduce.{Sends}
 use Rattle.words.specs.Bits.{bit}
 use Rattle.words.proofs.Bits.{bit-within}
 use Rattle.model.specs.Limits.{mostLines}
+use Rattle.reduce.specs.PairNumbers.{pairOf}
 use Rattle.reduce.specs.Agree.{agree, lineAt}
 use Rattle.reduce.specs.Extends.{Extends}
 use Rattle.reduce.specs.Left.{linesAt}
 use Rattle.reduce.specs.Pairs.{Candidate, PairsTabled}
+use Rattle.reduce.proofs.PairNumbers.{line-of, target-of}
 use Rattle.reduce.proofs.Agree.{agree-swap}
 use Rattle.reduce.proofs.Assign.{Assigned, assigned-iff}
 use Rattle.reduce.proofs.Left.{in-lines, lines-in}
-
-line-of : (i j : ℕ) → j < mostLines → (i * mostLines + j) / mostLines ≡ i
-line-of i j h = omega arith
-
-target-of : (i j : ℕ) → j < mostLines → (i * mostLines + j) % mostLines ≡ j
-target-of i j h = omega arith
 
 module _ {Q : Query} {c : ℕ} {words : List ℕ} (tabled : PairsTabled Q c words) (rows targets : ℕ) where
   -- line i with target t and line j with target u
@@ -34,13 +30,13 @@ module _ {Q : Query} {c : ℕ} {words : List ℕ} (tabled : PairsTabled Q c word
     small : (i : ℕ) → bit rows i ≡ 1 → x .target i < mostLines
     small i h = bit-within mostLines (x .target i) few (x .allowed i h)
 
-    chosen : (i : ℕ) → bit rows i ≡ 1 → Candidate Q (i * mostLines + x .target i)
-    chosen i h = tabled .candidates (i * mostLines + x .target i) .0 (x .candidate i h)
+    chosen : (i : ℕ) → bit rows i ≡ 1 → Candidate Q (pairOf i (x .target i))
+    chosen i h = tabled .candidates (pairOf i (x .target i)) .0 (x .candidate i h)
 
     before : (i j : ℕ) → bit rows i ≡ 1 → bit rows j ≡ 1 → i < j → Agreed i (x .target i) j (x .target j)
     before i j h g l =
         rw (line-of i (x .target i) (small i h), target-of i (x .target i) (small i h), line-of j (x .target j) (small j g), target-of j (x .target j) (small j g)) at
-        (tabled .pairs (i * mostLines + x .target i) (x .candidate i h) (j * mostLines + x .target j) .0 (x .joint i j h g l) .1)
+        (tabled .pairs (pairOf i (x .target i)) (x .candidate i h) (pairOf j (x .target j)) .0 (x .joint i j h g l) .1)
 
     extends-assigned : Assigned Q rows (linesAt targets Q)
     extends-assigned = record {
@@ -88,11 +84,11 @@ module _ {Q : Query} {c : ℕ} {words : List ℕ} (tabled : PairsTabled Q c word
     agreeing : (i j : ℕ) → bit rows i ≡ 1 → bit rows j ≡ 1 → Agreed i (t i) j (t j)
     agreeing i j h g = rw (right i h .same, right j g .same) (a .joint i j (there i h) (there j g) h g)
 
-    candidate : (i : ℕ) → bit rows i ≡ 1 → bit c (i * mostLines + t i) ≡ 1
+    candidate : (i : ℕ) → bit rows i ≡ 1 → bit c (pairOf i (t i)) ≡ 1
     candidate i h =
         let d = line-of i (t i) (small-target i h) in
         let m = target-of i (t i) (small-target i h) in
-        tabled .candidates (i * mostLines + t i) .1
+        tabled .candidates (pairOf i (t i)) .1
         (record { line = rw d (there i h); target = rw m (right i h .below); goes = rw (d, m) (agreeing i i h h) })
 
     assigned-extends : Extends rows targets c words
@@ -101,7 +97,7 @@ module _ {Q : Query} {c : ℕ} {words : List ℕ} (tabled : PairsTabled Q c word
       allowed = λ i h. right i h .allowed;
       candidate = candidate;
       joint = λ i j h g l.
-          tabled .pairs (i * mostLines + t i) (candidate i h) (j * mostLines + t j) .1 (
+          tabled .pairs (pairOf i (t i)) (candidate i h) (pairOf j (t j)) .1 (
             candidate j g,
             rw (line-of i (t i) (small-target i h), target-of i (t i) (small-target i h), line-of j (t j) (small-target j g), target-of j (t j) (small-target j g)) (agreeing i j h g),
           );

@@ -13,7 +13,8 @@ use Rattle.words.specs.Bits.{bit}
 use Rattle.words.specs.Sets.{include}
 use Rattle.words.proofs.Answers.{true-iff}
 use Rattle.words.proofs.Tests.{include-iff}
-use Rattle.model.specs.Limits.{mostLines, mostColumns}
+use Rattle.model.specs.Limits.{mostColumns}
+use Rattle.reduce.specs.PairNumbers.{pairOf, lineOf, targetOf}
 use Rattle.reduce.specs.Agree.{lineAt}
 use Rattle.reduce.specs.Columns.{SameColumn, SameColumns}
 use Rattle.reduce.specs.Pairs.{Going, Goings, Columns, joins, Candidates, PairWords, Joined, Candidate, PairsTabled}
@@ -65,22 +66,22 @@ module _ (A S B D : Line) (few : length (A .columns) ≤ mostColumns) (few′ : 
 joined-iff : {Q : Query} {rows : List ℕ} → Laid Q rows → (columns : List ℕ) → Columns Q columns → (p b : ℕ) → Going Q p → Going Q b → T (joins columns p b) ↔ Joined Q p b
 unfolding joins
 joined-iff {Q} laid columns right p b g h =
-    let A = lineAt Q (p / mostLines) in
-    let S = lineAt Q (p % mostLines) in
-    let B = lineAt Q (b / mostLines) in
-    let D = lineAt Q (b % mostLines) in
+    let A = lineAt Q (lineOf p) in
+    let S = lineAt Q (targetOf p) in
+    let B = lineAt Q (lineOf b) in
+    let D = lineAt Q (targetOf b) in
     let x = goes-iff A S .0 (g .goes) in
     let y = goes-iff B D .0 (h .goes) in
     let k = agree-iff A S B D in
     let j =
-    include-joint A S B D (laid-few laid (p / mostLines) (g .line)) (laid-few laid (b / mostLines) (h .line)) x y (getD columns (p / mostLines * mostLines + b / mostLines) 0)
-    (getD columns (p % mostLines * mostLines + b % mostLines) 0) (right .same (p / mostLines) (b / mostLines) (g .line) (h .line)) (right .same (p % mostLines) (b % mostLines) (g .target) (h .target)) in
+    include-joint A S B D (laid-few laid (lineOf p) (g .line)) (laid-few laid (lineOf b) (h .line)) x y (getD columns (pairOf (lineOf p) (lineOf b)) 0)
+    (getD columns (pairOf (targetOf p) (targetOf b)) 0) (right .same (lineOf p) (lineOf b) (g .line) (h .line)) (right .same (targetOf p) (targetOf b) (g .target) (h .target)) in
     (λ t. k .1 (x, y, j .0 t), λ a. j .1 (k .0 a .2))
 
 candidate-going : {Q : Query} {p : ℕ} → Candidate Q p → Going Q p
 candidate-going {Q} {p} c =
-    let A = lineAt Q (p / mostLines) in
-    let S = lineAt Q (p % mostLines) in
+    let A = lineAt Q (lineOf p) in
+    let S = lineAt Q (targetOf p) in
     record { line = c .line; target = c .target; goes = goes-iff A S .1 (agree-iff A S A S .0 (c .goes) .0) }
 
 pub tabled : {Q : Query} {rows : List ℕ} → Laid Q rows → (g : ℕ) (columns : List ℕ) (m : ℕ) (words : List ℕ) → Goings Q g → Columns Q columns

@@ -1,29 +1,26 @@
--- The words from which it is told which lines may go. Pair p is line p / mostLines with target p % mostLines.
+-- The words from which it is told which lines may go.
 use mathlib.Core.Path.{_≡_}
 use mathlib.Core.Logic.{_↔_}
 use mathlib.Core.Bool.{Bool}
 use mathlib.Core.List.{List}
-use Prim.Native.Nat.{ℕ, _+_, _*_, _/_, _%_, _≤_, _<_}
+use Prim.Native.Nat.{ℕ, _≤_, _<_}
 use lib.Dec.{T}
 use lib.ListN.{length, getD}
 use Rattle.theory.specs.Query.{Query}
 use Rattle.words.specs.Bits.{bit}
 use Rattle.words.specs.Sets.{include}
 use Rattle.model.specs.Limits.{mostLines}
+use Rattle.reduce.specs.PairNumbers.{mostPairs, pairOf, lineOf, targetOf}
 use Rattle.reduce.specs.Agree.{goes, agree, lineAt}
 use Rattle.reduce.specs.Columns.{SameColumns}
 
--- every line with every line
-abbrev pub mostPairs : ℕ
-mostPairs = mostLines * mostLines
-
 -- ---- what the code builds
 
--- line p / mostLines could go to line p % mostLines
+-- the line of pair p could go to its target
 pub record Going (Q : Query) (p : ℕ) : Type 0 where
-  pub line : p / mostLines < length Q
-  pub target : p % mostLines < length Q
-  pub goes : T (goes (lineAt Q (p / mostLines)) (lineAt Q (p % mostLines)))
+  pub line : lineOf p < length Q
+  pub target : targetOf p < length Q
+  pub goes : T (goes (lineAt Q (lineOf p)) (lineAt Q (targetOf p)))
 
 abbrev pub Goings : Query → ℕ → Type 0
 Goings Q m = (p : ℕ) → (bit m p ≡ 1) ↔ Going Q p
@@ -31,12 +28,12 @@ Goings Q m = (p : ℕ) → (bit m p ≡ 1) ↔ Going Q p
 -- for each two lines the columns that have the same term
 pub record Columns (Q : Query) (columns : List ℕ) : Type 0 where
   pub long : length columns ≡ mostPairs
-  pub same : (i j : ℕ) → i < length Q → j < length Q → SameColumns (lineAt Q i) (lineAt Q j) (getD columns (i * mostLines + j) 0)
+  pub same : (i j : ℕ) → i < length Q → j < length Q → SameColumns (lineAt Q i) (lineAt Q j) (getD columns (pairOf i j) 0)
 
 -- where the lines of pairs p and b have the same term, so have their targets
 unfoldable pub joins : List ℕ → ℕ → ℕ → Bool
 unfolding include
-joins columns p b = include 64 (getD columns (p % mostLines * mostLines + b % mostLines) 0) (getD columns (p / mostLines * mostLines + b / mostLines) 0)
+joins columns p b = include 64 (getD columns (pairOf (targetOf p) (targetOf b)) 0) (getD columns (pairOf (lineOf p) (lineOf b)) 0)
 
 abbrev pub Candidates : List ℕ → ℕ → ℕ → Type 0
 Candidates columns goings m = (p : ℕ) → (bit m p ≡ 1) ↔ ((bit goings p ≡ 1) × T (joins columns p p))
@@ -52,12 +49,12 @@ pub record PairWords (columns : List ℕ) (m : ℕ) (words : List ℕ) : Type 0 
 
 -- one map can send the lines of pairs p and b to their targets
 abbrev pub Joined : Query → ℕ → ℕ → Type 0
-Joined Q p b = T (agree (lineAt Q (p / mostLines)) (lineAt Q (p % mostLines)) (lineAt Q (b / mostLines)) (lineAt Q (b % mostLines)))
+Joined Q p b = T (agree (lineAt Q (lineOf p)) (lineAt Q (targetOf p)) (lineAt Q (lineOf b)) (lineAt Q (targetOf b)))
 
--- line p / mostLines can go to line p % mostLines by itself
+-- the line of pair p can go to its target by itself
 pub record Candidate (Q : Query) (p : ℕ) : Type 0 where
-  pub line : p / mostLines < length Q
-  pub target : p % mostLines < length Q
+  pub line : lineOf p < length Q
+  pub target : targetOf p < length Q
   pub goes : Joined Q p p
 
 -- the candidates of a query, and for each the candidates that are compatible with it

@@ -7,7 +7,7 @@ ghost use Prim.Native.Nat.{_^_, _<_};
 ghost use lib.ListN.{length};
 ghost use Rattle.model.specs.Limits.{mostLines};
 ghost use Rattle.reduce.specs.Extends.{TargetsOf, EmptyRow, Extends};
-ghost use Rattle.reduce.specs.Pairs.{mostPairs};
+ghost use Rattle.reduce.specs.PairNumbers.{mostPairs};
 use crate::pairs::PAIRS;
 use model::MOST_LINES;
 

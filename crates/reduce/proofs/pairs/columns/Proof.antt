@@ -1,10 +1,11 @@
 use mathlib.Core.Path.{_≡_, refl}
 use mathlib.Core.Logic.{⊎-elim}
-use Prim.Native.Nat.{_*_, _/_, _%_, _-_, _≤_, _<_}
+use Prim.Native.Nat.{_*_, _-_, _≤_, _<_}
 use native.Mathlib.Omega.{arith}
 use lib.ListN.{length}
 use Rattle.theory.specs.Query.{Query}
 use Rattle.model.specs.Limits.{mostLines}
+use Rattle.reduce.specs.PairNumbers.{lineOf, targetOf}
 use Rattle.reduce.specs.Agree.{lineAt}
 use Rattle.reduce.specs.Laid.{Laid}
 use Rattle.reduce.proofs.Lines.{laid-few}
@@ -45,13 +46,13 @@ loop-again c = (
   λ Q e laid.
       let loop = c .before .before .loop in
       let p = loop .p in
-      let i : p / mostLines < length Q = omega (arith, e, c .before .loop-test .taken) in
+      let i : lineOf p < length Q = omega (arith, e, c .before .loop-test .taken) in
       ⊎-elim
       (λ w.
-      let j : p % mostLines < length Q = omega (arith, e, w .0 .taken) in
+      let j : targetOf p < length Q = omega (arith, e, w .0 .taken) in
       rw (w .2)
       (compared-more p (w .1 .result) _ (omega arith) (loop .inv .1 Q e laid)
-      (w .1 .ensures (lineAt Q (p / mostLines)) (lineAt Q (p % mostLines)) (laid .row (p / mostLines) i) (laid .row (p % mostLines) j) (laid-few laid (p / mostLines) i) (laid-few laid (p % mostLines) j))))
+      (w .1 .ensures (lineAt Q (lineOf p)) (lineAt Q (targetOf p)) (laid .row (lineOf p) i) (laid .row (targetOf p) j) (laid-few laid (lineOf p) i) (laid-few laid (targetOf p) j))))
       (λ w. rw (w .1) (compared-skip p _ (omega (arith, e, w .0 .left)) (loop .inv .1 Q e laid))) (c .if1 .came),
 )
 
