@@ -16,7 +16,7 @@ use Rattle.theory.proofs.Reduce.{reduced-subset}
 use Rattle.theory.proofs.Executable.Reduce.{reduce-reduces}
 use Rattle.theory.proofs.Tuples.{getD-mem, fits-over}
 use Rattle.words.specs.Bits.{isSet}
-use Rattle.model.specs.Limits.{mostColumns, mostTables, mostViews}
+use Rattle.model.specs.Limits.{mostTables, mostViews}
 use Rattle.model.specs.Checks.{wide}
 use Rattle.model.specs.Rows.{laidTable, LaidAt}
 use Rattle.model.specs.Value.{pad, lineValue}

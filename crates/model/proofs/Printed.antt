@@ -17,7 +17,7 @@ use Rattle.text.proofs.Each.{Each, each-nil, each-cons, each-map}
 use Rattle.text.proofs.Decimals.{decimal-short, numeral-decimal}
 use Rattle.text.proofs.Joined.{Printable, Clean, decimal-clean, fields-joined, Within, length-joined}
 use Rattle.model.specs.Fields.{both, every, mapped, term, lineOfFields, queryLine, numbered, oneNumeral, tableLine, viewLine, partitionLine}
-use Rattle.model.specs.Limits.{mostTables, upTo, termWithin, lineWithin, lastVariable}
+use Rattle.model.specs.Limits.{mostTables, upTo, termWithin, lineWithin}
 use Rattle.model.specs.Print.{printTerm, lineFields, printQueryLine, tableFields, partitionFields, printLine}
 use Rattle.model.proofs.Limits.{up-to-iff}
 

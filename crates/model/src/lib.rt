@@ -12,6 +12,7 @@ pub use read::read_line;
 pub use read::read_term;
 pub use read::read_terms;
 pub use read::up_to;
+pub use rows::ROW;
 pub use rows::lay_line;
 pub use rows::set_mark;
 pub use rows::table_at;
@@ -35,7 +36,14 @@ pub const MOST_VIEWS: usize = 32;
 
 pub const MOST_PARTITIONS: usize = 32;
 
+pub const MOST_COLUMNS: usize = 8;
+
+pub const MOST_LINES: usize = 8;
+
 pub const LAST_VARIABLE: u64 = 63;
+
+// The lines of a query as rows.
+pub type QueryRows = [u64; MOST_LINES * ROW];
 
 // A mark and a number; an unused term is all 0.
 pub struct Term {

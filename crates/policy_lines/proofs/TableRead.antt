@@ -17,7 +17,7 @@ use Rattle.text.specs.declared.Numeral.{Numeral}
 use Rattle.text.specs.declared.Numeral.the-variants.{Malformed}
 use Rattle.text.proofs.Lines.{before-le, fields-last, fields-more}
 use Rattle.model.specs.Fields.{Numbered, oneNumeral, tableLine}
-use Rattle.model.specs.Limits.{mostTables, mostColumns}
+use Rattle.model.specs.Limits.{mostTables}
 use Rattle.model.specs.Parsed.{upToValue}
 use Rattle.policy_lines.specs.Value.{noTable, tableValue}
 use Rattle.policy_lines.proofs.Numbered.{NumberRead, number-alone, number-read, unnumbered, nothing-read, numbered-past, numbered-formed, numbered-within, malformed-none, formed-some, number-past, number-within, from-rest}

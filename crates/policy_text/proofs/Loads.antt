@@ -11,7 +11,7 @@ use Rattle.theory.specs.Query.{Line}
 use Rattle.text.specs.Lines.{lines, sameBytes}
 use Rattle.text.specs.Names.{tableColumns, viewTableTerms, partitionViews}
 use Rattle.model.specs.Fields.{Numbered}
-use Rattle.model.specs.Limits.{mostTables, mostColumns, mostViews, mostPartitions}
+use Rattle.model.specs.Limits.{mostTables, mostViews, mostPartitions}
 use Rattle.model.specs.Print.{tableFields, lineFields, partitionFields, printLine}
 use Rattle.model.proofs.Printed.{table-printed, view-printed, partition-printed}
 use Rattle.policy_text.specs.Text.{nothing, accepted, mostPolicyBytes, entered, tables, views, partitions, enter, isNext, nextBlock, policyEnds, loadFrom, loadLines, load}

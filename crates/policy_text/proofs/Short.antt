@@ -11,7 +11,7 @@ use Rattle.text.specs.Print.{decimal, endEach}
 use Rattle.text.proofs.Each.{each-nil, each-cons, each-map}
 use Rattle.text.proofs.Decimals.{decimal-short}
 use Rattle.text.proofs.Joined.{Within, length-joined, length-ended, length-parts}
-use Rattle.model.specs.Limits.{mostTables, mostColumns, mostViews, mostPartitions}
+use Rattle.model.specs.Limits.{mostTables, mostViews, mostPartitions}
 use Rattle.model.specs.Print.{tableFields, lineFields, partitionFields, printLine}
 use Rattle.model.proofs.Printed.{view-short}
 use Rattle.policy_text.specs.Declared.{Declared}

@@ -14,6 +14,7 @@ use Rattle.theory.proofs.Executable.Test.{same-iff}
 use Rattle.words.specs.Bits.{bit}
 use Rattle.words.specs.Sets.{setBit, Upto}
 use Rattle.words.proofs.Marks.{upto-more, upto-all, by-test}
+use Rattle.model.specs.Limits.{mostColumns}
 use Rattle.model.specs.Value.{sameTerm, unusedTerm, termValue, lineValue}
 use Rattle.model.proofs.Same.{same-value}
 use Rattle.model.specs.declared.Term.{Term}
@@ -29,7 +30,7 @@ upto-skip {P} {p} {m} q h u f = record { below = λ b l. go b l (decLt b p); pas
     go b l (yes k) = u .below b k
     go b l (no n) = (λ e. absurd (omega (arith, u .past b (omega arith))), λ h. absurd (f b (omega arith) l h))
 
-module _ (A B : TheLine) (few : length (A .columns) ≤ 8) (few′ : length (B .columns) ≤ 8) where
+module _ (A B : TheLine) (few : length (A .columns) ≤ mostColumns) (few′ : length (B .columns) ≤ mostColumns) where
   -- an unused term stands behind the line
   behind : (p : ℕ) → termAt (lineValue A) p .mark ≡ 0 → length (A .columns) ≤ p
   unfolding termValue
@@ -47,17 +48,17 @@ module _ (A B : TheLine) (few : length (A .columns) ≤ 8) (few′ : length (B .
       go (yes l) = l
       go (no n) = absurd (f (ap (λ (t : Term). t .mark) (unused A few p (omega arith))))
 
-  column-iff : (p q : ℕ) → q < 8 → p < length (A .columns)
-      → T (sameTerm (termAt (lineValue A) p) (termAt (lineValue B) q)) ↔ SameColumn A B (p * 8 + q)
+  column-iff : (p q : ℕ) → q < mostColumns → p < length (A .columns)
+      → T (sameTerm (termAt (lineValue A) p) (termAt (lineValue B) q)) ↔ SameColumn A B (p * mostColumns + q)
   column-iff p q h l = go (decLt q (length (B .columns)))
     where
-      d : (p * 8 + q) / 8 ≡ p
+      d : (p * mostColumns + q) / mostColumns ≡ p
       d = omega arith
 
-      m : (p * 8 + q) % 8 ≡ q
+      m : (p * mostColumns + q) % mostColumns ≡ q
       m = omega arith
 
-      go : Dec (q < length (B .columns)) → T (sameTerm (termAt (lineValue A) p) (termAt (lineValue B) q)) ↔ SameColumn A B (p * 8 + q)
+      go : Dec (q < length (B .columns)) → T (sameTerm (termAt (lineValue A) p) (termAt (lineValue B) q)) ↔ SameColumn A B (p * mostColumns + q)
       go (yes k) =
           let e : sameTerm (termAt (lineValue A) p) (termAt (lineValue B) q) ≡ same (at A p) (at B q) =
           rw (used A few p l, used B few′ q k) (same-value (at A p) (at B q)) in
@@ -72,19 +73,19 @@ module _ (A B : TheLine) (few : length (A .columns) ≤ 8) (few′ : length (B .
 
   -- one column of B more
   pub column-more : (p q : ℕ) (t u : Term) (on : Bool) {m : ℕ} (r : ℕ) → t ≡ termAt (lineValue A) p → u ≡ termAt (lineValue B) q
-      → q < 8 → (t .mark ≡ 0 → ⊥) → on ≡ sameTerm t u → r ≡ cond on (setBit m (p * 8 + q)) m → Upto (SameColumn A B) (p * 8 + q) m
-      → Upto (SameColumn A B) (p * 8 + (q + 1)) r
+      → q < mostColumns → (t .mark ≡ 0 → ⊥) → on ≡ sameTerm t u → r ≡ cond on (setBit m (p * mostColumns + q)) m → Upto (SameColumn A B) (p * mostColumns + q) m
+      → Upto (SameColumn A B) (p * mostColumns + (q + 1)) r
   column-more p q t u on r et eu h f eo er k =
       let l : p < length (A .columns) = within p (rw et at f) in
-      let e : p * 8 + (q + 1) ≡ p * 8 + q + 1 = omega arith in
+      let e : p * mostColumns + (q + 1) ≡ p * mostColumns + q + 1 = omega arith in
       rw (e, er) (upto-more on k (by-test (rw (et, eu) at eo) (column-iff p q h l)))
 
   -- an unused column of A
-  pub column-skip : (p : ℕ) (t : Term) {m : ℕ} → t ≡ termAt (lineValue A) p → t .mark ≡ 0 → Upto (SameColumn A B) (p * 8) m
-      → Upto (SameColumn A B) (p * 8 + 8) m
+  pub column-skip : (p : ℕ) (t : Term) {m : ℕ} → t ≡ termAt (lineValue A) p → t .mark ≡ 0 → Upto (SameColumn A B) (p * mostColumns) m
+      → Upto (SameColumn A B) (p * mostColumns + mostColumns) m
   column-skip p t et e k =
       let l = behind p (rw et at e) in
-      upto-skip (p * 8 + 8) (omega arith) k (λ b h j s. omega (arith, s .first))
+      upto-skip (p * mostColumns + mostColumns) (omega arith) k (λ b h j s. omega (arith, s .first))
 
-  pub columns-all : {m : ℕ} → Upto (SameColumn A B) 64 m → SameColumns A B m
+  pub columns-all : {m : ℕ} → Upto (SameColumn A B) (mostColumns * mostColumns) m → SameColumns A B m
   columns-all k = upto-all k (λ b l h. omega (arith, h .first))

@@ -17,6 +17,7 @@ use Rattle.words.specs.Bits.{bit}
 use Rattle.words.specs.Sets.{setBit}
 use Rattle.words.proofs.Bits.{bit-zero}
 use Rattle.words.proofs.SetBits.{set-bit-same, set-bit-other}
+use Rattle.model.specs.Limits.{mostColumns, lastVariable}
 use Rattle.model.specs.Value.{unusedTerm, termValue, lineValue}
 use Rattle.model.specs.declared.Term.{Term}
 use Rattle.model.specs.declared.Line.{Line}
@@ -24,9 +25,9 @@ use Rattle.model.specs.Rows.{termAt}
 use Rattle.reduce.specs.Showing.{hiddenTerm, hiddenSet, HiddenWord}
 use Rattle.reduce.proofs.LineValues.{used, unused}
 
-pub hidden-small : (t : Term) → T (hiddenTerm t) → t .number < 64
+pub hidden-small : (t : Term) → T (hiddenTerm t) → t .number ≤ lastVariable
 unfolding hiddenTerm
-hidden-small t h = omega (arith, leb→le (t .number) 63 (and-iff (eqb (t .mark) 3) (leb (t .number) 63) .0 h .1))
+hidden-small t h = omega (arith, leb→le (t .number) lastVariable (and-iff (eqb (t .mark) 3) (leb (t .number) lastVariable) .0 h .1))
 
 -- a bit set if the test passes
 put-iff : (on : Bool) (m p n : ℕ) → (bit (cond on (setBit m p) m) n ≡ 1) ↔ ((bit m n ≡ 1) ⊎ (T on × (p ≡ n)))
@@ -62,9 +63,9 @@ value-hidden (constant c) n h e = absurd h
 value-hidden (shown k) n h e = absurd h
 value-hidden (hidden k) n h e = ap hidden e
 
-hidden-value : (n : ℕ) → n < 64 → T (hiddenTerm (termValue (hidden n)))
+hidden-value : (n : ℕ) → n ≤ lastVariable → T (hiddenTerm (termValue (hidden n)))
 unfolding hiddenTerm termValue kind number
-hidden-value n h = le→leb n 63 (omega arith)
+hidden-value n h = le→leb n lastVariable (omega arith)
 
 unused-hidden : T (hiddenTerm unusedTerm) → ⊥
 unfolding hiddenTerm unusedTerm
@@ -75,9 +76,9 @@ unfolding termValue kind number
 hidden-number n = refl
 
 -- the hidden variables of a line's value are those of the line that have a bit
-pub hidden-in : (A : TheLine) (n : ℕ) → length (A .columns) ≤ 8
-    → ((b : ℕ) × (b < 8) × T (hiddenTerm (termAt (lineValue A) b)) × (termAt (lineValue A) b .number ≡ n))
-    ↔ ((n < 64) × (hidden n ∈ A .columns))
+pub hidden-in : (A : TheLine) (n : ℕ) → length (A .columns) ≤ mostColumns
+    → ((b : ℕ) × (b < mostColumns) × T (hiddenTerm (termAt (lineValue A) b)) × (termAt (lineValue A) b .number ≡ n))
+    ↔ ((n ≤ lastVariable) × (hidden n ∈ A .columns))
 hidden-in A n few = (
   λ r. to (r .0) (r .2) (r .3) (decLt (r .0) (length (A .columns))),
   λ r.
@@ -87,7 +88,7 @@ hidden-in A n few = (
 )
   where
     to : (b : ℕ) → T (hiddenTerm (termAt (lineValue A) b)) → termAt (lineValue A) b .number ≡ n → Dec (b < length (A .columns))
-        → (n < 64) × (hidden n ∈ A .columns)
+        → (n ≤ lastVariable) × (hidden n ∈ A .columns)
     to b t q (yes l) =
         let v = used A few b l in
         let i : at A b ≡ hidden n = value-hidden (at A b) n (rw v at t) (rw v at q) in

@@ -8,6 +8,7 @@ pub mod Left
 pub mod Lines
 pub mod LaidRows
 -- The pairs of a line and a target.
+pub mod PairNumbers
 pub mod LinePairs
 pub mod Tables
 -- A map as an assignment of targets, and the search for one.

@@ -1,9 +1,9 @@
--- The pairs of lines of a query, one by one: pair p is line p / 8 with line p % 8.
+-- The pairs of lines of a query, one by one.
 use mathlib.Core.Path.{_≡_, sym, subst, _∙_}
 use mathlib.Core.Logic.{_↔_}
 use mathlib.Core.Bool.{Bool, cond, _&&_}
 use mathlib.Core.List.{List}
-use Prim.Native.Nat.{ℕ, _+_, _*_, _/_, _%_, _≤_, _<_}
+use Prim.Native.Nat.{ℕ, _+_, _*_, _≤_, _<_}
 use native.Mathlib.Decide.{ℕ-discrete}
 use native.Mathlib.Omega.{arith}
 use borrow.Author.Tests.{ltb-true, lt-ltb}
@@ -15,10 +15,13 @@ use Rattle.theory.proofs.Executable.Test.{and-iff}
 use Rattle.words.specs.Sets.{setBit, Upto}
 use Rattle.words.proofs.Answers.{true-iff}
 use Rattle.words.proofs.Marks.{upto-more, upto-all, by-test}
+use Rattle.model.specs.Limits.{mostLines}
+use Rattle.reduce.specs.PairNumbers.{mostPairs, pairOf, lineOf, targetOf}
 use Rattle.reduce.specs.Agree.{goes, lineAt}
 use Rattle.reduce.specs.Columns.{goesRow, SameColumns}
 use Rattle.reduce.specs.Pairs.{Going, Goings, Columns}
 use Rattle.reduce.specs.Laid.{Laid}
+use Rattle.reduce.proofs.PairNumbers.{line-of, target-of}
 use Rattle.reduce.proofs.Lines.{laid-few}
 use Rattle.reduce.proofs.LineValues.{goes-value}
 
@@ -28,66 +31,66 @@ module _ {Q : Query} {rows : List ℕ} (n : ℕ) (count : length Q ≡ n) (laid 
   below-iff : (j : ℕ) → T (ltb j n) ↔ (j < length Q)
   below-iff j = true-iff (λ e. rw count (ltb-true j n e), λ h. lt-ltb j n (rw count at h))
 
-  going-iff : (p : ℕ) → p / 8 < length Q → T (ltb (p % 8) n && goesRow rows (p / 8) (p % 8)) ↔ Going Q p
+  going-iff : (p : ℕ) → lineOf p < length Q → T (ltb (targetOf p) n && goesRow rows (lineOf p) (targetOf p)) ↔ Going Q p
   going-iff p l =
-      let A = lineAt Q (p / 8) in
-      let S = lineAt Q (p % 8) in
-      let k = and-iff (ltb (p % 8) n) (goesRow rows (p / 8) (p % 8)) in
-      let b = below-iff (p % 8) in
-      let v : p % 8 < length Q → goesRow rows (p / 8) (p % 8) ≡ goes A S =
-      λ h. goes-value A S (laid-few laid (p / 8) l) (laid-few laid (p % 8) h) rows (p / 8) (p % 8) (laid .row (p / 8) l) (laid .row (p % 8) h) in (
+      let A = lineAt Q (lineOf p) in
+      let S = lineAt Q (targetOf p) in
+      let k = and-iff (ltb (targetOf p) n) (goesRow rows (lineOf p) (targetOf p)) in
+      let b = below-iff (targetOf p) in
+      let v : targetOf p < length Q → goesRow rows (lineOf p) (targetOf p) ≡ goes A S =
+      λ h. goes-value A S (laid-few laid (lineOf p) l) (laid-few laid (targetOf p) h) rows (lineOf p) (targetOf p) (laid .row (lineOf p) l) (laid .row (targetOf p) h) in (
         λ t. let (x, y) = k .0 t in let h = b .0 x in record { line = l; target = h; goes = subst T (v h) y },
         λ g. k .1 (b .1 (g .target), subst T (sym (v (g .target))) (g .goes)),
       )
 
-  pub goings-more : (p : ℕ) (on : Bool) {m : ℕ} (r : ℕ) → p < n * 8
-      → on ≡ (ltb (p % 8) n && goesRow rows (p / 8) (p % 8)) → r ≡ cond on (setBit m p) m → Upto (Going Q) p m
+  pub goings-more : (p : ℕ) (on : Bool) {m : ℕ} (r : ℕ) → p < n * mostLines
+      → on ≡ (ltb (targetOf p) n && goesRow rows (lineOf p) (targetOf p)) → r ≡ cond on (setBit m p) m → Upto (Going Q) p m
       → Upto (Going Q) (p + 1) r
   goings-more p on r h eo er k =
       rw er (upto-more on k (by-test eo (going-iff p (omega (arith, count)))))
 
-  pub goings-all : (p : ℕ) {m : ℕ} → n * 8 ≤ p → Upto (Going Q) p m → Goings Q m
+  pub goings-all : (p : ℕ) {m : ℕ} → n * mostLines ≤ p → Upto (Going Q) p m → Goings Q m
   goings-all p h k = upto-all k (λ b l g. omega (arith, count, g .line))
 
 -- ---- for each pair the columns that have the same term
 
 -- the entries before p are as they should be
 pub record Compared (Q : Query) (p : ℕ) (table : List ℕ) : Type 0 where
-  pub long : length table ≡ 64
-  pub done : (b : ℕ) → b < p → b / 8 < length Q → b % 8 < length Q → SameColumns (lineAt Q (b / 8)) (lineAt Q (b % 8)) (getD table b 0)
+  pub long : length table ≡ mostPairs
+  pub done : (b : ℕ) → b < p → lineOf b < length Q → targetOf b < length Q → SameColumns (lineAt Q (lineOf b)) (lineAt Q (targetOf b)) (getD table b 0)
 
 module _ {Q : Query} where
-  pub compared-none : (table : List ℕ) → length table ≡ 64 → Compared Q 0 table
+  pub compared-none : (table : List ℕ) → length table ≡ mostPairs → Compared Q 0 table
   compared-none table e = record { long = e; done = λ b l i j. absurd (omega arith) }
 
-  pub compared-more : (p w : ℕ) (table : List ℕ) → p < 64 → Compared Q p table
-      → SameColumns (lineAt Q (p / 8)) (lineAt Q (p % 8)) w → Compared Q (p + 1) (set table p w)
+  pub compared-more : (p w : ℕ) (table : List ℕ) → p < mostPairs → Compared Q p table
+      → SameColumns (lineAt Q (lineOf p)) (lineAt Q (targetOf p)) w → Compared Q (p + 1) (set table p w)
   compared-more p w table h k right = record {
     long = length-set table p w ∙ k .long;
     done = λ b l i j. go b l i j (ℕ-discrete b p);
   }
     where
-      go : (b : ℕ) → b < p + 1 → b / 8 < length Q → b % 8 < length Q → Dec (b ≡ p)
-          → SameColumns (lineAt Q (b / 8)) (lineAt Q (b % 8)) (getD (set table p w) b 0)
+      go : (b : ℕ) → b < p + 1 → lineOf b < length Q → targetOf b < length Q → Dec (b ≡ p)
+          → SameColumns (lineAt Q (lineOf b)) (lineAt Q (targetOf b)) (getD (set table p w) b 0)
       go b l i j (yes e) =
-          subst (λ (x : ℕ). SameColumns (lineAt Q (x / 8)) (lineAt Q (x % 8)) (getD (set table p w) x 0)) (sym e)
+          subst (λ (x : ℕ). SameColumns (lineAt Q (lineOf x)) (lineAt Q (targetOf x)) (getD (set table p w) x 0)) (sym e)
           (rw (getD-set-same table p w 0 (omega (arith, k .long))) right)
       go b l i j (no f) = rw (getD-set-other table p b w 0 f) (k .done b (omega arith) i j)
 
   -- a pair with no line
-  pub compared-skip : (p : ℕ) (table : List ℕ) → length Q ≤ p % 8 → Compared Q p table → Compared Q (p + 1) table
+  pub compared-skip : (p : ℕ) (table : List ℕ) → length Q ≤ targetOf p → Compared Q p table → Compared Q (p + 1) table
   compared-skip p table h k = record { long = k .long; done = λ b l i j. go b l i j (ℕ-discrete b p) }
     where
-      go : (b : ℕ) → b < p + 1 → b / 8 < length Q → b % 8 < length Q → Dec (b ≡ p)
-          → SameColumns (lineAt Q (b / 8)) (lineAt Q (b % 8)) (getD table b 0)
+      go : (b : ℕ) → b < p + 1 → lineOf b < length Q → targetOf b < length Q → Dec (b ≡ p)
+          → SameColumns (lineAt Q (lineOf b)) (lineAt Q (targetOf b)) (getD table b 0)
       go b l i j (yes e) = absurd (omega arith)
       go b l i j (no f) = k .done b (omega arith) i j
 
-  pub compared-all : (p : ℕ) (table : List ℕ) → length Q ≤ 8 → length Q * 8 ≤ p → Compared Q p table → Columns Q table
+  pub compared-all : (p : ℕ) (table : List ℕ) → length Q ≤ mostLines → length Q * mostLines ≤ p → Compared Q p table → Columns Q table
   compared-all p table few h k = record {
     long = k .long;
     same = λ i j l m.
-        let d : (i * 8 + j) / 8 ≡ i = omega arith in
-        let r : (i * 8 + j) % 8 ≡ j = omega arith in
-        rw (d, r) at (k .done (i * 8 + j) (omega arith) (rw d l) (rw r m));
+        let d = line-of i j (omega arith) in
+        let r = target-of i j (omega arith) in
+        rw (d, r) at (k .done (pairOf i j) (omega arith) (rw d l) (rw r m));
   }

@@ -15,6 +15,7 @@ use Rattle.theory.specs.Executable.Test.{all, allBelow, kind, number}
 use Rattle.theory.specs.Executable.Reduce.{keeps}
 use Rattle.theory.proofs.Tuples.{getD-map, zip-place, place-zip}
 use Rattle.theory.proofs.Executable.Test.{and-iff, all-iff, allBelow-iff, same-test}
+use Rattle.model.specs.Limits.{mostColumns}
 use Rattle.model.specs.Value.{sameTerm, unusedTerm, termValue, lineValue}
 use Rattle.model.proofs.Pad.{pad-get}
 use Rattle.model.proofs.Terms.{terms-few}
@@ -59,10 +60,10 @@ unused-both = tt
 
 -- ---- columns
 
-module _ (A : TheLine) (few : length (A .columns) ≤ 8) where
+module _ (A : TheLine) (few : length (A .columns) ≤ mostColumns) where
   padded : (p : ℕ) → termAt (lineValue A) p ≡ getD (map termValue (A .columns)) p unusedTerm
   unfolding termAt lineValue
-  padded p = rw (terms-few (A .columns) few) (pad-get 8 unusedTerm (map termValue (A .columns)) p)
+  padded p = rw (terms-few (A .columns) few) (pad-get mostColumns unusedTerm (map termValue (A .columns)) p)
 
   pub used : (p : ℕ) → p < length (A .columns) → termAt (lineValue A) p ≡ termValue (at A p)
   used p h = padded p ∙ getD-map termValue (A .columns) p (constant 0) unusedTerm h
@@ -72,11 +73,11 @@ module _ (A : TheLine) (few : length (A .columns) ≤ 8) where
 
 -- ---- one line over another
 
-module _ (A S : TheLine) (few : length (A .columns) ≤ 8) (few′ : length (S .columns) ≤ 8) where
+module _ (A S : TheLine) (few : length (A .columns) ≤ mostColumns) (few′ : length (S .columns) ≤ mostColumns) where
   abbrev Keeps : ℕ → Type 0
   Keeps p = T (keepsTerm (termAt (lineValue A) p) (termAt (lineValue S) p))
 
-  same-width : ((p : ℕ) → p < 8 → Keeps p) → length (A .columns) ≡ length (S .columns)
+  same-width : ((p : ℕ) → p < mostColumns → Keeps p) → length (A .columns) ≡ length (S .columns)
   same-width h = go (decLt (length (A .columns)) (length (S .columns))) (decLt (length (S .columns)) (length (A .columns)))
     where
       go : Dec (length (A .columns) < length (S .columns)) → Dec (length (S .columns) < length (A .columns))
@@ -99,7 +100,7 @@ module _ (A S : TheLine) (few : length (A .columns) ≤ 8) (few′ : length (S .
           (h (at A p, at S p) (zip-place (A .columns) (S .columns) p (constant 0) (constant 0) e l))
       go (no n) = rw (unused A few p (omega arith), unused S few′ p (omega arith)) unused-both
 
-  columns-kept : ((p : ℕ) → p < 8 → Keeps p) → (z : TheTerm × TheTerm) → z ∈ zip (A .columns) (S .columns) → T (keeps z)
+  columns-kept : ((p : ℕ) → p < mostColumns → Keeps p) → (z : TheTerm × TheTerm) → z ∈ zip (A .columns) (S .columns) → T (keeps z)
   columns-kept h z m =
       let (p, l, k, e, f) = place-zip (A .columns) (S .columns) (constant 0) (constant 0) z m in
       subst (λ (w : TheTerm × TheTerm). T (keeps w)) (λ i. (sym e i, sym f i))
@@ -113,12 +114,12 @@ module _ (A S : TheLine) (few : length (A .columns) ≤ 8) (few′ : length (S .
       let w = eqb (length (A .columns)) (length (S .columns)) in
       let z = all keeps (zip (A .columns) (S .columns)) in
       let f : ℕ → Bool = λ p. keepsTerm (laidTerm rows i p) (laidTerm rows j p) in
-      let row : (p : ℕ) → p < 8 → f p ≡ keepsTerm (termAt (lineValue A) p) (termAt (lineValue S) p) = λ p l. ap₂ keepsTerm (ri .term p l) (rj .term p l) in
+      let row : (p : ℕ) → p < mostColumns → f p ≡ keepsTerm (termAt (lineValue A) p) (termAt (lineValue S) p) = λ p l. ap₂ keepsTerm (ri .term p l) (rj .term p l) in
       rw (ri .table, rj .table)
-      (same-test (t && allBelow 8 f) (t && (w && z))
-      (λ h. let r = and-iff t (allBelow 8 f) .0 h in
-      let b : (p : ℕ) → p < 8 → Keeps p = λ p l. subst T (row p l) (allBelow-iff f 8 .0 (r .1) p l) in
+      (same-test (t && allBelow mostColumns f) (t && (w && z))
+      (λ h. let r = and-iff t (allBelow mostColumns f) .0 h in
+      let b : (p : ℕ) → p < mostColumns → Keeps p = λ p l. subst T (row p l) (allBelow-iff f mostColumns .0 (r .1) p l) in
       and-iff t (w && z) .1 (r .0, and-iff w z .1 (yes-eqb (same-width b), all-iff keeps (zip (A .columns) (S .columns)) .1 (columns-kept b))))
       (λ h. let r = and-iff t (w && z) .0 h in let s = and-iff w z .0 (r .1) in
-      and-iff t (allBelow 8 f) .1
-      (r .0, allBelow-iff f 8 .1 (λ p l. subst T (sym (row p l)) (kept-columns (eqb-yes (s .0)) (all-iff keeps (zip (A .columns) (S .columns)) .0 (s .1)) p)))))
+      and-iff t (allBelow mostColumns f) .1
+      (r .0, allBelow-iff f mostColumns .1 (λ p l. subst T (sym (row p l)) (kept-columns (eqb-yes (s .0)) (all-iff keeps (zip (A .columns) (S .columns)) .0 (s .1)) p)))))

@@ -7,6 +7,7 @@ use native.Mathlib.Numerals.{add-one}
 use lib.ListN.{length, getD, take, replicate, length-map, List·getD-append}
 use Rattle.theory.specs.Query.{Query}
 use Rattle.theory.proofs.Tuples.{getD-map, getD-mem}
+use Rattle.model.specs.Limits.{mostLines, mostColumns}
 use Rattle.model.specs.Value.{pad, unusedLine, lineValue, queryValue}
 use Rattle.model.specs.declared.Line.{Line}
 use Rattle.model.specs.declared.Query.{Query as QueryValue}
@@ -27,12 +28,12 @@ module _ {q : QueryValue} {Q : Query} (held : HoldsQuery q Q) where
   held-line i d h =
       let l = map lineValue Q in
       ap (λ (x : QueryValue). getD (x .lines) i d) (held .is)
-      ∙ List·getD-append l (replicate (8 - length l) unusedLine) d i (rw (length-map Q lineValue) h)
+      ∙ List·getD-append l (replicate (mostLines - length l) unusedLine) d i (rw (length-map Q lineValue) h)
       ∙ getD-map lineValue Q i (record { table = 0; columns = [] }) d h
 
--- a line has at most eight columns
+-- a line is within the limit of columns
 pub laid-few : {Q : Query} {rows : List ℕ} → Laid Q rows → (i : ℕ) → i < length Q
-    → length (lineAt Q i .columns) ≤ 8
+    → length (lineAt Q i .columns) ≤ mostColumns
 unfolding lineAt
 laid-few {Q} laid i h = laid .columns (lineAt Q i) (getD-mem Q i (record { table = 0; columns = [] }) h)
 

@@ -1,7 +1,7 @@
 -- An assignment among the candidates is a map that sends the lines at the bits of one word to those at the bits of another.
 use mathlib.Core.Path.{_≡_, subst}
 use mathlib.Core.List.{List}
-use Prim.Native.Nat.{ℕ, _+_, _*_, _/_, _%_, _^_, _<_}
+use Prim.Native.Nat.{ℕ, _^_, _<_}
 use native.Mathlib.Decide.{ℕ-discrete, decLt}
 use native.Mathlib.Omega.{arith}
 use lib.Dec.{T}
@@ -10,36 +10,33 @@ use Rattle.theory.specs.Query.{Term, Query}
 use Rattle.theory.specs.Reduce.{Sends}
 use Rattle.words.specs.Bits.{bit}
 use Rattle.words.proofs.Bits.{bit-within}
+use Rattle.model.specs.Limits.{mostLines}
+use Rattle.reduce.specs.PairNumbers.{pairOf}
 use Rattle.reduce.specs.Agree.{agree, lineAt}
 use Rattle.reduce.specs.Extends.{Extends}
 use Rattle.reduce.specs.Left.{linesAt}
 use Rattle.reduce.specs.Pairs.{Candidate, PairsTabled}
+use Rattle.reduce.proofs.PairNumbers.{line-of, target-of}
 use Rattle.reduce.proofs.Agree.{agree-swap}
 use Rattle.reduce.proofs.Assign.{Assigned, assigned-iff}
 use Rattle.reduce.proofs.Left.{in-lines, lines-in}
-
-line-of : (i j : ℕ) → j < 8 → (i * 8 + j) / 8 ≡ i
-line-of i j h = omega arith
-
-target-of : (i j : ℕ) → j < 8 → (i * 8 + j) % 8 ≡ j
-target-of i j h = omega arith
 
 module _ {Q : Query} {c : ℕ} {words : List ℕ} (tabled : PairsTabled Q c words) (rows targets : ℕ) where
   -- line i with target t and line j with target u
   abbrev Agreed : (i t j u : ℕ) → Type 0
   Agreed i t j u = T (agree (lineAt Q i) (lineAt Q t) (lineAt Q j) (lineAt Q u))
 
-  module _ (x : Extends rows targets c words) (few : targets < 2 ^ 8) where
-    small : (i : ℕ) → bit rows i ≡ 1 → x .target i < 8
-    small i h = bit-within 8 (x .target i) few (x .allowed i h)
+  module _ (x : Extends rows targets c words) (few : targets < 2 ^ mostLines) where
+    small : (i : ℕ) → bit rows i ≡ 1 → x .target i < mostLines
+    small i h = bit-within mostLines (x .target i) few (x .allowed i h)
 
-    chosen : (i : ℕ) → bit rows i ≡ 1 → Candidate Q (i * 8 + x .target i)
-    chosen i h = tabled .candidates (i * 8 + x .target i) .0 (x .candidate i h)
+    chosen : (i : ℕ) → bit rows i ≡ 1 → Candidate Q (pairOf i (x .target i))
+    chosen i h = tabled .candidates (pairOf i (x .target i)) .0 (x .candidate i h)
 
     before : (i j : ℕ) → bit rows i ≡ 1 → bit rows j ≡ 1 → i < j → Agreed i (x .target i) j (x .target j)
     before i j h g l =
         rw (line-of i (x .target i) (small i h), target-of i (x .target i) (small i h), line-of j (x .target j) (small j g), target-of j (x .target j) (small j g)) at
-        (tabled .pairs (i * 8 + x .target i) (x .candidate i h) (j * 8 + x .target j) .0 (x .joint i j h g l) .1)
+        (tabled .pairs (pairOf i (x .target i)) (x .candidate i h) (pairOf j (x .target j)) .0 (x .joint i j h g l) .1)
 
     extends-assigned : Assigned Q rows (linesAt targets Q)
     extends-assigned = record {
@@ -81,17 +78,17 @@ module _ {Q : Query} {c : ℕ} {words : List ℕ} (tabled : PairsTabled Q c word
     unfolding t
     right i h = place-right i h (ℕ-discrete (bit rows i) 1)
 
-    eight : (i : ℕ) → bit rows i ≡ 1 → t i < 8
-    eight i h = omega (arith, right i h .below, tabled .few)
+    small-target : (i : ℕ) → bit rows i ≡ 1 → t i < mostLines
+    small-target i h = omega (arith, right i h .below, tabled .few)
 
     agreeing : (i j : ℕ) → bit rows i ≡ 1 → bit rows j ≡ 1 → Agreed i (t i) j (t j)
     agreeing i j h g = rw (right i h .same, right j g .same) (a .joint i j (there i h) (there j g) h g)
 
-    candidate : (i : ℕ) → bit rows i ≡ 1 → bit c (i * 8 + t i) ≡ 1
+    candidate : (i : ℕ) → bit rows i ≡ 1 → bit c (pairOf i (t i)) ≡ 1
     candidate i h =
-        let d = line-of i (t i) (eight i h) in
-        let m = target-of i (t i) (eight i h) in
-        tabled .candidates (i * 8 + t i) .1
+        let d = line-of i (t i) (small-target i h) in
+        let m = target-of i (t i) (small-target i h) in
+        tabled .candidates (pairOf i (t i)) .1
         (record { line = rw d (there i h); target = rw m (right i h .below); goes = rw (d, m) (agreeing i i h h) })
 
     assigned-extends : Extends rows targets c words
@@ -100,13 +97,13 @@ module _ {Q : Query} {c : ℕ} {words : List ℕ} (tabled : PairsTabled Q c word
       allowed = λ i h. right i h .allowed;
       candidate = candidate;
       joint = λ i j h g l.
-          tabled .pairs (i * 8 + t i) (candidate i h) (j * 8 + t j) .1 (
+          tabled .pairs (pairOf i (t i)) (candidate i h) (pairOf j (t j)) .1 (
             candidate j g,
-            rw (line-of i (t i) (eight i h), target-of i (t i) (eight i h), line-of j (t j) (eight j g), target-of j (t j) (eight j g)) (agreeing i j h g),
+            rw (line-of i (t i) (small-target i h), target-of i (t i) (small-target i h), line-of j (t j) (small-target j g), target-of j (t j) (small-target j g)) (agreeing i j h g),
           );
     }
 
-  pub extends-sends : targets < 2 ^ 8 → Extends rows targets c words → (m : ℕ → Term) × Sends m (linesAt rows Q) (linesAt targets Q)
+  pub extends-sends : targets < 2 ^ mostLines → Extends rows targets c words → (m : ℕ → Term) × Sends m (linesAt rows Q) (linesAt targets Q)
   extends-sends few x = assigned-iff Q rows (linesAt targets Q) .0 (extends-assigned x few)
 
   pub sends-extends : ((i : ℕ) → bit rows i ≡ 1 → i < length Q) → (m : ℕ → Term) → Sends m (linesAt rows Q) (linesAt targets Q)

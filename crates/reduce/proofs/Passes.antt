@@ -17,6 +17,7 @@ use Rattle.theory.proofs.Executable.Test.{same-test}
 use Rattle.words.specs.Bits.{bit}
 use Rattle.words.specs.Sets.{clearBit}
 use Rattle.words.proofs.ClearBits.{clear-bit-le, clear-bit-other, low-bits-set, low-bits-below}
+use Rattle.model.specs.Limits.{mostLines}
 use Rattle.reduce.specs.Extends.{Extends}
 use Rattle.reduce.specs.Left.{linesAt, Folds}
 use Rattle.reduce.specs.Pairs.{PairsTabled}
@@ -32,8 +33,8 @@ sends-of {Q = Q} w s A i = s A (lines-subset w Q i)
 pub folds-all : (Q : Query) (n : ℕ) → length Q ≡ n → Folds Q (2 ^ n - 1)
 folds-all Q n e = (hidden, rw (lines-all Q n e) (sends-self Q))
 
-pub in-eight : {w n : ℕ} → w < 2 ^ n → n ≤ 8 → w < 2 ^ 8
-in-eight {n = n} small few = lt-of-lt-of-le small (pow-mono {i = n} few)
+pub lines-below : {w n : ℕ} → w < 2 ^ n → n ≤ mostLines → w < 2 ^ mostLines
+lines-below {n = n} small few = lt-of-lt-of-le small (pow-mono {i = n} few)
 
 -- what is left once a bit is cleared
 pub cleared : {r : ℕ} (n w k : ℕ) → r ≡ clearBit w k → w < 2 ^ n → r < 2 ^ n
@@ -41,7 +42,7 @@ cleared n w k e small = rw e (lt-of-le-of-lt (clear-bit-le w k) small)
 
 module _ {Q : Query} {c : ℕ} {words : List ℕ} (tabled : PairsTabled Q c words) where
   -- lines that go alone are left out
-  pub folds-more : (rows rest alone : ℕ) → rest < 2 ^ 8 → ((p : ℕ) → bit alone p ≡ 1 → bit c p ≡ 1) → Folds Q rows
+  pub folds-more : (rows rest alone : ℕ) → rest < 2 ^ mostLines → ((p : ℕ) → bit alone p ≡ 1 → bit c p ≡ 1) → Folds Q rows
       → Extends rows rest alone words → Folds Q rest
   folds-more rows rest alone few f g x =
       let (m, s) = extends-sends tabled rows rest few (extends-more f x) in (λ n. image m (g .0 n), sends-twice (g .0) m (g .1) s)
@@ -49,7 +50,7 @@ module _ {Q : Query} {c : ℕ} {words : List ℕ} (tabled : PairsTabled Q c word
   module _ (rows : ℕ) (there : (i : ℕ) → bit rows i ≡ 1 → i < length Q) (folds : Folds Q rows) where
     -- What is left of Q once the lines from i on were tried.
     pub record Taking (i left : ℕ) : Type 0 where
-      pub small : left < 2 ^ 8
+      pub small : left < 2 ^ mostLines
       pub front : (j : ℕ) → j < i → bit left j ≡ 1
       pub kept : Folds Q left
       pub same : reduceBelow i (linesAt left Q) ≡ reduce Q
@@ -57,7 +58,7 @@ module _ {Q : Query} {c : ℕ} {words : List ℕ} (tabled : PairsTabled Q c word
     pub taking-none : (n : ℕ) → length Q ≡ n → Taking n (2 ^ n - 1)
     unfolding reduce
     taking-none n e = record {
-      small = low-bits-below n 8 (rw (← e) (tabled .few));
+      small = low-bits-below n mostLines (rw (← e) (tabled .few));
       front = low-bits-set n;
       kept = folds-all Q n e;
       same = rw (lines-all Q n e, e) refl;
@@ -67,8 +68,8 @@ module _ {Q : Query} {c : ℕ} {words : List ℕ} (tabled : PairsTabled Q c word
       abbrev pub rest : ℕ
       rest = clearBit left i
 
-      rest-small : rest < 2 ^ 8
-      rest-small = cleared 8 left i refl (k .small)
+      rest-small : rest < 2 ^ mostLines
+      rest-small = cleared mostLines left i refl (k .small)
 
       out : without i (linesAt left Q) ≡ linesAt rest Q
       out = lines-without left Q i l (λ j h. k .front j (omega arith))

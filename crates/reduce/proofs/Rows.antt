@@ -2,7 +2,7 @@
 use mathlib.Core.Path.{_≡_, refl, sym, subst, _∙_}
 use mathlib.Core.Bool.{cond}
 use mathlib.Core.List.{List}
-use Prim.Native.Nat.{ℕ, _+_, _*_, _/_, _^_, _<_}
+use Prim.Native.Nat.{ℕ, _*_, _/_, _^_, _<_}
 use native.Mathlib.Decide.{ℕ-discrete, decLt}
 use native.Mathlib.Omega.{arith}
 use borrow.Author.Tests.{eq-eqb, ne-eqb}
@@ -16,14 +16,16 @@ use Rattle.words.proofs.Bits.{bit-zero}
 use Rattle.words.proofs.Masks.{bit-and-iff}
 use Rattle.words.proofs.Lowest.{dropped-same, dropped-other}
 use Rattle.words.proofs.Marks.{left-before}
+use Rattle.model.specs.Limits.{mostLines}
+use Rattle.reduce.specs.PairNumbers.{pairOf}
 use Rattle.reduce.specs.Extends.{TargetsOf, EmptyRow, Extends}
 
-pub row-is : (c targets k : ℕ) → TargetsOf c targets k (bitAnd (c / 2 ^ (k * 8)) targets)
+pub row-is : (c targets k : ℕ) → TargetsOf c targets k (bitAnd (c / 2 ^ (k * mostLines)) targets)
 row-is c targets k =
-    let same : (j : ℕ) → bit (c / 2 ^ (k * 8)) j ≡ bit c (k * 8 + j) = λ j. rw shr-shr in
+    let same : (j : ℕ) → bit (c / 2 ^ (k * mostLines)) j ≡ bit c (pairOf k j) = λ j. rw shr-shr in
     record {
-      some = λ j e. let (x, y) = bit-and-iff (c / 2 ^ (k * 8)) targets j .0 e in (y, sym (same j) ∙ x);
-      all = λ j x y. bit-and-iff (c / 2 ^ (k * 8)) targets j .1 (same j ∙ y, x);
+      some = λ j e. let (x, y) = bit-and-iff (c / 2 ^ (k * mostLines)) targets j .0 e in (y, sym (same j) ∙ x);
+      all = λ j x y. bit-and-iff (c / 2 ^ (k * mostLines)) targets j .1 (same j ∙ y, x);
     }
 
 pub row-empty : {rows targets c k : ℕ} → bit rows k ≡ 1 → TargetsOf c targets k 0 → EmptyRow rows targets c
@@ -48,18 +50,18 @@ module _ {rows targets c : ℕ} {words : List ℕ} where
   extends-more f x = record {
     target = x .target;
     allowed = x .allowed;
-    candidate = λ i h. f (i * 8 + x .target i) (x .candidate i h);
+    candidate = λ i h. f (pairOf i (x .target i)) (x .candidate i h);
     joint = x .joint;
   }
 
 module _ (rows targets c k rest : ℕ) (words : List ℕ) (first : Least 64 rows k) (others : LeastDropped 64 rows rest) where
   -- the candidates once line k has target j
   abbrev pub left : ℕ → ℕ
-  left j = bitAnd c (getD words (k * 8 + j) 0)
+  left j = bitAnd c (getD words (pairOf k j) 0)
 
   -- line k can have target j
   abbrev Open : ℕ → Type 0
-  Open j = (bit targets j ≡ 1) × (bit c (k * 8 + j) ≡ 1)
+  Open j = (bit targets j ≡ 1) × (bit c (pairOf k j) ≡ 1)
 
   in-rows : (i : ℕ) → bit rest i ≡ 1 → bit rows i ≡ 1
   in-rows i h = left-before i first others h
@@ -81,7 +83,7 @@ module _ (rows targets c k rest : ℕ) (words : List ℕ) (first : Least 64 rows
           target = t;
           allowed = λ i h. x .allowed i (in-rows i h);
           candidate = λ i h.
-              bit-and-iff c (getD words (k * 8 + t k) 0) (i * 8 + t i) .1
+              bit-and-iff c (getD words (pairOf k (t k)) 0) (pairOf i (t i)) .1
               (x .candidate i (in-rows i h), x .joint k i (first .set) (in-rows i h) (behind i h));
           joint = λ i j h g l. x .joint i j (in-rows i h) (in-rows j g) l;
         },
@@ -102,8 +104,8 @@ module _ (rows targets c k rest : ℕ) (words : List ℕ) (first : Least 64 rows
     in-rest : (i : ℕ) → (i ≡ k → ⊥) → bit rows i ≡ 1 → bit rest i ≡ 1
     in-rest i f h = dropped-other i others first f ∙ h
 
-    both : (i : ℕ) → bit rest i ≡ 1 → (bit c (i * 8 + x .target i) ≡ 1) × (bit (getD words (k * 8 + j) 0) (i * 8 + x .target i) ≡ 1)
-    both i h = bit-and-iff c (getD words (k * 8 + j) 0) (i * 8 + x .target i) .0 (x .candidate i h)
+    both : (i : ℕ) → bit rest i ≡ 1 → (bit c (pairOf i (x .target i)) ≡ 1) × (bit (getD words (pairOf k j) 0) (pairOf i (x .target i)) ≡ 1)
+    both i h = bit-and-iff c (getD words (pairOf k j) 0) (pairOf i (x .target i)) .0 (x .candidate i h)
 
     pub extends-join : Open j → Extends rows targets c words
     extends-join o = record {
@@ -117,12 +119,12 @@ module _ (rows targets c k rest : ℕ) (words : List ℕ) (first : Least 64 rows
         allow i h (yes e) = rw (e, here) (o .0)
         allow i h (no f) = rw (later i f) (x .allowed i (in-rest i f h))
 
-        can : (i : ℕ) → bit rows i ≡ 1 → Dec (i ≡ k) → bit c (i * 8 + chosen i) ≡ 1
+        can : (i : ℕ) → bit rows i ≡ 1 → Dec (i ≡ k) → bit c (pairOf i (chosen i)) ≡ 1
         can i h (yes e) = rw (e, here) (o .1)
         can i h (no f) = rw (later i f) (both i (in-rest i f h) .0)
 
         join : (i l : ℕ) → bit rows i ≡ 1 → bit rows l ≡ 1 → i < l → Dec (i ≡ k) → Dec (l ≡ k)
-            → bit (getD words (i * 8 + chosen i) 0) (l * 8 + chosen l) ≡ 1
+            → bit (getD words (pairOf i (chosen i)) 0) (pairOf l (chosen l)) ≡ 1
         join i l h g m (yes e) (yes f) = absurd (omega arith)
         join i l h g m (yes e) (no f) = rw (e, here, later l f) (both l (in-rest l f g) .1)
         join i l h g m (no e) (yes f) = absurd (omega (arith, behind i (in-rest i e h)))

@@ -3,7 +3,7 @@ use mathlib.Core.Path.{_≡_, refl, sym}
 use mathlib.Core.Logic.{_↔_, inl, inr, ⊎-elim}
 use mathlib.Core.Bool.{Bool, true, false, cond, _&&_, _||_, and-false, or-false, or-assoc}
 use mathlib.Core.List.{List, [], _∷_, _++_}
-use Prim.Native.Nat.{ℕ, _≤_, _<_}
+use Prim.Native.Nat.{ℕ, _≤_}
 use native.Mathlib.Omega.{arith}
 use lib.Bits.{bitAnd, bitOr}
 use lib.Dec.{T}
@@ -16,6 +16,7 @@ use Rattle.theory.proofs.Executable.Show.{standsIn-iff}
 use Rattle.words.specs.Bits.{bit}
 use Rattle.words.proofs.Bits.{bit-zero}
 use Rattle.words.proofs.Masks.{bit-and-iff, bit-or-iff}
+use Rattle.model.specs.Limits.{mostColumns, lastVariable}
 use Rattle.model.specs.Value.{lineValue}
 use Rattle.reduce.specs.Showing.{HiddenIf, SharedWord}
 use Rattle.reduce.proofs.Hidden.{hidden-in}
@@ -47,7 +48,7 @@ shared-more n (B ∷ R) b A =
 -- ---- the words of what was seen
 
 pub record Seen (R : Query) (once twice : ℕ) : Type 0 where
-  pub ones : (n : ℕ) → n < 64 → (bit once n ≡ 1) ↔ T (any (standsIn n) R)
+  pub ones : (n : ℕ) → n ≤ lastVariable → (bit once n ≡ 1) ↔ T (any (standsIn n) R)
   pub twos : SharedWord R twice
 
 pub seen-none : Seen [] 0 0
@@ -57,9 +58,9 @@ seen-none = record {
   twos = λ n l. (λ e. absurd (omega (arith, bit-zero n)), λ t. absurd t);
 }
 
-module _ {R : Query} {once twice : ℕ} (s : Seen R once twice) (there : Bool) (A : Line) (few : length (A .columns) ≤ 8) (w : ℕ)
+module _ {R : Query} {once twice : ℕ} (s : Seen R once twice) (there : Bool) (A : Line) (few : length (A .columns) ≤ mostColumns) (w : ℕ)
     (word : HiddenIf there (lineValue A) w) where
-  here : (n : ℕ) → n < 64 → (bit w n ≡ 1) ↔ T (there && standsIn n A)
+  here : (n : ℕ) → n ≤ lastVariable → (bit w n ≡ 1) ↔ T (there && standsIn n A)
   here n l =
       let h = hidden-in A n few in
       let a = and-iff there (standsIn n A) in (
@@ -67,7 +68,7 @@ module _ {R : Query} {once twice : ℕ} (s : Seen R once twice) (there : Bool) (
         λ t. let (t, r) = a .0 t in word n .1 (t, h .1 (l, standsIn-iff n A .0 r)),
       )
 
-  one-more : (n : ℕ) → n < 64 → (bit (bitOr once w) n ≡ 1) ↔ T (any (standsIn n) R || (there && standsIn n A))
+  one-more : (n : ℕ) → n ≤ lastVariable → (bit (bitOr once w) n ≡ 1) ↔ T (any (standsIn n) R || (there && standsIn n A))
   one-more n l =
       let o = bit-or-iff once w n in
       let b = or-iff (any (standsIn n) R) (there && standsIn n A) in (
@@ -75,7 +76,7 @@ module _ {R : Query} {once twice : ℕ} (s : Seen R once twice) (there : Bool) (
         λ t. o .1 (⊎-elim (λ x. inl (s .ones n l .1 x)) (λ x. inr (here n l .1 x)) (b .0 t)),
       )
 
-  two-more : (n : ℕ) → n < 64
+  two-more : (n : ℕ) → n ≤ lastVariable
       → (bit (bitOr twice (bitAnd once w)) n ≡ 1) ↔ T (shared R n || (any (standsIn n) R && (there && standsIn n A)))
   two-more n l =
       let o = bit-or-iff twice (bitAnd once w) n in

@@ -3,7 +3,7 @@
 use mathlib.Core.Path.{_≡_, refl, sym, ap, subst, _∙_}
 use mathlib.Core.Bool.{Bool, true, false, cond, _&&_, and-false}
 use mathlib.Core.List.{List, map, map-map}
-use Prim.Native.Nat.{ℕ, _≤_, _<_}
+use Prim.Native.Nat.{ℕ, _≤_}
 use native.Mathlib.Omega.{arith}
 use lib.Dec.{leb}
 use lib.ListN.{length, length-map}
@@ -17,6 +17,7 @@ use Rattle.theory.proofs.Tuples.{map-same, map-self, over-same}
 use Rattle.theory.proofs.Executable.Test.{same-test}
 use Rattle.words.specs.Bits.{isSet}
 use Rattle.words.proofs.Bits.{is-clear, bit-zero}
+use Rattle.model.specs.Limits.{mostColumns, lastVariable}
 use Rattle.model.specs.Value.{pad, unusedTerm, termValue, termsValue, lineValue}
 use Rattle.model.specs.declared.Term.{Term}
 use Rattle.model.specs.declared.Line.{Line}
@@ -43,7 +44,7 @@ show-none l = line-is 0 l l refl (sym (map-self (showValue 0) (l .terms) (λ t m
 unfoldable pub shownBy : ℕ → TheTerm → TheTerm
 shownBy w (constant c) = constant c
 shownBy w (shown n) = shown n
-shownBy w (hidden n) = cond (leb n 63 && isSet w n) (shown n) (hidden n)
+shownBy w (hidden n) = cond (leb n lastVariable && isSet w n) (shown n) (hidden n)
 
 module _ (w : ℕ) where
   unused-shown : showValue w unusedTerm ≡ unusedTerm
@@ -59,31 +60,31 @@ module _ (w : ℕ) where
   unfolding showValue hiddenTerm termValue kind number shownBy
   term-value (constant c) = refl
   term-value (shown n) = refl
-  term-value (hidden n) = hidden-value (leb n 63 && isSet w n) n
+  term-value (hidden n) = hidden-value (leb n lastVariable && isSet w n) n
 
-  terms-value : (ts : List TheTerm) → length ts ≤ 8 → map (showValue w) (termsValue ts) ≡ termsValue (map (shownBy w) ts)
+  terms-value : (ts : List TheTerm) → length ts ≤ mostColumns → map (showValue w) (termsValue ts) ≡ termsValue (map (shownBy w) ts)
   terms-value ts few =
-      let short : length (map (shownBy w) ts) ≤ 8 = rw (length-map ts (shownBy w)) few in
-      rw (terms-few ts few, terms-few (map (shownBy w) ts) short, map-pad (showValue w) 8 unusedTerm (map termValue ts) unused-shown, map-map (showValue w) termValue ts, map-map termValue (shownBy w) ts)
-      (ap (pad 8 unusedTerm) (map-same (λ t. showValue w (termValue t)) (λ t. termValue (shownBy w t)) ts (λ t j. term-value t)))
+      let short : length (map (shownBy w) ts) ≤ mostColumns = rw (length-map ts (shownBy w)) few in
+      rw (terms-few ts few, terms-few (map (shownBy w) ts) short, map-pad (showValue w) mostColumns unusedTerm (map termValue ts) unused-shown, map-map (showValue w) termValue ts, map-map termValue (shownBy w) ts)
+      (ap (pad mostColumns unusedTerm) (map-same (λ t. showValue w (termValue t)) (λ t. termValue (shownBy w t)) ts (λ t j. term-value t)))
 
-  pub line-value : (A : TheLine) → length (A .columns) ≤ 8 → showLine w (lineValue A) ≡ lineValue (over (shownBy w) A)
+  pub line-value : (A : TheLine) → length (A .columns) ≤ mostColumns → showLine w (lineValue A) ≡ lineValue (over (shownBy w) A)
   unfolding showLine lineValue
   line-value A few = λ k. record { table = A .table; terms = terms-value (A .columns) few k }
 
 -- ---- the word of the shared variables
 
 module _ (R : Query) (w : ℕ) (word : SharedWord R w) where
-  set-shared : (n : ℕ) → n < 64 → isSet w n ≡ shared R n
+  set-shared : (n : ℕ) → n ≤ lastVariable → isSet w n ≡ shared R n
   set-shared n l = same-test (isSet w n) (shared R n) (λ h. word n l .0 (eqb-yes h)) (λ h. yes-eqb (word n l .1 h))
 
-  shown-same : (u : TheTerm) → ((n : ℕ) → u ≡ hidden n → n < 64) → shownBy w u ≡ showTerm R u
+  shown-same : (u : TheTerm) → ((n : ℕ) → u ≡ hidden n → n ≤ lastVariable) → shownBy w u ≡ showTerm R u
   unfolding shownBy showTerm
   shown-same (constant c) small = refl
   shown-same (shown n) small = refl
-  shown-same (hidden n) small = rw (le-leb n 63 (omega (arith, small n refl)), set-shared n (small n refl))
+  shown-same (hidden n) small = rw (le-leb n lastVariable (omega (arith, small n refl)), set-shared n (small n refl))
 
-  pub line-shown : ((A : TheLine) → A ∈ R → length (A .columns) ≤ 8) → Small R → (A : TheLine) → A ∈ R
+  pub line-shown : ((A : TheLine) → A ∈ R → length (A .columns) ≤ mostColumns) → Small R → (A : TheLine) → A ∈ R
       → showLine w (lineValue A) ≡ lineValue (over (showTerm R) A)
   line-shown few small A i =
       line-value w A (few A i)

@@ -10,7 +10,8 @@ use lib.Seq.{getD-set-same, getD-set-other}
 use Rattle.words.specs.Bits.{isSet}
 use Rattle.theory.specs.Query.{Line as TheLine}
 use Rattle.theory.proofs.Tuples.{getD-map}
-use Rattle.model.specs.Rows.{termAt, laidTerm}
+use Rattle.model.specs.Limits.{mostColumns}
+use Rattle.model.specs.Rows.{rowLong, markPlace, termAt, laidTerm}
 use Rattle.model.specs.Value.{unusedTerm, termValue, termsValue, lineValue}
 use Rattle.model.proofs.LaidTerms.{same-term}
 use Rattle.model.proofs.Pad.{pad-length}
@@ -28,21 +29,21 @@ same-number w t = go (hiddenTerm t && isSet w (t .number))
     go false = refl
 
 -- no mark stands where a table does
-no-table : (a b r : ℕ) → r < 8 → a * 17 ≡ b * 17 + 1 + r * 2 → ⊥
+no-table : (a b r : ℕ) → r < mostColumns → a * rowLong ≡ markPlace b r → ⊥
 no-table a b r h e = go (decLt b a)
   where
     go : Dec (b < a) → ⊥
     go (yes l) = omega arith
     go (no n) = omega arith
 
--- the term of pair k: row k / 8, column k % 8
+-- the term of pair k: row k / mostColumns, column k % mostColumns
 abbrev pub pairTerm : List ℕ → ℕ → Term
-pairTerm rows k = laidTerm rows (k / 8) (k % 8)
+pairTerm rows k = laidTerm rows (k / mostColumns) (k % mostColumns)
 
 -- the terms of the pairs before k are shown
 pub record ShownTo (k : ℕ) (rows : List ℕ) (w : ℕ) (rows′ : List ℕ) : Type 0 where
   pub long : length rows′ ≡ length rows
-  pub table : (i : ℕ) → getD rows′ (i * 17) 0 ≡ getD rows (i * 17) 0
+  pub table : (i : ℕ) → getD rows′ (i * rowLong) 0 ≡ getD rows (i * rowLong) 0
   pub done : (j : ℕ) → j < k → pairTerm rows′ j ≡ showValue w (pairTerm rows j)
   pub rest : (j : ℕ) → k ≤ j → pairTerm rows′ j ≡ pairTerm rows j
 
@@ -51,32 +52,32 @@ none-done rows w = record { long = refl; table = λ i. refl; done = λ j h. absu
 
 module _ (rows : List ℕ) (k m : ℕ) where
   -- a mark set leaves the terms of the other pairs
-  other-pair : (j : ℕ) → (j ≡ k → ⊥) → pairTerm (set rows (k / 8 * 17 + 1 + k % 8 * 2) m) j ≡ pairTerm rows j
+  other-pair : (j : ℕ) → (j ≡ k → ⊥) → pairTerm (set rows (markPlace (k / mostColumns) (k % mostColumns)) m) j ≡ pairTerm rows j
   other-pair j f =
-      let at = k / 8 * 17 + 1 + k % 8 * 2 in
-      same-term rows (set rows at m) (j / 8) (j % 8)
-      (getD-set-other rows at (j / 8 * 17 + 1 + j % 8 * 2) m 0 (λ x. f (omega arith)))
-      (getD-set-other rows at (j / 8 * 17 + 1 + j % 8 * 2 + 1) m 0 (λ x. omega arith))
+      let at = markPlace (k / mostColumns) (k % mostColumns) in
+      same-term rows (set rows at m) (j / mostColumns) (j % mostColumns)
+      (getD-set-other rows at (markPlace (j / mostColumns) (j % mostColumns)) m 0 (λ x. f (omega arith)))
+      (getD-set-other rows at (markPlace (j / mostColumns) (j % mostColumns) + 1) m 0 (λ x. omega arith))
 
-  this-pair : k / 8 * 17 + 1 + k % 8 * 2 < length rows
-      → pairTerm (set rows (k / 8 * 17 + 1 + k % 8 * 2) m) k ≡ record { mark = m; number = pairTerm rows k .number }
+  this-pair : markPlace (k / mostColumns) (k % mostColumns) < length rows
+      → pairTerm (set rows (markPlace (k / mostColumns) (k % mostColumns)) m) k ≡ record { mark = m; number = pairTerm rows k .number }
   unfolding laidTerm
   this-pair h =
-      let at = k / 8 * 17 + 1 + k % 8 * 2 in
+      let at = markPlace (k / mostColumns) (k % mostColumns) in
       λ i. record { mark = getD-set-same rows at m 0 h i; number = getD-set-other rows at (at + 1) m 0 (λ x. omega arith) i }
 
 pub one-done : {k : ℕ} {rows : List ℕ} {w : ℕ} {rows′ : List ℕ} (u : Term) → ShownTo k rows w rows′
-    → k / 8 * 17 + 1 + k % 8 * 2 < length rows → u ≡ showValue w (pairTerm rows′ k)
-    → ShownTo (k + 1) rows w (set rows′ (k / 8 * 17 + 1 + k % 8 * 2) (u .mark))
+    → markPlace (k / mostColumns) (k % mostColumns) < length rows → u ≡ showValue w (pairTerm rows′ k)
+    → ShownTo (k + 1) rows w (set rows′ (markPlace (k / mostColumns) (k % mostColumns)) (u .mark))
 one-done {k} {rows} {w} {rows′} u s h e = record {
   long = length-set rows′ at (u .mark) ∙ s .long;
-  table = λ i. getD-set-other rows′ at (i * 17) (u .mark) 0 (no-table i (k / 8) (k % 8) (omega arith)) ∙ s .table i;
+  table = λ i. getD-set-other rows′ at (i * rowLong) (u .mark) 0 (no-table i (k / mostColumns) (k % mostColumns) (omega arith)) ∙ s .table i;
   done = λ j b. go j b (ℕ-discrete j k);
   rest = λ j b. other-pair rows′ k (u .mark) j (λ x. omega arith) ∙ s .rest j (omega arith);
 }
   where
     at : ℕ
-    at = k / 8 * 17 + 1 + k % 8 * 2
+    at = markPlace (k / mostColumns) (k % mostColumns)
 
     shown : u ≡ showValue w (pairTerm rows k)
     shown = e ∙ ap (showValue w) (s .rest k (omega arith))
@@ -101,26 +102,26 @@ none-shared n rows = record {
   rest = λ i p h b. refl;
 }
 
-pub all-done : {k n : ℕ} {rows : List ℕ} {w : ℕ} {rows′ : List ℕ} → ShownTo k rows w rows′ → k ≡ n * 8 → ShownRows n rows w rows′
+pub all-done : {k n : ℕ} {rows : List ℕ} {w : ℕ} {rows′ : List ℕ} → ShownTo k rows w rows′ → k ≡ n * mostColumns → ShownRows n rows w rows′
 all-done s e = record {
   long = s .long;
   table = s .table;
   term = λ i p b c.
-      let d : (i * 8 + p) / 8 ≡ i = omega arith in
-      let m : (i * 8 + p) % 8 ≡ p = omega arith in
-      rw (d, m) at (s .done (i * 8 + p) (omega (arith, e)));
+      let d : (i * mostColumns + p) / mostColumns ≡ i = omega arith in
+      let m : (i * mostColumns + p) % mostColumns ≡ p = omega arith in
+      rw (d, m) at (s .done (i * mostColumns + p) (omega (arith, e)));
   rest = λ i p b c.
-      let d : (i * 8 + p) / 8 ≡ i = omega arith in
-      let m : (i * 8 + p) % 8 ≡ p = omega arith in
-      rw (d, m) at (s .rest (i * 8 + p) (omega (arith, e)));
+      let d : (i * mostColumns + p) / mostColumns ≡ i = omega arith in
+      let m : (i * mostColumns + p) % mostColumns ≡ p = omega arith in
+      rw (d, m) at (s .rest (i * mostColumns + p) (omega (arith, e)));
 }
 
 -- ---- a line shown
 
 -- showing a line shows each of its terms
-pub shown-term : (w : ℕ) (A : TheLine) → length (A .columns) ≤ 8 → (p : ℕ) → p < 8
+pub shown-term : (w : ℕ) (A : TheLine) → length (A .columns) ≤ mostColumns → (p : ℕ) → p < mostColumns
     → termAt (showLine w (lineValue A)) p ≡ showValue w (termAt (lineValue A) p)
 unfolding termAt showLine lineValue
 shown-term w A few p h =
     getD-map (showValue w) (termsValue (A .columns)) p unusedTerm unusedTerm
-    (rw (terms-few (A .columns) few, pad-length 8 unusedTerm (map termValue (A .columns)) (rw (length-map (A .columns) termValue) few)) h)
+    (rw (terms-few (A .columns) few, pad-length mostColumns unusedTerm (map termValue (A .columns)) (rw (length-map (A .columns) termValue) few)) h)

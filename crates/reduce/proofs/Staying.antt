@@ -2,7 +2,7 @@
 use mathlib.Core.Path.{_≡_, refl, sym, ap, _∙_}
 use mathlib.Core.Logic.{_≢_, ⊎-elim}
 use mathlib.Core.Bool.{false, _||_, false≢true}
-use Prim.Native.Nat.{ℕ, zero, suc, _+_, _*_, _-_, _/_, _%_, _^_, _<_}
+use Prim.Native.Nat.{ℕ, zero, suc, _-_, _^_, _≤_, _<_}
 use native.Mathlib.Nat.{le-refl, le-step}
 use native.Mathlib.Omega.{arith}
 use lib.Dec.{T, eqb}
@@ -17,9 +17,12 @@ use Rattle.words.specs.Bits.{bit, isSet}
 use Rattle.words.specs.Sets.{clearBit, meet}
 use Rattle.words.proofs.ClearBits.{clear-bit-iff, low-bits-set}
 use Rattle.words.proofs.Tests.{meet-iff}
+use Rattle.model.specs.Limits.{mostLines}
+use Rattle.reduce.specs.PairNumbers.{mostPairs, pairOf, lineOf, targetOf}
 use Rattle.reduce.specs.Agree.{goes, lineAt}
 use Rattle.reduce.specs.Left.{linesAt}
 use Rattle.reduce.specs.Pairs.{Goings}
+use Rattle.reduce.proofs.PairNumbers.{line-of, target-of}
 use Rattle.reduce.proofs.Agree.{goes-iff}
 use Rattle.reduce.proofs.Assign.{goes-image, may-go-sends}
 use Rattle.reduce.proofs.Left.{in-lines, lines-in, lines-without, lines-all}
@@ -28,13 +31,13 @@ use Rattle.reduce.proofs.Left.{in-lines, lines-in, lines-without, lines
 abbrev moving : ℕ
 moving = 9205322385119247870
 
-moving-set : (p : ℕ) → p < 64 → p / 8 ≢ p % 8 → bit moving p ≡ 1
+moving-set : (p : ℕ) → p < mostPairs → lineOf p ≢ targetOf p → bit moving p ≡ 1
 unfolding allBelow
 moving-set p l f =
     ⊎-elim (λ t. absurd (f (eqb-yes t))) (λ t. eqb-yes t)
-    (or-iff (eqb (p / 8) (p % 8)) (isSet moving p) .0 (allBelow-iff (λ k. eqb (k / 8) (k % 8) || isSet moving k) 64 .0 tt p l))
+    (or-iff (eqb (lineOf p) (targetOf p)) (isSet moving p) .0 (allBelow-iff (λ k. eqb (lineOf k) (targetOf k) || isSet moving k) mostPairs .0 tt p l))
 
-module _ (Q : Query) (g : ℕ) (goings : Goings Q g) (few : length Q < 9) (none : meet 64 g moving ≡ false) where
+module _ (Q : Query) (g : ℕ) (goings : Goings Q g) (few : length Q ≤ mostLines) (none : meet 64 g moving ≡ false) where
   full : ℕ
   full = 2 ^ length Q - 1
 
@@ -55,12 +58,12 @@ module _ (Q : Query) (g : ℕ) (goings : Goings Q g) (few : length Q < 9) (none 
       let here : lineAt Q i ∈ Q = rw whole at (in-lines full Q i l (low-bits-set (length Q) i l)) in
       let (j, h, b, e) = lines-in (clearBit full i) Q (s (lineAt Q i) here) in
       let apart = clear-bit-iff full i j .0 b .1 in
-      let d : (i * 8 + j) / 8 ≡ i = omega arith in
-      let r : (i * 8 + j) % 8 ≡ j = omega arith in
+      let d = line-of i j (omega arith) in
+      let r = target-of i j (omega arith) in
       let to : T (goes (lineAt Q i) (lineAt Q j)) = rw e (goes-iff (lineAt Q i) (over (image m) (lineAt Q i)) .1 (goes-image m (lineAt Q i))) in
-      let set = goings (i * 8 + j) .1 (record { line = rw d l; target = rw r h; goes = rw (d, r) to }) in
+      let set = goings (pairOf i j) .1 (record { line = rw d l; target = rw r h; goes = rw (d, r) to }) in
       false≢true
-      (sym none ∙ meet-iff 64 g moving .1 (i * 8 + j, omega arith, set, moving-set (i * 8 + j) (omega arith) (rw (d, r) (λ p. apart (sym p)))))
+      (sym none ∙ meet-iff 64 g moving .1 (pairOf i j, omega arith, set, moving-set (pairOf i j) (omega arith) (rw (d, r) (λ p. apart (sym p)))))
 
   below : (i : ℕ) → ((k : ℕ) → k < i → k < length Q) → reduceBelow i Q ≡ Q
   unfolding reduceBelow

@@ -13,6 +13,8 @@ use Rattle.words.specs.Bits.{bit}
 use Rattle.words.specs.Sets.{include}
 use Rattle.words.proofs.Answers.{true-iff}
 use Rattle.words.proofs.Tests.{include-iff}
+use Rattle.model.specs.Limits.{mostColumns}
+use Rattle.reduce.specs.PairNumbers.{pairOf, lineOf, targetOf}
 use Rattle.reduce.specs.Agree.{lineAt}
 use Rattle.reduce.specs.Columns.{SameColumn, SameColumns}
 use Rattle.reduce.specs.Pairs.{Going, Goings, Columns, joins, Candidates, PairWords, Joined, Candidate, PairsTabled}
@@ -22,7 +24,7 @@ use Rattle.reduce.proofs.Lines.{laid-few}
 
 -- ---- four lines: A over S, and B over D
 
-module _ (A S B D : Line) (few : length (A .columns) ≤ 8) (few′ : length (B .columns) ≤ 8) (first : Goes A S) (second : Goes B D)
+module _ (A S B D : Line) (few : length (A .columns) ≤ mostColumns) (few′ : length (B .columns) ≤ mostColumns) (first : Goes A S) (second : Goes B D)
     (w w′ : ℕ) (same : SameColumns A B w) (same′ : SameColumns S D w′) where
   abbrev Included : Type 0
   Included = (b : ℕ) → b < 64 → bit w b ≡ 1 → bit w′ b ≡ 1
@@ -30,9 +32,9 @@ module _ (A S B D : Line) (few : length (A .columns) ≤ 8) (few′ : length (B 
   -- columns p and q of A and B
   included-equal : Included → (p q : ℕ) → p < length (A .columns) → q < length (B .columns) → at A p ≡ at B q → at S p ≡ at D q
   included-equal h p q l k e =
-      let b = p * 8 + q in
-      let d : b / 8 ≡ p = omega arith in
-      let m : b % 8 ≡ q = omega arith in
+      let b = p * mostColumns + q in
+      let d : b / mostColumns ≡ p = omega arith in
+      let m : b % mostColumns ≡ q = omega arith in
       let c : SameColumn A B b = record { first = rw d l; second = rw m k; same = rw (d, m) e } in
       rw (d, m) at (same′ b .0 (h b (omega arith) (same b .1 c)) .same)
 
@@ -45,8 +47,8 @@ module _ (A S B D : Line) (few : length (A .columns) ≤ 8) (few′ : length (B 
   from-joint : Joint A S B D → Included
   from-joint h b l e =
       let c = same b .0 e in
-      let p = b / 8 in
-      let q = b % 8 in
+      let p = b / mostColumns in
+      let q = b % mostColumns in
       let i = zip-place (A .columns) (S .columns) p (constant 0) (constant 0) (first .width) (c .first) in
       let j = zip-place (B .columns) (D .columns) q (constant 0) (constant 0) (second .width) (c .second) in
       same′ b .1 (record {
@@ -64,22 +66,22 @@ module _ (A S B D : Line) (few : length (A .columns) ≤ 8) (few′ : length (B 
 joined-iff : {Q : Query} {rows : List ℕ} → Laid Q rows → (columns : List ℕ) → Columns Q columns → (p b : ℕ) → Going Q p → Going Q b → T (joins columns p b) ↔ Joined Q p b
 unfolding joins
 joined-iff {Q} laid columns right p b g h =
-    let A = lineAt Q (p / 8) in
-    let S = lineAt Q (p % 8) in
-    let B = lineAt Q (b / 8) in
-    let D = lineAt Q (b % 8) in
+    let A = lineAt Q (lineOf p) in
+    let S = lineAt Q (targetOf p) in
+    let B = lineAt Q (lineOf b) in
+    let D = lineAt Q (targetOf b) in
     let x = goes-iff A S .0 (g .goes) in
     let y = goes-iff B D .0 (h .goes) in
     let k = agree-iff A S B D in
     let j =
-    include-joint A S B D (laid-few laid (p / 8) (g .line)) (laid-few laid (b / 8) (h .line)) x y (getD columns (p / 8 * 8 + b / 8) 0)
-    (getD columns (p % 8 * 8 + b % 8) 0) (right .same (p / 8) (b / 8) (g .line) (h .line)) (right .same (p % 8) (b % 8) (g .target) (h .target)) in
+    include-joint A S B D (laid-few laid (lineOf p) (g .line)) (laid-few laid (lineOf b) (h .line)) x y (getD columns (pairOf (lineOf p) (lineOf b)) 0)
+    (getD columns (pairOf (targetOf p) (targetOf b)) 0) (right .same (lineOf p) (lineOf b) (g .line) (h .line)) (right .same (targetOf p) (targetOf b) (g .target) (h .target)) in
     (λ t. k .1 (x, y, j .0 t), λ a. j .1 (k .0 a .2))
 
 candidate-going : {Q : Query} {p : ℕ} → Candidate Q p → Going Q p
 candidate-going {Q} {p} c =
-    let A = lineAt Q (p / 8) in
-    let S = lineAt Q (p % 8) in
+    let A = lineAt Q (lineOf p) in
+    let S = lineAt Q (targetOf p) in
     record { line = c .line; target = c .target; goes = goes-iff A S .1 (agree-iff A S A S .0 (c .goes) .0) }
 
 pub tabled : {Q : Query} {rows : List ℕ} → Laid Q rows → (g : ℕ) (columns : List ℕ) (m : ℕ) (words : List ℕ) → Goings Q g → Columns Q columns

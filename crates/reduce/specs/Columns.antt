@@ -1,4 +1,4 @@
--- Terms and columns by the rows of lines: eight terms each, unused ones behind.
+-- Terms and columns by the rows of lines, unused terms behind.
 use mathlib.Core.Path.{_≡_}
 use mathlib.Core.Logic.{_↔_}
 use mathlib.Core.Bool.{Bool, cond, not, _&&_}
@@ -10,6 +10,7 @@ use Rattle.theory.specs.Query.{Line as TheLine}
 use Rattle.theory.specs.Cover.{at}
 use Rattle.theory.specs.Executable.Test.{allBelow}
 use Rattle.words.specs.Bits.{bit}
+use Rattle.model.specs.Limits.{mostColumns}
 use Rattle.model.specs.Value.{sameTerm}
 use Rattle.model.specs.Rows.{laidTable, laidTerm}
 use Rattle.model.specs.declared.Term.{Term}
@@ -22,13 +23,13 @@ keepsTerm t u = cond (eqb (t .mark) 3) (not (eqb (u .mark) 0)) (sameTerm t u)
 unfoldable pub goesRow : List ℕ → ℕ → ℕ → Bool
 unfolding keepsTerm laidTerm allBelow
 goesRow rows a s =
-    eqb (laidTable rows a) (laidTable rows s) && allBelow 8 (λ p. keepsTerm (laidTerm rows a p) (laidTerm rows s p))
+    eqb (laidTable rows a) (laidTable rows s) && allBelow mostColumns (λ p. keepsTerm (laidTerm rows a p) (laidTerm rows s p))
 
--- column b / 8 of line A has the term of column b % 8 of line B
+-- column b / mostColumns of line A has the term of column b % mostColumns of line B
 pub record SameColumn (A B : TheLine) (b : ℕ) : Type 0 where
-  pub first : b / 8 < length (A .columns)
-  pub second : b % 8 < length (B .columns)
-  pub same : at A (b / 8) ≡ at B (b % 8)
+  pub first : b / mostColumns < length (A .columns)
+  pub second : b % mostColumns < length (B .columns)
+  pub same : at A (b / mostColumns) ≡ at B (b % mostColumns)
 
 -- all such columns, as the bits of a word
 abbrev pub SameColumns : TheLine → TheLine → ℕ → Type 0

@@ -11,17 +11,18 @@ use Rattle.theory.specs.Query.{Line as TheLine}
 use Rattle.theory.specs.Executable.Show.{shared}
 use Rattle.words.specs.Bits.{bit, isSet}
 use Rattle.words.specs.Sets.{setBit}
+use Rattle.model.specs.Limits.{mostColumns, lastVariable}
 use Rattle.model.specs.Rows.{termAt, laidTable, laidTerm}
 use Rattle.model.specs.declared.Term.{Term}
 use Rattle.model.specs.declared.Line.{Line}
 
 -- "variables 0 to 63": the hidden ones of the query
 abbrev pub Small : Query → Type 0
-Small Q = (n : ℕ) (A : TheLine) → A ∈ Q → hidden n ∈ A .columns → n < 64
+Small Q = (n : ℕ) (A : TheLine) → A ∈ Q → hidden n ∈ A .columns → n ≤ lastVariable
 
 -- a hidden variable whose number has a bit
 unfoldable pub hiddenTerm : Term → Bool
-hiddenTerm t = eqb (t .mark) 3 && leb (t .number) 63
+hiddenTerm t = eqb (t .mark) 3 && leb (t .number) lastVariable
 
 unfoldable pub hiddenSet : ℕ → Term → ℕ
 unfolding hiddenTerm setBit
@@ -35,11 +36,11 @@ HiddenWord l k w =
 -- the same where the line is there, and nothing where it is not
 abbrev pub HiddenIf : Bool → Line → ℕ → Type 0
 HiddenIf there l w =
-    (n : ℕ) → (bit w n ≡ 1) ↔ (T there × ((b : ℕ) × (b < 8) × T (hiddenTerm (termAt l b)) × (termAt l b .number ≡ n)))
+    (n : ℕ) → (bit w n ≡ 1) ↔ (T there × ((b : ℕ) × (b < mostColumns) × T (hiddenTerm (termAt l b)) × (termAt l b .number ≡ n)))
 
 -- w has the shared variables
 abbrev pub SharedWord : Query → ℕ → Type 0
-SharedWord Q w = (n : ℕ) → n < 64 → (bit w n ≡ 1) ↔ T (shared Q n)
+SharedWord Q w = (n : ℕ) → n ≤ lastVariable → (bit w n ≡ 1) ↔ T (shared Q n)
 
 unfoldable pub showValue : ℕ → Term → Term
 unfolding hiddenTerm
@@ -53,5 +54,5 @@ showLine w l = record { table = l .table; terms = map (showValue w) (l .terms) }
 pub record ShownRows (n : ℕ) (rows : List ℕ) (w : ℕ) (rows′ : List ℕ) : Type 0 where
   pub long : length rows′ ≡ length rows
   pub table : (i : ℕ) → laidTable rows′ i ≡ laidTable rows i
-  pub term : (i p : ℕ) → i < n → p < 8 → laidTerm rows′ i p ≡ showValue w (laidTerm rows i p)
-  pub rest : (i p : ℕ) → n ≤ i → p < 8 → laidTerm rows′ i p ≡ laidTerm rows i p
+  pub term : (i p : ℕ) → i < n → p < mostColumns → laidTerm rows′ i p ≡ showValue w (laidTerm rows i p)
+  pub rest : (i p : ℕ) → n ≤ i → p < mostColumns → laidTerm rows′ i p ≡ laidTerm rows i p

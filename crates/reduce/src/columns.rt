@@ -5,10 +5,12 @@ ghost use Prim.Native.Nat.{_*_, _+_, _≤_, _<_};
 ghost use lib.ListN.{length};
 ghost use Rattle.theory.specs.Query.{Line as TheLine};
 ghost use Rattle.words.specs.Sets.{Upto};
-ghost use Rattle.model.specs.Rows.{termAt, LaidAt};
+ghost use Rattle.model.specs.Limits.{mostColumns, mostLines};
+ghost use Rattle.model.specs.Rows.{queryRowsLong, termAt, LaidAt};
 ghost use Rattle.model.specs.Value.{lineValue};
 ghost use Rattle.reduce.specs.Columns.{keepsTerm, goesRow, SameColumn, SameColumns};
 use model::HIDDEN;
+use model::MOST_COLUMNS;
 use model::Term;
 use model::UNUSED;
 
@@ -24,14 +26,14 @@ fn keeps_term(t: Term, u: Term) -> bool
 
 // The line in row a could go to the one in row s, were there no hidden variable in two columns.
 pub fn goes_line(lines: &[u64], a: usize, s: usize) -> bool
-    requires { ⌜ (length (now lines) ≡ 136) × (a < 8) × (s < 8) ⌝ }
+    requires { ⌜ (length (now lines) ≡ queryRowsLong) × (a < mostLines) × (s < mostLines) ⌝ }
     ensures { λ r. ⌜ r ≡ goesRow (now (lines .entry)) a s ⌝ }
 {
     if model::table_at(lines, a) != model::table_at(lines, s) {
         return false;
     }
     let mut p = 0;
-    while p < 8 {
+    while p < MOST_COLUMNS {
         let t = model::term_at(lines, a, p);
         let u = model::term_at(lines, s, p);
         if !keeps_term(t, u) {
@@ -44,31 +46,31 @@ pub fn goes_line(lines: &[u64], a: usize, s: usize) -> bool
 
 // The word with the columns of row b that have term t, which stands in column p of a line.
 fn with_column(m: u64, p: usize, t: Term, lines: &[u64], b: usize) -> u64
-    requires { ⌜ (p < 8) × (length (now lines) ≡ 136) × (b < 8) ⌝ }
-    ensures { λ r. ⌜ ((A B : TheLine) → t ≡ termAt (lineValue A) p → LaidAt (now (lines .entry)) b (lineValue B) → length (A .columns) ≤ 8 → length (B .columns) ≤ 8 → Upto (SameColumn A B) (p * 8) m → Upto (SameColumn A B) (p * 8 + 8) r) ⌝ }
+    requires { ⌜ (p < mostColumns) × (length (now lines) ≡ queryRowsLong) × (b < mostLines) ⌝ }
+    ensures { λ r. ⌜ ((A B : TheLine) → t ≡ termAt (lineValue A) p → LaidAt (now (lines .entry)) b (lineValue B) → length (A .columns) ≤ mostColumns → length (B .columns) ≤ mostColumns → Upto (SameColumn A B) (p * mostColumns) m → Upto (SameColumn A B) (p * mostColumns + mostColumns) r) ⌝ }
 {
     if t.mark == UNUSED {
         return m;
     }
     let mut r = m;
     let mut q = 0;
-    while q < 8 {
+    while q < MOST_COLUMNS {
         let u = model::term_at(lines, b, q);
         let same = model::same_term(t, u);
-        r = words::set_bit_if(r, (p * 8 + q) as u64, same);
+        r = words::set_bit_if(r, (p * MOST_COLUMNS + q) as u64, same);
         q += 1;
     }
     r
 }
 
-// The columns p and q of lines a and b that have the same term, as bit p * 8 + q.
+// The columns p and q of lines a and b that have the same term, as bit p * MOST_COLUMNS + q.
 pub fn same_columns(lines: &[u64], a: usize, b: usize) -> u64
-    requires { ⌜ (length (now lines) ≡ 136) × (a < 8) × (b < 8) ⌝ }
-    ensures { λ r. ⌜ ((A B : TheLine) → LaidAt (now (lines .entry)) a (lineValue A) → LaidAt (now (lines .entry)) b (lineValue B) → length (A .columns) ≤ 8 → length (B .columns) ≤ 8 → SameColumns A B r) ⌝ }
+    requires { ⌜ (length (now lines) ≡ queryRowsLong) × (a < mostLines) × (b < mostLines) ⌝ }
+    ensures { λ r. ⌜ ((A B : TheLine) → LaidAt (now (lines .entry)) a (lineValue A) → LaidAt (now (lines .entry)) b (lineValue B) → length (A .columns) ≤ mostColumns → length (B .columns) ≤ mostColumns → SameColumns A B r) ⌝ }
 {
     let mut m = 0;
     let mut p = 0;
-    while p < 8 {
+    while p < MOST_COLUMNS {
         let t = model::term_at(lines, a, p);
         m = with_column(m, p, t, lines, b);
         p += 1;

@@ -1,18 +1,25 @@
-// The words from which it is told which lines may go. Pair p is line p / 8 with target p % 8.
+// The words from which it is told which lines may go. Pair p is line p / MOST_LINES with target p % MOST_LINES.
 
 ghost use mathlib.Core.Path.{_≡_};
 ghost use mathlib.Core.Bool.{_&&_};
 ghost use Prim.Native.Nat.{_≤_, _<_};
 ghost use lib.ListN.{length};
 ghost use Rattle.theory.specs.Query.{Query as TheQuery};
+ghost use Rattle.model.specs.Limits.{mostLines};
+ghost use Rattle.model.specs.Rows.{queryRowsLong};
 ghost use Rattle.reduce.specs.Columns.{goesRow};
 ghost use Rattle.reduce.specs.Laid.{Laid};
+ghost use Rattle.reduce.specs.PairNumbers.{mostPairs};
 ghost use Rattle.reduce.specs.Pairs.{Goings, Columns, joins, Candidates, PairWord, PairWords};
 use crate::columns::goes_line;
 use crate::columns::same_columns;
+use model::MOST_LINES;
+
+// Every line with every line.
+pub const PAIRS: usize = MOST_LINES * MOST_LINES;
 
 fn can_go(there: bool, lines: &[u64], a: usize, s: usize) -> bool
-    requires { ⌜ (length (now lines) ≡ 136) × (a < 8) × (s < 8) ⌝ }
+    requires { ⌜ (length (now lines) ≡ queryRowsLong) × (a < mostLines) × (s < mostLines) ⌝ }
     ensures { λ r. ⌜ r ≡ (there && goesRow (now (lines .entry)) a s) ⌝ }
 {
     if !there {
@@ -23,13 +30,13 @@ fn can_go(there: bool, lines: &[u64], a: usize, s: usize) -> bool
 
 // The pairs of a line with a line that it could go to.
 pub fn goings(n: usize, lines: &[u64]) -> u64
-    requires { ⌜ (n ≤ 8) × (length (now lines) ≡ 136) ⌝ }
+    requires { ⌜ (n ≤ mostLines) × (length (now lines) ≡ queryRowsLong) ⌝ }
     ensures { λ r. ⌜ ((Q : TheQuery) → length Q ≡ n → Laid Q (now (lines .entry)) → Goings Q r) ⌝ }
 {
     let mut m = 0;
     let mut p = 0;
-    while p < n * 8 {
-        let on = can_go(p % 8 < n, lines, p / 8, p % 8);
+    while p < n * MOST_LINES {
+        let on = can_go(p % MOST_LINES < n, lines, p / MOST_LINES, p % MOST_LINES);
         m = words::set_bit_if(m, p as u64, on);
         p += 1;
     }
@@ -37,15 +44,15 @@ pub fn goings(n: usize, lines: &[u64]) -> u64
 }
 
 // For each two lines the columns that have the same term.
-pub fn columns(n: usize, lines: &[u64]) -> [u64; 64]
-    requires { ⌜ (n ≤ 8) × (length (now lines) ≡ 136) ⌝ }
+pub fn columns(n: usize, lines: &[u64]) -> [u64; PAIRS]
+    requires { ⌜ (n ≤ mostLines) × (length (now lines) ≡ queryRowsLong) ⌝ }
     ensures { λ r. ⌜ ((Q : TheQuery) → length Q ≡ n → Laid Q (now (lines .entry)) → Columns Q r) ⌝ }
 {
-    let mut table = [0; 64];
+    let mut table = [0; PAIRS];
     let mut p = 0;
-    while p < n * 8 {
-        if p % 8 < n {
-            table[p] = same_columns(lines, p / 8, p % 8);
+    while p < n * MOST_LINES {
+        if p % MOST_LINES < n {
+            table[p] = same_columns(lines, p / MOST_LINES, p % MOST_LINES);
         }
         p += 1;
     }
@@ -54,18 +61,18 @@ pub fn columns(n: usize, lines: &[u64]) -> [u64; 64]
 
 // Whether one map can send the lines of pairs p and b to their targets: columns of the lines that have the same term stand
 // over columns of the targets that have the same term.
-fn join(columns: &[u64; 64], p: usize, b: usize) -> bool
-    requires { ⌜ (p < 64) × (b < 64) × (length (now columns) ≡ 64) ⌝ }
+fn join(columns: &[u64; PAIRS], p: usize, b: usize) -> bool
+    requires { ⌜ (p < mostPairs) × (b < mostPairs) × (length (now columns) ≡ mostPairs) ⌝ }
     ensures { λ r. ⌜ r ≡ joins (now (columns .entry)) p b ⌝ }
 {
-    let lines = columns[p / 8 * 8 + b / 8];
-    let targets = columns[p % 8 * 8 + b % 8];
+    let lines = columns[p / MOST_LINES * MOST_LINES + b / MOST_LINES];
+    let targets = columns[p % MOST_LINES * MOST_LINES + b % MOST_LINES];
     words::includes(targets, lines)
 }
 
 // The pairs of a line with a line that it can go to by itself.
-pub fn candidates(columns: &[u64; 64], goings: u64) -> u64
-    requires { ⌜ length (now columns) ≡ 64 ⌝ }
+pub fn candidates(columns: &[u64; PAIRS], goings: u64) -> u64
+    requires { ⌜ length (now columns) ≡ mostPairs ⌝ }
     ensures { λ r. ⌜ Candidates (now (columns .entry)) goings r ⌝ }
 {
     let mut m = 0;
@@ -80,8 +87,8 @@ pub fn candidates(columns: &[u64; 64], goings: u64) -> u64
 }
 
 // The candidates that are compatible with pair p.
-fn pair_word(columns: &[u64; 64], candidates: u64, p: usize) -> u64
-    requires { ⌜ (p < 64) × (length (now columns) ≡ 64) ⌝ }
+fn pair_word(columns: &[u64; PAIRS], candidates: u64, p: usize) -> u64
+    requires { ⌜ (p < mostPairs) × (length (now columns) ≡ mostPairs) ⌝ }
     ensures { λ r. ⌜ PairWord (now (columns .entry)) candidates p r ⌝ }
 {
     let mut w = 0;
@@ -96,11 +103,11 @@ fn pair_word(columns: &[u64; 64], candidates: u64, p: usize) -> u64
 }
 
 // For each candidate the candidates that are compatible with it.
-pub fn pair_words(columns: &[u64; 64], candidates: u64) -> [u64; 64]
-    requires { ⌜ length (now columns) ≡ 64 ⌝ }
+pub fn pair_words(columns: &[u64; PAIRS], candidates: u64) -> [u64; PAIRS]
+    requires { ⌜ length (now columns) ≡ mostPairs ⌝ }
     ensures { λ r. ⌜ PairWords (now (columns .entry)) candidates r ⌝ }
 {
-    let mut table = [0; 64];
+    let mut table = [0; PAIRS];
     let mut rest = candidates;
     while rest != 0 {
         let p = words::least(rest) as usize;

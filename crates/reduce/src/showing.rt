@@ -6,13 +6,15 @@ ghost use Prim.Native.Nat.{_≤_, _<_};
 ghost use lib.ListN.{length};
 ghost use Rattle.theory.specs.Query.{Query as TheQuery};
 ghost use Rattle.words.specs.Bits.{isSet};
-ghost use Rattle.model.specs.Rows.{LaidAt};
+ghost use Rattle.model.specs.Limits.{mostColumns, mostLines};
+ghost use Rattle.model.specs.Rows.{queryRowsLong, LaidAt};
 ghost use Rattle.model.specs.declared.Line.{Line};
 ghost use Rattle.reduce.specs.Laid.{Laid};
 ghost use Rattle.reduce.specs.Left.{linesAt};
 ghost use Rattle.reduce.specs.Showing.{hiddenTerm, hiddenSet, HiddenWord, HiddenIf, SharedWord, showValue, ShownRows};
 use model::HIDDEN;
 use model::LAST_VARIABLE;
+use model::MOST_COLUMNS;
 use model::SHOWN;
 use model::Term;
 
@@ -38,12 +40,12 @@ fn with_hidden(m: u64, t: Term) -> u64
 
 // The hidden variables of the line in row i, as bits.
 fn hidden_word(lines: &[u64], i: usize) -> u64
-    requires { ⌜ (length (now lines) ≡ 136) × (i < 8) ⌝ }
-    ensures { λ r. ⌜ ((l : Line) → LaidAt (now (lines .entry)) i l → HiddenWord l 8 r) ⌝ }
+    requires { ⌜ (length (now lines) ≡ queryRowsLong) × (i < mostLines) ⌝ }
+    ensures { λ r. ⌜ ((l : Line) → LaidAt (now (lines .entry)) i l → HiddenWord l mostColumns r) ⌝ }
 {
     let mut m = 0;
     let mut k = 0;
-    while k < 8 {
+    while k < MOST_COLUMNS {
         let t = model::term_at(lines, i, k);
         m = with_hidden(m, t);
         k += 1;
@@ -53,7 +55,7 @@ fn hidden_word(lines: &[u64], i: usize) -> u64
 
 // The hidden variables of a line that is there.
 fn hidden_if(there: bool, lines: &[u64], i: usize) -> u64
-    requires { ⌜ (length (now lines) ≡ 136) × (i < 8) ⌝ }
+    requires { ⌜ (length (now lines) ≡ queryRowsLong) × (i < mostLines) ⌝ }
     ensures { λ r. ⌜ ((l : Line) → LaidAt (now (lines .entry)) i l → HiddenIf there l r) ⌝ }
 {
     if !there {
@@ -64,7 +66,7 @@ fn hidden_if(there: bool, lines: &[u64], i: usize) -> u64
 
 // The hidden variables that stand in two or more of the lines left of n lines, as bits.
 pub fn shared(n: usize, lines: &[u64], left: u64) -> u64
-    requires { ⌜ (n ≤ 8) × (length (now lines) ≡ 136) ⌝ }
+    requires { ⌜ (n ≤ mostLines) × (length (now lines) ≡ queryRowsLong) ⌝ }
     ensures { λ r. ⌜ ((Q : TheQuery) → length Q ≡ n → Laid Q (now (lines .entry)) → SharedWord (linesAt left Q) r) ⌝ }
 {
     let mut once = 0;
@@ -104,17 +106,17 @@ fn show_term(shared: u64, t: Term) -> Term
 
 // The first n rows with their shared variables shown.
 pub fn show(n: usize, lines: &mut [u64], shared: u64)
-    requires { ⌜ (n ≤ 8) × (length (now lines) ≡ 136) ⌝ }
+    requires { ⌜ (n ≤ mostLines) × (length (now lines) ≡ queryRowsLong) ⌝ }
     ensures { λ _. ⌜ ShownRows n (now (lines .entry)) shared (now (lines .exit)) ⌝ }
 {
     if shared == 0 {
         return;
     }
     let mut k = 0;
-    while k < n * 8 {
-        let t = model::term_at(lines, k / 8, k % 8);
+    while k < n * MOST_COLUMNS {
+        let t = model::term_at(lines, k / MOST_COLUMNS, k % MOST_COLUMNS);
         let u = show_term(shared, t);
-        model::set_mark(lines, k / 8, k % 8, u.mark);
+        model::set_mark(lines, k / MOST_COLUMNS, k % MOST_COLUMNS, u.mark);
         k += 1;
     }
 }

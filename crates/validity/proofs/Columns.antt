@@ -18,7 +18,7 @@ use Rattle.theory.specs.Executable.Test.{same, kind, number}
 use Rattle.theory.proofs.Executable.Test.{and-iff, same-iff}
 use Rattle.words.specs.Sets.{setBit, meet}
 use Rattle.words.proofs.Tests.{meet-iff}
-use Rattle.model.specs.Limits.{mostColumns, termWithin, lastVariable}
+use Rattle.model.specs.Limits.{mostColumns, termWithin}
 use Rattle.model.specs.Value.{termValue, unusedTerm}
 use Rattle.model.specs.declared.Term.{Term}
 use Rattle.validity.specs.Parts.{HoldsList, GoodTerm, TermOf, TermPlace, TermsHeld}

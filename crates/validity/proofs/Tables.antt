@@ -5,7 +5,7 @@ use mathlib.Core.List.{List}
 use Prim.Native.Nat.{ℕ, _≤_}
 use lib.ListN.{length}
 use Rattle.theory.proofs.Tuples.{map-self}
-use Rattle.model.specs.Limits.{mostTables, mostColumns}
+use Rattle.model.specs.Limits.{mostTables}
 use Rattle.model.specs.Value.{pad, tablesValue}
 use Rattle.model.specs.declared.Tables.{Tables}
 use Rattle.model.proofs.Limits.{up-to-iff}

@@ -10,7 +10,7 @@ use Rattle.theory.specs.Query.{constant, shown, hidden}
 use Rattle.theory.specs.Query.{Term as TheTerm}
 use Rattle.theory.specs.Executable.Test.{kind, number}
 use Rattle.text.specs.Numeral.{constantLimit}
-use Rattle.model.specs.Limits.{termWithin, lastVariable}
+use Rattle.model.specs.Limits.{termWithin}
 use Rattle.model.specs.Value.{termValue}
 use Rattle.model.specs.declared.Term.{Term}
 use Rattle.validity.specs.Parts.{TermOf}

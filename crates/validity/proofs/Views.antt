@@ -8,7 +8,7 @@ use lib.ListN.{length, getD, take, length-map}
 use lib.Seq.{take-all}
 use Rattle.theory.specs.Query.{Line as TheLine}
 use Rattle.theory.proofs.Executable.Test.{and-iff, all-iff}
-use Rattle.model.specs.Limits.{mostTables, mostColumns, mostViews, upTo, termWithin, lineWithin}
+use Rattle.model.specs.Limits.{mostTables, mostViews, upTo, termWithin, lineWithin}
 use Rattle.model.specs.Checks.{known, wide}
 use Rattle.model.specs.Value.{pad, unusedTerm, termValue, termsValue, unusedLine, lineValue, tablesValue}
 use Rattle.model.specs.declared.Line.{Line}

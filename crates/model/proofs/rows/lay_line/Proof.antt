@@ -2,6 +2,7 @@
 use mathlib.Core.Path.{refl}
 use Prim.Native.Nat.{_-_, _≤_}
 use lib.ListN.{length-set}
+use Rattle.model.specs.Limits.{mostColumns}
 use Rattle.model.specs.Rows.{termAt}
 use Rattle.model.specs.Value.{unusedTerm}
 use Rattle.model.proofs.LaidTerms.{LaidTo, nothing-laid, term-laid, line-laid}
@@ -11,10 +12,10 @@ use Rattle.model.proofs.rows.lay_line.Statement.{statement}
 use Rattle.model.proofs.rows.lay_line.Tie as tie
 
 abbrev Inv-loop : tie.InvT-loop
-Inv-loop k rows₀ l p₀ rows p = (p ≤ 8) × LaidTo l k p rows₀ rows
+Inv-loop k rows₀ l p₀ rows p = (p ≤ mostColumns) × LaidTo l k p rows₀ rows
 
 abbrev μ-loop : tie.MeasureT-loop
-μ-loop k rows₀ l p₀ rows p = 8 - p
+μ-loop k rows₀ l p₀ rows p = mostColumns - p
 
 loop-holds : tie.Need-loop-holds Inv-loop μ-loop
 loop-holds c = (omega arith, nothing-laid _ _ _)

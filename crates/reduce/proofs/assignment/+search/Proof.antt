@@ -8,6 +8,7 @@ use borrow.Fn.PlainCycle.{Measures, is, falls, and}
 use Rattle.words.specs.Sets.{Least, LeastDropped}
 use Rattle.words.proofs.Bits.{bit-within}
 use Rattle.words.proofs.Answers.{yes-iff, no-iff}
+use Rattle.model.specs.Limits.{mostLines}
 use Rattle.reduce.proofs.Rows.{Tried, extends-none, extends-join, empty-none, tried-none, tried-more, tried-all}
 use Rattle.reduce.proofs.assignment.search.Reads as search′
 use Rattle.reduce.proofs.assignment.search.Kinds as search-kinds
@@ -66,19 +67,19 @@ search-drop-least-requires : (t : ℕ) → search-lts.Need-drop-least-requires (
 search-drop-least-requires t c κs = omega arith
 
 search-row-of-requires : (t : ℕ) → search-lts.Need-row-of-requires (calls t) (search-at t) search′.Post search-Inv-loop search-μ-loop
-search-row-of-requires t c κs = (bit-within 8 _ (c .before .before .before .before .before .pre .1 .0 .0) (c .before .least .ensures .set), c .before .before .before .before .before .pre .1 .0 .1)
+search-row-of-requires t c κs = (bit-within mostLines _ (c .before .before .before .before .before .pre .1 .0 .0) (c .before .least .ensures .set), c .before .before .before .before .before .pre .1 .0 .1)
 
 search-loop-holds : (t : ℕ) → search-lts.Need-loop-holds (calls t) (search-at t) search′.Post search-Inv-loop search-μ-loop
 search-loop-holds t c =
     let first = c .before .before .least .ensures in
     let others = c .before .drop-least .ensures in (first, others, tried-none _ _ _ _ _ _ first others (c .row-of .ensures))
 
--- the line and its target are two of the eight
-line : (t : ℕ) (c : search-lts.In-loop (calls t) (search-at t) search′.Post search-Inv-loop search-μ-loop) → c .before .before .before .before .least .result < 8
-line t c = bit-within 8 _ (c .before .before .before .before .before .before .before .before .pre .1 .0 .0) (c .before .before .before .before .least .ensures .set)
+-- the line and its target are lines of the query
+line : (t : ℕ) (c : search-lts.In-loop (calls t) (search-at t) search′.Post search-Inv-loop search-μ-loop) → c .before .before .before .before .least .result < mostLines
+line t c = bit-within mostLines _ (c .before .before .before .before .before .before .before .before .pre .1 .0 .0) (c .before .before .before .before .least .ensures .set)
 
-target : (t : ℕ) (c : search-lts.After-least2 (calls t) (search-at t) search′.Post search-Inv-loop search-μ-loop) → c .least2 .result < 8
-target t c = bit-within 8 _ (c .before .before .before .before .before .before .before .before .before .pre .1 .0 .1) (c .before .before .loop .inv .2 .some _ (c .least2 .ensures .set) .0)
+target : (t : ℕ) (c : search-lts.After-least2 (calls t) (search-at t) search′.Post search-Inv-loop search-μ-loop) → c .least2 .result < mostLines
+target t c = bit-within mostLines _ (c .before .before .before .before .before .before .before .before .before .pre .1 .0 .1) (c .before .before .loop .inv .2 .some _ (c .least2 .ensures .set) .0)
 
 search-mul-at : (t : ℕ) → search-lts.Need-mul-at (calls t) (search-at t) search′.Post search-Inv-loop search-μ-loop
 search-mul-at t c = omega (arith, line t c)

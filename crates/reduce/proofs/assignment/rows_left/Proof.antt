@@ -5,6 +5,7 @@ use native.Mathlib.Omega.{arith}
 use Rattle.words.specs.Bits.{bit}
 use Rattle.words.proofs.Bits.{bit-within}
 use Rattle.words.proofs.Marks.{left-before}
+use Rattle.model.specs.Limits.{mostLines}
 use Rattle.reduce.specs.Extends.{TargetsOf}
 use Rattle.reduce.proofs.Rows.{row-empty}
 use Rattle.reduce.proofs.assignment.rows_left.Statement.{statement}
@@ -27,7 +28,7 @@ row : (c : tie.After-least Inv-loop μ-loop) → bit (c .before .before .before 
 row c = c .before .before .loop .inv .1 (c .least .result) (c .least .ensures .set)
 
 row-of-requires : tie.Need-row-of-requires Inv-loop μ-loop
-row-of-requires c κs = (bit-within 8 _ (c .before .before .before .pre .0) (row c), c .before .before .before .pre .1)
+row-of-requires c κs = (bit-within mostLines _ (c .before .before .before .pre .0) (row c), c .before .before .before .pre .1)
 
 returns : tie.Need-returns Inv-loop μ-loop
 returns c e = row-empty (row (c .before .before)) (subst (TargetsOf _ _ _) (c .if1 .taken) (c .before .row-of .ensures))

@@ -6,6 +6,7 @@ use borrow.Author.Count.{below-none, below-more}
 use borrow.Author.Tests.{eq-eqb, ne-eqb}
 use lib.Dec.{eqb}
 use Rattle.words.proofs.Answers.{failing, passing}
+use Rattle.model.specs.Limits.{mostColumns}
 use Rattle.model.specs.Rows.{laidTable, laidTerm}
 use Rattle.reduce.specs.Columns.{keepsTerm, goesRow}
 use Rattle.reduce.proofs.Below.{and-no, below-broken, below-done}
@@ -14,10 +15,10 @@ use Rattle.reduce.proofs.columns.goes_line.Tie as tie
 
 abbrev Inv-loop : tie.InvT-loop
 Inv-loop lines a s p₀ p =
-    (p ≤ 8) × ((k : ℕ) → k < p → keepsTerm (laidTerm lines a k) (laidTerm lines s k) ≡ true)
+    (p ≤ mostColumns) × ((k : ℕ) → k < p → keepsTerm (laidTerm lines a k) (laidTerm lines s k) ≡ true)
 
 abbrev μ-loop : tie.MeasureT-loop
-μ-loop lines a s p₀ p = 8 - p
+μ-loop lines a s p₀ p = mostColumns - p
 
 table-at-requires : tie.Need-table-at-requires Inv-loop μ-loop
 table-at-requires c κs = omega arith
@@ -60,7 +61,7 @@ returns-2 c =
     (below-broken
     (λ k.
     keepsTerm (laidTerm (a .lines .now) (a .a) k) (laidTerm (a .lines .now) (a .s) k))
-    8 (c .before .before .before .before .before .loop .p) (c .before .before .before .before .loop-test .taken)
+    mostColumns (c .before .before .before .before .before .loop .p) (c .before .before .before .before .loop-test .taken)
     (failing (answer (c .before)) (c .if2 .taken)))) (and-no (eqb (laidTable (a .lines .now) (a .a)) (laidTable (a .lines .now) (a .s)))))
 
 add-p : tie.Need-add-p Inv-loop μ-loop
@@ -82,7 +83,7 @@ returns-3 c =
       below-done
           (λ k.
           keepsTerm (laidTerm (a .lines .now) (a .a) k) (laidTerm (a .lines .now) (a .s) k))
-          8 (λ k h. c .before .loop .inv .1 k (omega arith)),
+          mostColumns (λ k h. c .before .loop .inv .1 k (omega arith)),
     )
 
 pub goes-line-spec : {M : Type 1} → statement M

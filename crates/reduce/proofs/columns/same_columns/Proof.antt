@@ -5,6 +5,7 @@ use lib.ListN.{length}
 use Rattle.theory.specs.Query.{Line as TheLine}
 use Rattle.words.specs.Sets.{Upto}
 use Rattle.words.proofs.Marks.{upto-none}
+use Rattle.model.specs.Limits.{mostColumns}
 use Rattle.model.specs.Rows.{LaidAt}
 use Rattle.model.specs.Value.{lineValue}
 use Rattle.reduce.specs.Columns.{SameColumn}
@@ -14,12 +15,12 @@ use Rattle.reduce.proofs.columns.same_columns.Tie as tie
 
 abbrev Inv-loop : tie.InvT-loop
 Inv-loop lines a b m₀ p₀ m p =
-    (p ≤ 8)
-    × ((A B : TheLine) → LaidAt lines a (lineValue A) → LaidAt lines b (lineValue B) → length (A .columns) ≤ 8
-    → length (B .columns) ≤ 8 → Upto (SameColumn A B) (p * 8) m)
+    (p ≤ mostColumns)
+    × ((A B : TheLine) → LaidAt lines a (lineValue A) → LaidAt lines b (lineValue B) → length (A .columns) ≤ mostColumns
+    → length (B .columns) ≤ mostColumns → Upto (SameColumn A B) (p * mostColumns) m)
 
 abbrev μ-loop : tie.MeasureT-loop
-μ-loop lines a b m₀ p₀ m p = 8 - p
+μ-loop lines a b m₀ p₀ m p = mostColumns - p
 
 loop-holds : tie.Need-loop-holds Inv-loop μ-loop
 loop-holds c = (omega arith, λ A B ea eb few few′. upto-none 0 (λ b l h. omega arith))
@@ -41,7 +42,7 @@ loop-again c = (
   omega arith,
   λ A B ea eb few few′.
       let loop = c .before .before .before .loop in
-      let e : (loop .p + 1) * 8 ≡ loop .p * 8 + 8 = omega arith in
+      let e : (loop .p + 1) * mostColumns ≡ loop .p * mostColumns + mostColumns = omega arith in
       rw e
       (c .with-column .ensures A B (c .before .term-at .ensures ∙ ea .term (loop .p) (c .before .before .loop-test .taken)) eb few few′
       (loop .inv .1 A B ea eb few few′)),
@@ -49,7 +50,7 @@ loop-again c = (
 
 returns : tie.Need-returns Inv-loop μ-loop
 returns c = λ A B ea eb few few′.
-    let e : c .before .loop .p * 8 ≡ 64 = omega arith in
+    let e : c .before .loop .p * mostColumns ≡ mostColumns * mostColumns = omega arith in
     columns-all A B few few′ (rw e at (c .before .loop .inv .1 A B ea eb few few′))
 
 pub same-columns-spec : {M : Type 1} → statement M

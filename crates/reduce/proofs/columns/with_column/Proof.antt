@@ -5,6 +5,7 @@ use native.Mathlib.Omega.{arith}
 use lib.ListN.{length}
 use Rattle.theory.specs.Query.{Line as TheLine}
 use Rattle.words.specs.Sets.{Upto}
+use Rattle.model.specs.Limits.{mostColumns}
 use Rattle.model.specs.Rows.{termAt, LaidAt}
 use Rattle.model.specs.Value.{lineValue}
 use Rattle.reduce.specs.Columns.{SameColumn}
@@ -14,12 +15,12 @@ use Rattle.reduce.proofs.columns.with_column.Tie as tie
 
 abbrev Inv-loop : tie.InvT-loop
 Inv-loop m p t lines b r₀ q₀ r q =
-    (q ≤ 8)
-    × ((A B : TheLine) → t ≡ termAt (lineValue A) p → LaidAt lines b (lineValue B) → length (A .columns) ≤ 8 → length (B .columns) ≤ 8
-    → Upto (SameColumn A B) (p * 8) m → Upto (SameColumn A B) (p * 8 + q) r)
+    (q ≤ mostColumns)
+    × ((A B : TheLine) → t ≡ termAt (lineValue A) p → LaidAt lines b (lineValue B) → length (A .columns) ≤ mostColumns → length (B .columns) ≤ mostColumns
+    → Upto (SameColumn A B) (p * mostColumns) m → Upto (SameColumn A B) (p * mostColumns + q) r)
 
 abbrev μ-loop : tie.MeasureT-loop
-μ-loop m p t lines b r₀ q₀ r q = 8 - q
+μ-loop m p t lines b r₀ q₀ r q = mostColumns - q
 
 returns : tie.Need-returns Inv-loop μ-loop
 returns c = λ A B et eb few few′ k. column-skip A B few few′ _ _ et (c .if1 .taken) k
@@ -60,7 +61,7 @@ loop-again c = (
 
 returns-2 : tie.Need-returns-2 Inv-loop μ-loop
 returns-2 c = λ A B et eb few few′ k.
-    let e : c .before .loop .q ≡ 8 = omega arith in
+    let e : c .before .loop .q ≡ mostColumns = omega arith in
     rw e at (c .before .loop .inv .1 A B et eb few few′ k)
 
 pub with-column-spec : {M : Type 1} → statement M

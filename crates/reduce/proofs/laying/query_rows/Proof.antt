@@ -3,6 +3,7 @@ use mathlib.Core.Path.{_≡_, refl, _∙_}
 use Prim.Native.Nat.{_-_, _≤_}
 use lib.ListN.{length}
 use Rattle.theory.specs.Query.{Query}
+use Rattle.model.specs.Rows.{queryRowsLong}
 use Rattle.model.proofs.LaidTerms.{RowsTo, rows-none, rows-more}
 use Rattle.reduce.specs.Laid.{HoldsQuery}
 use Rattle.reduce.proofs.Lines.{held-count, held-line}
@@ -13,7 +14,7 @@ use Rattle.reduce.proofs.laying.query_rows.Statement.{statement}
 use Rattle.reduce.proofs.laying.query_rows.Tie as tie
 
 abbrev Inv-loop : tie.InvT-loop
-Inv-loop q n lines₀ i₀ lines i = (i ≤ n) × (length lines ≡ 136) × ((Q : Query) → HoldsQuery q Q → RowsTo (valueAt Q) i lines)
+Inv-loop q n lines₀ i₀ lines i = (i ≤ n) × (length lines ≡ queryRowsLong) × ((Q : Query) → HoldsQuery q Q → RowsTo (valueAt Q) i lines)
 
 abbrev μ-loop : tie.MeasureT-loop
 μ-loop q n lines₀ i₀ lines i = n - i

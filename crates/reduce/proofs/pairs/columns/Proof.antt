@@ -1,9 +1,11 @@
 use mathlib.Core.Path.{_≡_, refl}
 use mathlib.Core.Logic.{⊎-elim}
-use Prim.Native.Nat.{_*_, _/_, _%_, _-_, _≤_, _<_}
+use Prim.Native.Nat.{_*_, _-_, _≤_, _<_}
 use native.Mathlib.Omega.{arith}
 use lib.ListN.{length}
 use Rattle.theory.specs.Query.{Query}
+use Rattle.model.specs.Limits.{mostLines}
+use Rattle.reduce.specs.PairNumbers.{lineOf, targetOf}
 use Rattle.reduce.specs.Agree.{lineAt}
 use Rattle.reduce.specs.Laid.{Laid}
 use Rattle.reduce.proofs.Lines.{laid-few}
@@ -12,10 +14,10 @@ use Rattle.reduce.proofs.pairs.columns.Statement.{statement}
 use Rattle.reduce.proofs.pairs.columns.Tie as tie
 
 abbrev Inv-loop : tie.InvT-loop
-Inv-loop n lines table₀ p₀ table p = (p ≤ n * 8) × ((Q : Query) → length Q ≡ n → Laid Q lines → Compared Q p table)
+Inv-loop n lines table₀ p₀ table p = (p ≤ n * mostLines) × ((Q : Query) → length Q ≡ n → Laid Q lines → Compared Q p table)
 
 abbrev μ-loop : tie.MeasureT-loop
-μ-loop n lines table₀ p₀ table p = n * 8 - p
+μ-loop n lines table₀ p₀ table p = n * mostLines - p
 
 loop-holds : tie.Need-loop-holds Inv-loop μ-loop
 loop-holds c = (omega arith, λ Q e laid. compared-none _ refl)
@@ -44,13 +46,13 @@ loop-again c = (
   λ Q e laid.
       let loop = c .before .before .loop in
       let p = loop .p in
-      let i : p / 8 < length Q = omega (arith, e, c .before .loop-test .taken) in
+      let i : lineOf p < length Q = omega (arith, e, c .before .loop-test .taken) in
       ⊎-elim
       (λ w.
-      let j : p % 8 < length Q = omega (arith, e, w .0 .taken) in
+      let j : targetOf p < length Q = omega (arith, e, w .0 .taken) in
       rw (w .2)
       (compared-more p (w .1 .result) _ (omega arith) (loop .inv .1 Q e laid)
-      (w .1 .ensures (lineAt Q (p / 8)) (lineAt Q (p % 8)) (laid .row (p / 8) i) (laid .row (p % 8) j) (laid-few laid (p / 8) i) (laid-few laid (p % 8) j))))
+      (w .1 .ensures (lineAt Q (lineOf p)) (lineAt Q (targetOf p)) (laid .row (lineOf p) i) (laid .row (targetOf p) j) (laid-few laid (lineOf p) i) (laid-few laid (targetOf p) j))))
       (λ w. rw (w .1) (compared-skip p _ (omega (arith, e, w .0 .left)) (loop .inv .1 Q e laid))) (c .if1 .came),
 )
 

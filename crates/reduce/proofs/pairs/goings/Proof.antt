@@ -5,6 +5,7 @@ use lib.ListN.{length}
 use Rattle.theory.specs.Query.{Query}
 use Rattle.words.specs.Sets.{Upto}
 use Rattle.words.proofs.Marks.{upto-none}
+use Rattle.model.specs.Limits.{mostLines}
 use Rattle.reduce.specs.Laid.{Laid}
 use Rattle.reduce.specs.Pairs.{Going}
 use Rattle.reduce.proofs.LinePairs.{goings-more, goings-all}
@@ -13,10 +14,10 @@ use Rattle.reduce.proofs.pairs.goings.Tie as tie
 
 abbrev Inv-loop : tie.InvT-loop
 Inv-loop n lines m₀ p₀ m p =
-    (p ≤ n * 8) × ((Q : Query) → length Q ≡ n → Laid Q lines → Upto (Going Q) p m)
+    (p ≤ n * mostLines) × ((Q : Query) → length Q ≡ n → Laid Q lines → Upto (Going Q) p m)
 
 abbrev μ-loop : tie.MeasureT-loop
-μ-loop n lines m₀ p₀ m p = n * 8 - p
+μ-loop n lines m₀ p₀ m p = n * mostLines - p
 
 loop-holds : tie.Need-loop-holds Inv-loop μ-loop
 loop-holds c = (omega arith, λ Q e laid. upto-none 0 (λ b l h. omega arith))

@@ -1,6 +1,7 @@
 use mathlib.Core.Path.{_≡_, ap, _∙_}
 use Prim.Native.Nat.{_-_, _≤_}
 use native.Mathlib.Omega.{arith}
+use Rattle.model.specs.Limits.{mostColumns}
 use Rattle.model.specs.Rows.{LaidAt}
 use Rattle.model.specs.declared.Line.{Line}
 use Rattle.reduce.specs.Showing.{hiddenSet, HiddenWord}
@@ -9,10 +10,10 @@ use Rattle.reduce.proofs.showing.hidden_word.Statement.{statement}
 use Rattle.reduce.proofs.showing.hidden_word.Tie as tie
 
 abbrev Inv-loop : tie.InvT-loop
-Inv-loop lines i m₀ k₀ m k = (k ≤ 8) × ((l : Line) → LaidAt lines i l → HiddenWord l k m)
+Inv-loop lines i m₀ k₀ m k = (k ≤ mostColumns) × ((l : Line) → LaidAt lines i l → HiddenWord l k m)
 
 abbrev μ-loop : tie.MeasureT-loop
-μ-loop lines i m₀ k₀ m k = 8 - k
+μ-loop lines i m₀ k₀ m k = mostColumns - k
 
 loop-holds : tie.Need-loop-holds Inv-loop μ-loop
 loop-holds c = (omega arith, λ l row. hidden-none l)
@@ -40,7 +41,7 @@ loop-again c =
 
 returns : tie.Need-returns Inv-loop μ-loop
 returns c = λ l row.
-    let e : c .before .loop .k ≡ 8 = omega arith in
+    let e : c .before .loop .k ≡ mostColumns = omega arith in
     rw e at (c .before .loop .inv .1 l row)
 
 pub hidden-word-spec : {M : Type 1} → statement M

@@ -1,4 +1,5 @@
 use mathlib.Core.Path.{subst}
+use native.Mathlib.Omega.{arith}
 use lib.Dec.{T}
 use borrow.Author.Tests.{not-true, not-false}
 use Rattle.reduce.proofs.Hidden.{hidden-small}
@@ -13,7 +14,9 @@ returns : tie.Need-returns
 returns c = simp (← c .before .is-hidden .ensures, not-true (c .before .is-hidden .result) (c .if1 .taken))
 
 has-bit-requires : tie.Need-has-bit-requires
-has-bit-requires c κs = hidden-small _ (subst T (c .before .is-hidden .ensures) (rw (not-false (c .before .is-hidden .result) (c .if1 .left)) tt))
+has-bit-requires c κs =
+    let small = hidden-small _ (subst T (c .before .is-hidden .ensures) (rw (not-false (c .before .is-hidden .result) (c .if1 .left)) tt)) in
+    omega (arith, small)
 
 returns-2 : tie.Need-returns-2
 returns-2 c = simp (← c .before .before .is-hidden .ensures, not-false (c .before .before .is-hidden .result) (c .before .if1 .left), c .has-bit .ensures)

@@ -1,6 +1,7 @@
 -- `reduce::show`: the terms of the pairs before `k` are shown, and where nothing is shared all stay as they are.
 use mathlib.Core.Path.{ap, _∙_}
 use Prim.Native.Nat.{_*_, _-_, _≤_}
+use Rattle.model.specs.Limits.{mostColumns}
 use Rattle.reduce.specs.Showing.{showValue}
 use Rattle.reduce.proofs.ShownTerms.{ShownTo, none-done, one-done, none-shared, all-done}
 use native.Mathlib.Omega.{arith}
@@ -8,10 +9,10 @@ use Rattle.reduce.proofs.showing.show.Statement.{statement}
 use Rattle.reduce.proofs.showing.show.Tie as tie
 
 abbrev Inv-loop : tie.InvT-loop
-Inv-loop n lines₀ shared k₀ lines k = (k ≤ n * 8) × ShownTo k lines₀ shared lines
+Inv-loop n lines₀ shared k₀ lines k = (k ≤ n * mostColumns) × ShownTo k lines₀ shared lines
 
 abbrev μ-loop : tie.MeasureT-loop
-μ-loop n lines₀ shared k₀ lines k = n * 8 - k
+μ-loop n lines₀ shared k₀ lines k = n * mostColumns - k
 
 returns : tie.Need-returns Inv-loop μ-loop
 returns c = rw (c .if1 .taken) (none-shared _ _)

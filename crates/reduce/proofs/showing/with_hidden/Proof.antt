@@ -1,4 +1,5 @@
 use mathlib.Core.Path.{subst}
+use native.Mathlib.Omega.{arith}
 use lib.Dec.{T}
 use Rattle.reduce.specs.Showing.{hiddenSet}
 use Rattle.reduce.proofs.Hidden.{hidden-small}
@@ -10,7 +11,8 @@ is-hidden-requires : tie.Need-is-hidden-requires
 is-hidden-requires c κs = search needs
 
 set-bit-requires : tie.Need-set-bit-requires
-set-bit-requires c κs = hidden-small _ (subst T (c .before .is-hidden .ensures) (rw (c .if1 .taken) tt))
+set-bit-requires c κs =
+    let small = hidden-small _ (subst T (c .before .is-hidden .ensures) (rw (c .if1 .taken) tt)) in omega (arith, small)
 
 returns : tie.Need-returns
 unfolding hiddenSet

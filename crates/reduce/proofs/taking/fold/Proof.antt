@@ -5,9 +5,10 @@ use lib.ListN.{length}
 use Rattle.theory.specs.Query.{Query}
 use Rattle.words.proofs.ClearBits.{low-bits-below}
 use Rattle.words.proofs.Masks.{bit-and-iff}
+use Rattle.model.specs.Limits.{mostLines}
 use Rattle.reduce.specs.Left.{Folds}
 use Rattle.reduce.specs.Pairs.{PairsTabled}
-use Rattle.reduce.proofs.Passes.{folds-all, in-eight, cleared, folds-more}
+use Rattle.reduce.proofs.Passes.{folds-all, lines-below, cleared, folds-more}
 use Rattle.reduce.proofs.taking.fold.Statement.{statement}
 use Rattle.reduce.proofs.taking.fold.Tie as tie
 
@@ -43,8 +44,8 @@ shl-alone c = omega arith
 search-requires : tie.Need-search-requires Inv-loop μ-loop
 search-requires c κs =
     let s = c .before .before .before .before in
-    let small = in-eight (c .before .before .loop .inv .1) (s .pre .0) in
-    ((small, cleared 8 _ _ (c .clear-bit .ensures) small), s .pre .1)
+    let small = lines-below (c .before .before .loop .inv .1) (s .pre .0) in
+    ((small, cleared mostLines _ _ (c .clear-bit .ensures) small), s .pre .1)
 
 loop-less : tie.Need-loop-less Inv-loop μ-loop
 loop-less c = omega arith
@@ -58,7 +59,7 @@ loop-again c =
       omega arith,
       small,
       λ Q e t.
-          folds-more t (at .rows) (rest .result) _ (in-eight small (s .pre .0))
+          folds-more t (at .rows) (rest .result) _ (lines-below small (s .pre .0))
           (λ p h. bit-and-iff _ _ p .0 h .0) (at .inv .2 Q e t) (c .before .search .ensures .0 (c .if1 .taken)),
     )
 

@@ -7,16 +7,17 @@ use Rattle.theory.specs.Query.{Query}
 use Rattle.words.specs.Bits.{bit}
 use Rattle.words.proofs.Bits.{bit-within}
 use Rattle.words.proofs.ClearBits.{low-bits-below}
+use Rattle.model.specs.Limits.{mostLines}
 use Rattle.reduce.specs.Left.{Folds}
 use Rattle.reduce.specs.Pairs.{PairsTabled}
-use Rattle.reduce.proofs.Passes.{in-eight, cleared, Taking, taking-none, taking-out, taking-kept, taking-all}
+use Rattle.reduce.proofs.Passes.{lines-below, cleared, Taking, taking-none, taking-out, taking-kept, taking-all}
 use Rattle.reduce.proofs.taking.taken.Statement.{statement}
 use Rattle.reduce.proofs.taking.taken.Tie as tie
 
 abbrev Inv-loop : tie.InvT-loop
 Inv-loop n rows candidates table left₀ i₀ left i =
     (i ≤ n)
-    × (left < 2 ^ 8)
+    × (left < 2 ^ mostLines)
     × ((Q : Query) (e : length Q ≡ n) (t : PairsTabled Q candidates table) (there : (j : ℕ) → bit rows j ≡ 1 → j < length Q) (f : Folds Q rows) → Taking t rows there f i left)
 
 abbrev μ-loop : tie.MeasureT-loop
@@ -28,7 +29,7 @@ low-bits-requires c κs = omega arith
 loop-holds : tie.Need-loop-holds Inv-loop μ-loop
 loop-holds c = (
   omega arith,
-  rw (c .low-bits .ensures) (low-bits-below (c .before .args .n) 8 (c .before .pre .0)),
+  rw (c .low-bits .ensures) (low-bits-below (c .before .args .n) mostLines (c .before .pre .0)),
   λ Q e t there f. rw (c .low-bits .ensures) (taking-none t _ there f (c .before .args .n) e),
 )
 
@@ -42,7 +43,7 @@ search-requires : tie.Need-search-requires Inv-loop μ-loop
 search-requires c κs =
     let s = c .before .before .before .before in
     let at = c .before .before .loop in
-    ((in-eight (s .pre .1) (s .pre .0), cleared 8 _ _ (c .clear-bit .ensures) (at .inv .1)), s .pre .2)
+    ((lines-below (s .pre .1) (s .pre .0), cleared mostLines _ _ (c .clear-bit .ensures) (at .inv .1)), s .pre .2)
 
 loop-less : tie.Need-loop-less Inv-loop μ-loop
 loop-less c = omega arith
@@ -53,7 +54,7 @@ loop-again c =
     let rest = c .before .before .clear-bit in
     let e : at .i ≡ suc (at .i - 1) = omega arith in (
       omega arith,
-      cleared 8 _ _ (rest .ensures) (at .inv .1),
+      cleared mostLines _ _ (rest .ensures) (at .inv .1),
       λ Q l t there f.
           rw (rest .ensures)
           (taking-out t _ there f (at .i - 1) (at .left) (rw e at (at .inv .2 Q l t there f)) (omega arith)
