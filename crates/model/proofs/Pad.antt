@@ -1,10 +1,10 @@
 -- A list with one entry behind it, up to a width.
 use mathlib.Core.Path.{_≡_, refl, sym, ap, _∙_}
-use mathlib.Core.List.{List, [], _∷_, _++_, append-assoc}
+use mathlib.Core.List.{List, [], _∷_, _++_, map, append-assoc, map-append}
 use Prim.Native.Nat.{ℕ, zero, suc, _+_, _-_, _≤_, _<_}
 use native.Mathlib.Decide.{decLt}
 use native.Mathlib.Omega.{arith}
-use lib.ListN.{length, getD, take, set, replicate, length-append, length-replicate, List·getD-append, List·getD-eq-default}
+use lib.ListN.{length, getD, take, set, replicate, length-append, length-replicate, length-map, List·getD-append, List·getD-eq-default}
 use lib.Seq.{set-append-seam, take-append-seam, getD-append-add}
 use Rattle.model.specs.Value.{pad}
 
@@ -50,3 +50,13 @@ module _ {X : Type 0} (n : ℕ) (d : X) where
   pub pad-take : (l : List X) → take (length l) (pad n d l) ≡ l
   unfolding pad
   pad-take l = take-append-seam l (replicate (n - length l) d)
+
+module _ {X : Type 0} (f : X → X) where
+  map-replicate : (n : ℕ) (d : X) → f d ≡ d → map f (replicate n d) ≡ replicate n d
+  map-replicate zero d e = refl
+  map-replicate (suc n) d e = cc (e, map-replicate n d e)
+
+  -- what stands behind a list needs no change
+  pub map-pad : (n : ℕ) (d : X) (l : List X) → f d ≡ d → map f (pad n d l) ≡ pad n d (map f l)
+  unfolding pad
+  map-pad n d l e = rw (map-append, map-replicate (n - length l) d e, length-map)

@@ -7,22 +7,11 @@ use lib.Dec.{T, eqb}
 use lib.ListN.{length}
 use mir.Facts.{eqb-yes, yes-eqb}
 use Rattle.theory.specs.Query.{Term, Line, _∈_}
-use Rattle.theory.specs.Executable.Test.{all, same}
+use Rattle.theory.specs.Executable.Test.{all}
 use Rattle.theory.specs.Executable.Reduce.{keeps, agrees}
-use Rattle.theory.proofs.Executable.Test.{and-iff, implies-iff, all-iff, same-iff}
+use Rattle.theory.proofs.Executable.Test.{and-iff, all-iff}
+use Rattle.theory.proofs.Executable.Reduce.{agrees-iff}
 use Rattle.reduce.specs.Agree.{goes, agree}
-
--- ---- pairs of terms
-
-pub agrees-iff : (y z : Term × Term) → T (agrees y z) ↔ (y .0 ≡ z .0 → y .1 ≡ z .1)
-unfolding agrees
-agrees-iff y z =
-    let k = implies-iff (same (y .0) (z .0)) (same (y .1) (z .1)) in (
-      λ h e. same-iff (y .1) (z .1) .0 (k .0 h (same-iff (y .0) (z .0) .1 e)),
-      λ f. k .1 (λ h. same-iff (y .1) (z .1) .1 (f (same-iff (y .0) (z .0) .0 h))),
-    )
-
--- ---- pairs of lines
 
 -- equal terms in the columns of A and B stand over equal terms
 abbrev pub Joint : Line → Line → Line → Line → Type 0

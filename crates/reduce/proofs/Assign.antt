@@ -9,26 +9,20 @@ use native.Mathlib.Nat.{not-suc-le-zero, le-refl, le-step, le-of-suc-le-suc, eq-
 use lib.Dec.{T}
 use lib.ListN.{length, length-map}
 use mir.Facts.{eqb-yes, yes-eqb}
-use Rattle.theory.specs.Query.{Term, constant, shown, hidden, over, Line, Query, _∈_}
+use Rattle.theory.specs.Query.{Term, over, Line, Query, _∈_}
 use Rattle.theory.specs.Reduce.{image, without, Sends}
 use Rattle.theory.specs.Executable.Test.{all}
 use Rattle.theory.specs.Executable.Reduce.{keeps, agrees, mappable, sendable, mayGo}
 use Rattle.theory.proofs.Tuples.{tuple-path, map-zip, zip-map}
-use Rattle.theory.proofs.Executable.Test.{and-iff, all-iff, same-iff}
-use Rattle.theory.proofs.Executable.Reduce.{mappable-iff, sendable-iff}
+use Rattle.theory.proofs.Executable.Test.{and-iff, all-iff}
+use Rattle.theory.proofs.Executable.Reduce.{agrees-iff, keeps-from, mappable-iff, sendable-iff}
 use Rattle.words.specs.Bits.{bit, isSet}
 use Rattle.reduce.specs.Agree.{agree, lineAt}
 use Rattle.reduce.specs.Left.{linesAt}
-use Rattle.reduce.proofs.Agree.{Goes, agrees-iff, agree-iff}
+use Rattle.reduce.proofs.Agree.{Goes, agree-iff}
 use Rattle.reduce.proofs.Left.{in-lines, lines-in}
 
 -- ---- a line and what a map makes of it
-
-keeps-from : (m : ℕ → Term) (t u : Term) → image m t ≡ u → T (keeps (t, u))
-unfolding keeps
-keeps-from m (constant c) u e = same-iff (constant c) u .1 e
-keeps-from m (shown n) u e = same-iff (shown n) u .1 e
-keeps-from m (hidden n) u e = tt
 
 pub goes-image : (m : ℕ → Term) (A : Line) → Goes A (over (image m) A)
 goes-image m A = record {

@@ -21,6 +21,5 @@ pub mod Staying
 -- Showing.
 pub mod Hidden
 pub mod Seen
-pub mod Mapped
 pub mod Shown
 pub mod ShownTerms

@@ -21,9 +21,9 @@ use Rattle.model.specs.Limits.{mostColumns, lastVariable}
 use Rattle.model.specs.Value.{pad, unusedTerm, termValue, termsValue, lineValue}
 use Rattle.model.specs.declared.Term.{Term}
 use Rattle.model.specs.declared.Line.{Line}
+use Rattle.model.proofs.Pad.{map-pad}
 use Rattle.model.proofs.Terms.{terms-few}
 use Rattle.reduce.specs.Showing.{Small, hiddenTerm, SharedWord, showValue, showLine}
-use Rattle.reduce.proofs.Mapped.{map-pad}
 
 pub line-is : (w : ℕ) (r l : Line) → r .table ≡ l .table → r .terms ≡ map (showValue w) (l .terms) → r ≡ showLine w l
 unfolding showLine

@@ -9,6 +9,7 @@ use lib.ListN.{length, getD}
 use Rattle.theory.specs.Query.{constant, Line, Query}
 use Rattle.theory.specs.Cover.{at}
 use Rattle.theory.proofs.Tuples.{zip-place, place-zip}
+use Rattle.theory.proofs.Executable.Reduce.{agrees-iff}
 use Rattle.words.specs.Bits.{bit}
 use Rattle.words.specs.Sets.{include}
 use Rattle.words.proofs.Answers.{true-iff}
@@ -18,7 +19,7 @@ use Rattle.reduce.specs.PairNumbers.{pairOf, lineOf, targetOf}
 use Rattle.reduce.specs.Agree.{lineAt}
 use Rattle.reduce.specs.Columns.{SameColumn, SameColumns}
 use Rattle.reduce.specs.Pairs.{Going, Goings, Columns, joins, Candidates, PairWords, Joined, Candidate, PairsTabled}
-use Rattle.reduce.proofs.Agree.{Goes, Joint, agrees-iff, goes-iff, agree-iff}
+use Rattle.reduce.proofs.Agree.{Goes, Joint, goes-iff, agree-iff}
 use Rattle.reduce.specs.Laid.{Laid}
 use Rattle.reduce.proofs.Lines.{laid-few}
 

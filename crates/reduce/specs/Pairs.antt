@@ -1,7 +1,7 @@
 -- The words from which it is told which lines may go.
 use mathlib.Core.Path.{_≡_}
 use mathlib.Core.Logic.{_↔_}
-use mathlib.Core.Bool.{Bool}
+use mathlib.Core.Bool.{Bool, cond}
 use mathlib.Core.List.{List}
 use Prim.Native.Nat.{ℕ, _≤_, _<_}
 use lib.Dec.{T}
@@ -34,6 +34,10 @@ pub record Columns (Q : Query) (columns : List ℕ) : Type 0 where
 unfoldable pub joins : List ℕ → ℕ → ℕ → Bool
 unfolding include
 joins columns p b = include 64 (getD columns (pairOf (targetOf p) (targetOf b)) 0) (getD columns (pairOf (lineOf p) (lineOf b)) 0)
+
+-- the bits of w are those of m that join pair p, or join themselves where each is looked at alone
+abbrev pub Joining : List ℕ → ℕ → Bool → ℕ → ℕ → Type 0
+Joining columns m alone p w = (b : ℕ) → (bit w b ≡ 1) ↔ ((bit m b ≡ 1) × T (joins columns (cond alone b p) b))
 
 abbrev pub Candidates : List ℕ → ℕ → ℕ → Type 0
 Candidates columns goings m = (p : ℕ) → (bit m p ≡ 1) ↔ ((bit goings p ≡ 1) × T (joins columns p p))

@@ -1,7 +1,7 @@
 // The words from which it is told which lines may go. Pair p is line p / MOST_LINES with target p % MOST_LINES.
 
 ghost use mathlib.Core.Path.{_≡_};
-ghost use mathlib.Core.Bool.{_&&_};
+ghost use mathlib.Core.Bool.{cond, _&&_};
 ghost use Prim.Native.Nat.{_≤_, _<_};
 ghost use lib.ListN.{length};
 ghost use Rattle.theory.specs.Query.{Query as TheQuery};
@@ -10,7 +10,7 @@ ghost use Rattle.model.specs.Rows.{queryRowsLong};
 ghost use Rattle.reduce.specs.Columns.{goesRow};
 ghost use Rattle.reduce.specs.Laid.{Laid};
 ghost use Rattle.reduce.specs.PairNumbers.{mostPairs};
-ghost use Rattle.reduce.specs.Pairs.{Goings, Columns, joins, Candidates, PairWord, PairWords};
+ghost use Rattle.reduce.specs.Pairs.{Goings, Columns, joins, Joining, Candidates, PairWord, PairWords};
 use crate::columns::goes_line;
 use crate::columns::same_columns;
 use model::MOST_LINES;
@@ -70,20 +70,39 @@ fn join(columns: &[u64; PAIRS], p: usize, b: usize) -> bool
     words::includes(targets, lines)
 }
 
+// The same of pair b with itself, where it is looked at alone, and with pair p where it is not.
+fn join_one(columns: &[u64; PAIRS], alone: bool, p: usize, b: usize) -> bool
+    requires { ⌜ (p < mostPairs) × (b < mostPairs) × (length (now columns) ≡ mostPairs) ⌝ }
+    ensures { λ r. ⌜ r ≡ joins (now (columns .entry)) (cond alone b p) b ⌝ }
+{
+    if alone {
+        return join(columns, b, b);
+    }
+    join(columns, p, b)
+}
+
+// Those of some pairs of which that is so.
+fn joining(columns: &[u64; PAIRS], pairs: u64, alone: bool, p: usize) -> u64
+    requires { ⌜ (p < mostPairs) × (length (now columns) ≡ mostPairs) ⌝ }
+    ensures { λ r. ⌜ Joining (now (columns .entry)) pairs alone p r ⌝ }
+{
+    let mut m = 0;
+    let mut rest = pairs;
+    while rest != 0 {
+        let b = words::least(rest);
+        let on = join_one(columns, alone, p, b as usize);
+        m = words::set_bit_if(m, b, on);
+        rest = words::drop_least(rest);
+    }
+    m
+}
+
 // The pairs of a line with a line that it can go to by itself.
 pub fn candidates(columns: &[u64; PAIRS], goings: u64) -> u64
     requires { ⌜ length (now columns) ≡ mostPairs ⌝ }
     ensures { λ r. ⌜ Candidates (now (columns .entry)) goings r ⌝ }
 {
-    let mut m = 0;
-    let mut rest = goings;
-    while rest != 0 {
-        let p = words::least(rest);
-        let on = join(columns, p as usize, p as usize);
-        m = words::set_bit_if(m, p, on);
-        rest = words::drop_least(rest);
-    }
-    m
+    joining(columns, goings, true, 0)
 }
 
 // The candidates that are compatible with pair p.
@@ -91,15 +110,7 @@ fn pair_word(columns: &[u64; PAIRS], candidates: u64, p: usize) -> u64
     requires { ⌜ (p < mostPairs) × (length (now columns) ≡ mostPairs) ⌝ }
     ensures { λ r. ⌜ PairWord (now (columns .entry)) candidates p r ⌝ }
 {
-    let mut w = 0;
-    let mut rest = candidates;
-    while rest != 0 {
-        let b = words::least(rest);
-        let on = join(columns, p, b as usize);
-        w = words::set_bit_if(w, b, on);
-        rest = words::drop_least(rest);
-    }
-    w
+    joining(columns, candidates, false, p)
 }
 
 // For each candidate the candidates that are compatible with it.

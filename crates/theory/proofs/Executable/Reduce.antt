@@ -22,7 +22,7 @@ use Rattle.theory.proofs.Executable.Test.{and-iff, implies-iff, all-iff
 
 -- ---- a map of terms
 
-agrees-iff : (y z : Term × Term) → T (agrees y z) ↔ (y .0 ≡ z .0 → y .1 ≡ z .1)
+pub agrees-iff : (y z : Term × Term) → T (agrees y z) ↔ (y .0 ≡ z .0 → y .1 ≡ z .1)
 unfolding agrees
 agrees-iff y z =
     let k = implies-iff (same (y .0) (z .0)) (same (y .1) (z .1)) in (
@@ -31,7 +31,7 @@ agrees-iff y z =
     )
 
 -- a map keeps constants and shown variables
-keeps-from : (m : ℕ → Term) (t u : Term) → image m t ≡ u → T (keeps (t, u))
+pub keeps-from : (m : ℕ → Term) (t u : Term) → image m t ≡ u → T (keeps (t, u))
 unfolding keeps
 keeps-from m (constant c) u e = same-iff (constant c) u .1 e
 keeps-from m (shown n) u e = same-iff (shown n) u .1 e
