@@ -53,8 +53,8 @@ module _ (text : List ℕ) (at : ℕ) {k : ℕ} {c : Cursor} (n : NextLine (rest
   pub line-here : take (c .at - 1) (restFrom text at) ≡ front (drop at text)
   line-here = rw (to-end at text) (line-bytes here)
 
-  pub next-place : c .at ≤ length (restFrom text at) → at + c .at ≤ length text
-  next-place h = omega (arith, n .place, ends-here h, length-drop at text, here .place)
+  pub next-within : before 10 (drop at text) < length (drop at text) → at + c .at ≤ length text
+  next-within h = omega (arith, here .place, length-drop at text)
 
   pub rest-behind : drop (at + c .at) text ≡ back (drop at text)
   rest-behind = sym (drop-drop (c .at) at text) ∙ bytes-behind here
@@ -87,10 +87,29 @@ module _ (names text : List ℕ) where
       pub names-same : sameBytes (take (c .at - 1) text) names ≡ true → AfterNames names text c
       names-same e = (λ t. n, λ f. absurd (true≢false (sym (same-line ∙ e) ∙ f)))
 
--- a text that is read so: a names line, then the lines of values; else it is bad
-module _ {X : Type 0} (read values : List (List ℕ) → List ℕ → X) (bad : X) (names text : List ℕ)
+  -- a place is given only behind the names line
+  module _ {c : Cursor} (a : AfterNames names text c) (f : c .at ≡ 0 → ⊥) where
+    starts : startsWith names (lines text .ended) ≡ true
+    starts = go (startsWith names (lines text .ended)) (a .1)
+      where
+        go : (t : Bool) → (t ≡ false → c .at ≡ 0) → t ≡ true
+        go true b = refl
+        go false b = absurd (f (b refl))
+
+    ends-first : before 10 text < length text
+    ends-first =
+        let ended : before 10 text ≡ length text → ⊥ = λ e. true≢false (sym starts ∙ stops-first e) in omega (arith, before-le 10 text)
+
+    pub behind-names : NextLine text 1 c
+    behind-names = a .0 starts
+
+    pub names-within : c .at ≤ length text
+    names-within = omega (arith, behind-names .place, ends-first)
+
+-- a text is read so: the names line, then the lines of values from number 2 on; a text that starts with another line is bad
+module _ {X : Type 0} (read : List (List ℕ) → List ℕ → X) (values : ℕ → List (List ℕ) → List ℕ → X) (bad : X) (names text : List ℕ)
     (none : (tail : List ℕ) → read [] tail ≡ bad)
-    (some : (l : List ℕ) (ls : List (List ℕ)) (tail : List ℕ) → read (l ∷ ls) tail ≡ cond (sameBytes l names) (values ls tail) bad)
+    (some : (l : List ℕ) (ls : List (List ℕ)) (tail : List ℕ) → read (l ∷ ls) tail ≡ cond (sameBytes l names) (values 2 ls tail) bad)
     {c : Cursor} (a : AfterNames names text c) where
   pub misnamed : c .at ≡ 0 → bad ≡ read (lines text .ended) (lines text .rest)
   unfolding startsWith
@@ -102,27 +121,13 @@ module _ {X : Type 0} (read values : List (List ℕ) → List ℕ → X) (bad : 
       go [] false e b = none (lines text .rest)
       go (l ∷ ls) false e b = some l ls (lines text .rest) ∙ rw e
 
-  module _ (f : c .at ≡ 0 → ⊥) where
-    starts : startsWith names (lines text .ended) ≡ true
-    starts = go (startsWith names (lines text .ended)) (a .1)
-      where
-        go : (t : Bool) → (t ≡ false → c .at ≡ 0) → t ≡ true
-        go true b = refl
-        go false b = absurd (f (b refl))
-
-    ends-first : before 10 text < length text
-    ends-first =
-        let ended : before 10 text ≡ length text → ⊥ = λ e. true≢false (sym starts ∙ stops-first names text e) in
-        omega (arith, before-le 10 text)
-
-    -- the line behind the names line has the number 2
-    pub second : c .line ≡ 2
-    second = a .0 starts .number
-
-    pub named : values (lines (drop (c .at) text) .ended) (lines (drop (c .at) text) .rest) ≡ read (lines text .ended) (lines text .rest)
-    unfolding lines
-    named =
-        let whole = ap (λ (s : Split). read (s .ended) (s .rest)) (split-found 10 text ends-first)
-        ∙ some (front text) (lines (back text) .ended) (lines (back text) .rest) in
-        let same = sym (first-is names text ends-first) ∙ starts in
-        rw (bytes-behind (a .0 starts)) (sym (rw same at whole))
+  pub named : (c .at ≡ 0 → ⊥)
+      → values (c .line) (lines (restFrom text (c .at)) .ended) (lines (restFrom text (c .at)) .rest) ≡ read (lines text .ended) (lines text .rest)
+  unfolding lines
+  named f =
+      let n = behind-names names text a f in
+      let h = ends-first names text a f in
+      let whole = ap (λ (s : Split). read (s .ended) (s .rest)) (split-found 10 text h)
+      ∙ some (front text) (lines (back text) .ended) (lines (back text) .rest) in
+      let same = sym (first-is names text h) ∙ starts names text a f in
+      rw (to-end (c .at) text, bytes-behind n, n .number) (sym (rw same at whole))
