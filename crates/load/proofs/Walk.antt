@@ -8,10 +8,12 @@ use Prim.Native.Nat.{ℕ, zero, suc, _+_, _≤_, _<_}
 use native.Mathlib.Nat.{suc-ne-zero, not-suc-le-zero}
 use native.Mathlib.Numerals.{add-one}
 use native.Mathlib.Omega.{arith}
-use lib.ListN.{length, take, drop, length-drop, drop-of-length-le}
-use lib.Seq.{drop-drop}
+use lib.ListN.{length, drop, length-drop, drop-of-length-le}
 use Rattle.text.specs.Lines.{Split, lines, split, before}
+use Rattle.text.specs.Cursors.{NextLine}
+use Rattle.text.specs.declared.Cursor.{Cursor}
 use Rattle.text.proofs.Lines.{split-none, split-found}
+use Rattle.text.proofs.NextLines.{front, back, restFrom, next-within, rest-behind}
 use Rattle.model.specs.Fields.{Numbered, tableLine, viewLine, partitionLine}
 use Rattle.policy_text.specs.Text.{nothing, refused, accepted, faulty, entered, Block, tables, views, partitions, unless, entry, enter, tableFault, viewFault, partitionFault, isNext, nextBlock, policyEnds, goOn, loadFrom}
 use Rattle.policy_text.specs.Declared.{Declared}
@@ -28,9 +30,7 @@ abbrev pub behind : Block → Bool → Declared → ℕ → List ℕ → TheLoad
 behind b started d k text = loadFrom b started d k (lines text .ended) (lines text .rest)
 
 behind-line : (b : Block) (started : Bool) (d : Declared) (k : ℕ) (text : List ℕ) → before 10 text < length text
-    → behind b started d k text
-    ≡ loadFrom b started d k (take (before 10 text) text ∷ lines (drop (suc (before 10 text)) text) .ended)
-    (lines (drop (suc (before 10 text)) text) .rest)
+    → behind b started d k text ≡ loadFrom b started d k (front text ∷ lines (back text) .ended) (lines (back text) .rest)
 unfolding lines
 behind-line b started d k text h = ap (λ (s : Split). loadFrom b started d k (s .ended) (s .rest)) (split-found 10 text h)
 
@@ -140,10 +140,10 @@ module _ {text : List ℕ} {start : ℕ} {g : Progress} {line at : ℕ} (w : Wal
   module _ (h : before 10 (drop at text) < length (drop at text)) where
     -- the line that starts here, and the text behind it
     abbrev here : List ℕ
-    here = take (before 10 (drop at text)) (drop at text)
+    here = front (drop at text)
 
     abbrev rest : List ℕ
-    rest = drop (suc (before 10 (drop at text))) (drop at text)
+    rest = back (drop at text)
 
     from-here : loadFrom (w .block) (w .begun) (w .declared) line (here ∷ lines rest .ended) (lines rest .rest)
         ≡ behind tables false nothing start text
@@ -157,8 +157,8 @@ module _ {text : List ℕ} {start : ℕ} {g : Progress} {line at : ℕ} (w : Wal
           ∙ sym (turned-back (w .block) (w .begun) (w .declared) here line (lines rest .ended) (lines rest .rest) (λ e. n (fault ∙ e)))
           ∙ from-here
 
-      pub walked-more : r .fault ≡ 0 → Walked text start (r .progress) (line + 1) (at + before 10 (drop at text) + 1)
-      walked-more z =
+      pub walked-more : {c : Cursor} → NextLine (restFrom text at) line c → r .fault ≡ 0 → Walked text start (r .progress) (c .line) (at + c .at)
+      walked-more {c} m z =
           let n = goes-on (w .block) (w .begun) (w .declared) here line (lines rest .ended) (lines rest .rest)
           (sym (ap (λ (s : Stepped). s .fault) value) ∙ z) in
           record {
@@ -166,18 +166,10 @@ module _ {text : List ℕ} {start : ℕ} {g : Progress} {line at : ℕ} (w : Wal
             begun = n .begun;
             declared = n .declared;
             held = ap (λ (s : Stepped). s .progress) value ∙ n .progress;
-            number = omega (arith, w .number);
-            inside = omega (arith, length-drop at text, h, w .inside);
-            ahead =
-                ap (λ (k : ℕ). behind (n .block) (n .begun) (n .declared) k (drop (at + before 10 (drop at text) + 1) text)) (add-one line)
-                ∙ ap (behind (n .block) (n .begun) (n .declared) (suc line)) same-rest
-                ∙ sym (n .same) ∙ from-here;
+            number = omega (arith, w .number, m .number, m .place);
+            inside = next-within text at m h;
+            ahead = rw (m .number, add-one line, rest-behind text at m) (sym (n .same) ∙ from-here);
           }
-        where
-          same-rest : drop (at + before 10 (drop at text) + 1) text ≡ rest
-          same-rest =
-              let e : at + before 10 (drop at text) + 1 ≡ at + suc (before 10 (drop at text)) = omega arith in
-              ap (λ (k : ℕ). drop k text) e ∙ sym (drop-drop (suc (before 10 (drop at text))) at text)
 
   -- the text stops behind its last line
   module _ (l : length text ≤ at) where

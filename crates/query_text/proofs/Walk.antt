@@ -6,8 +6,7 @@ use Prim.Native.Nat.{ℕ, zero, suc, _+_, _≤_, _<_}
 use native.Mathlib.Numerals.{add-one}
 use native.Mathlib.Omega.{arith}
 use lib.Bits.{bitOr}
-use lib.ListN.{length, take, drop, set, length-append, length-map, length-drop, drop-of-length-le}
-use lib.Seq.{drop-drop}
+use lib.ListN.{length, drop, set, length-append, length-map, length-drop, drop-of-length-le}
 use Rattle.theory.specs.Query.{Line}
 use Rattle.text.specs.Lines.{Split, lines, before}
 use Rattle.text.proofs.Lines.{split-none, split-found}
