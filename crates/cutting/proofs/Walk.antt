@@ -7,13 +7,16 @@ use Prim.Native.Nat.{ℕ, suc, _+_, _≤_, _<_, zero-le}
 use native.Mathlib.Decide.{decLt}
 use native.Mathlib.Omega.{arith}
 use lib.Dec.{T, ltb}
-use lib.ListN.{length, take, drop, length-drop, drop-of-length-le, take-append-drop}
-use lib.Seq.{take-all, drop-drop, length-take-le, take-length, drop-length}
+use lib.ListN.{length, take, drop, drop-of-length-le, take-append-drop}
+use lib.Seq.{take-all, length-take-le, take-length, drop-length}
 use borrow.Author.Tests.{ltb-true, ltb-false}
 use Rattle.text.specs.Lines.{Split, lines, before, sameBytes}
 use Rattle.text.specs.Names.{tableTerms}
+use Rattle.text.specs.Cursors.{NextLine}
+use Rattle.text.specs.declared.Cursor.{Cursor}
 use Rattle.text.proofs.Lines.{split-none, split-found, before-le}
 use Rattle.text.proofs.Names.{same-bytes-iff}
+use Rattle.text.proofs.NextLines.{front, back, restFrom, here, next-within, rest-behind}
 use Rattle.cutting.specs.Cut.{piece, cutFrom, cut}
 use Rattle.cutting.specs.NextCut.{Starts, NextCut}
 use Rattle.cutting.proofs.Line.{with-line}
@@ -23,13 +26,6 @@ use Rattle.cutting.proofs.Line.{with-line}
 -- the query texts of an input of which the bytes `now` of a query begun are passed
 abbrev behind : List ℕ → List ℕ → List (List ℕ)
 behind now text = cutFrom now (lines text .ended) (lines text .rest)
-
--- the first line of a text, and what follows it
-abbrev front : List ℕ → List ℕ
-front text = take (before 10 text) text
-
-abbrev back : List ℕ → List ℕ
-back text = drop (suc (before 10 text)) text
 
 behind-none : (now : List ℕ) → behind now [] ≡ piece now
 unfolding lines cutFrom
@@ -157,14 +153,13 @@ module _ {s : List ℕ} {at : ℕ} (w : Walked s at) where
         (λ b. going-on (take at s) (drop at s) l b)
         (one-of _ _ e)
 
-    pub walked-more : (n : ℕ) → n ≡ before 10 (drop at s) → (ltb 0 at && sameBytes (front (drop at s)) tableTerms) ≡ false
-        → Walked s (at + n + 1)
-    walked-more n c e =
-        let place : at + n + 1 ≡ at + suc (before 10 (drop at s)) = omega arith in
-        let next : back (drop at s) ≡ drop (at + suc (before 10 (drop at s))) s = drop-drop (suc (before 10 (drop at s))) at s in
+    pub walked-more : {k : ℕ} {c : Cursor} → NextLine (restFrom s at) k c → (ltb 0 at && sameBytes (front (drop at s)) tableTerms) ≡ false
+        → Walked s (at + c .at)
+    walked-more {k} {c} n e =
+        let next : c .at ≡ suc (before 10 (drop at s)) = omega (arith, here s at n .place) in
         record {
-          within = omega (arith, length-drop at s);
-          ahead = w .ahead ∙ joins e ∙ rw (with-line s at l, next, place);
+          within = next-within s at n l;
+          ahead = w .ahead ∙ joins e ∙ rw (with-line s at l, ← rest-behind s at n, next);
           passed = λ p h. by-cases (decLt 0 at) (λ q. omega (arith, w .passed q h))
               (λ q. let z : at ≡ 0 = omega arith in
               let same : before 10 (drop at s) ≡ before 10 s = ap (λ (k : ℕ). before 10 (drop k s)) z in

@@ -41,7 +41,7 @@ abbrev pub restFrom : List ℕ → ℕ → List ℕ
 restFrom text at = take (length text - at) (drop at text)
 
 module _ (text : List ℕ) (at : ℕ) {k : ℕ} {c : Cursor} (n : NextLine (restFrom text at) k c) where
-  here : NextLine (drop at text) k c
+  pub here : NextLine (drop at text) k c
   here = rw (to-end at text) at n
 
   pub stops-here : length (restFrom text at) < c .at → before 10 (drop at text) ≡ length (drop at text)
