@@ -10,10 +10,9 @@ use native.Mathlib.Numerals.{add-one}
 use native.Mathlib.Omega.{arith}
 use lib.ListN.{length, drop, length-drop, drop-of-length-le}
 use Rattle.text.specs.Lines.{Split, lines, split, before}
-use Rattle.text.specs.Cursors.{NextLine}
 use Rattle.text.specs.declared.Cursor.{Cursor}
 use Rattle.text.proofs.Lines.{split-none, split-found}
-use Rattle.text.proofs.NextLines.{front, back, restFrom, next-within, rest-behind}
+use Rattle.text.proofs.NextLines.{front, back, LineAt}
 use Rattle.model.specs.Fields.{Numbered, tableLine, viewLine, partitionLine}
 use Rattle.policy_text.specs.Text.{nothing, refused, accepted, faulty, entered, Block, tables, views, partitions, unless, entry, enter, tableFault, viewFault, partitionFault, isNext, nextBlock, policyEnds, goOn, loadFrom}
 use Rattle.policy_text.specs.Declared.{Declared}
@@ -137,7 +136,7 @@ module _ {text : List ℕ} {start : ℕ} {g : Progress} {line at : ℕ} (w : Wal
   stops l e =
       sym (behind-tail (w .block) (w .begun) (w .declared) line (drop at text) e (simp length-drop (omega arith))) ∙ w .ahead
 
-  module _ (h : before 10 (drop at text) < length (drop at text)) where
+  module _ {c : Cursor} (m : LineAt text at c) where
     -- the line that starts here, and the text behind it
     abbrev here : List ℕ
     here = front (drop at text)
@@ -147,7 +146,7 @@ module _ {text : List ℕ} {start : ℕ} {g : Progress} {line at : ℕ} (w : Wal
 
     from-here : loadFrom (w .block) (w .begun) (w .declared) line (here ∷ lines rest .ended) (lines rest .rest)
         ≡ behind tables false nothing start text
-    from-here = sym (behind-line (w .block) (w .begun) (w .declared) line (drop at text) h) ∙ w .ahead
+    from-here = sym (behind-line (w .block) (w .begun) (w .declared) line (drop at text) (m .ended)) ∙ w .ahead
 
     module _ (r : Stepped) (value : r ≡ steppedValue (w .block) (w .begun) (w .declared) here) where
       pub turns-back : (r .fault ≡ 0 → ⊥) → refused (r .fault) line ≡ behind tables false nothing start text
@@ -157,8 +156,8 @@ module _ {text : List ℕ} {start : ℕ} {g : Progress} {line at : ℕ} (w : Wal
           ∙ sym (turned-back (w .block) (w .begun) (w .declared) here line (lines rest .ended) (lines rest .rest) (λ e. n (fault ∙ e)))
           ∙ from-here
 
-      pub walked-more : {c : Cursor} → NextLine (restFrom text at) line c → r .fault ≡ 0 → Walked text start (r .progress) (c .line) (at + c .at)
-      walked-more {c} m z =
+      pub walked-more : {next : ℕ} → next ≡ line + 1 → r .fault ≡ 0 → Walked text start (r .progress) next (at + c .at)
+      walked-more e z =
           let n = goes-on (w .block) (w .begun) (w .declared) here line (lines rest .ended) (lines rest .rest)
           (sym (ap (λ (s : Stepped). s .fault) value) ∙ z) in
           record {
@@ -166,9 +165,9 @@ module _ {text : List ℕ} {start : ℕ} {g : Progress} {line at : ℕ} (w : Wal
             begun = n .begun;
             declared = n .declared;
             held = ap (λ (s : Stepped). s .progress) value ∙ n .progress;
-            number = omega (arith, w .number, m .number, m .place);
-            inside = next-within text at m h;
-            ahead = rw (m .number, add-one line, rest-behind text at m) (sym (n .same) ∙ from-here);
+            number = omega (arith, w .number, e, m .place);
+            inside = m .within;
+            ahead = rw (e, add-one line, m .behind) (sym (n .same) ∙ from-here);
           }
 
   -- the text stops behind its last line

@@ -10,9 +10,8 @@ use lib.ListN.{length, drop, set, length-append, length-map, length-drop, drop-o
 use Rattle.theory.specs.Query.{Line}
 use Rattle.text.specs.Lines.{Split, lines, before}
 use Rattle.text.proofs.Lines.{split-none, split-found}
-use Rattle.text.specs.Cursors.{NextLine}
 use Rattle.text.specs.declared.Cursor.{Cursor}
-use Rattle.text.proofs.NextLines.{front, back, restFrom, next-within, rest-behind}
+use Rattle.text.proofs.NextLines.{front, back, LineAt}
 use Rattle.model.specs.Limits.{mostLines}
 use Rattle.model.specs.Fields.{queryLine}
 use Rattle.model.specs.Value.{pad, unusedLine, lineValue, queryValue, tablesValue}
@@ -127,11 +126,11 @@ module _ {tables : Tables} {text : List ℕ} {start : ℕ} {q : QueryValue} {s h
         go (A ∷ Q) v n e = rw v (ap readingValue e)
 
   -- a line that ends
-  module _ (l : before 10 (drop at text) < length (drop at text)) where
+  module _ {c : Cursor} (l : LineAt text at c) where
     turn : (widths : List ℕ) → tables ≡ tablesValue widths
         → step (queryLine (front (drop at text))) line (fault widths (w .earlier)) (λ A. behind widths (w .earlier ++ A ∷ []) (suc line) (back (drop at text)))
         ≡ behind widths [] start text
-    turn widths t = sym (behind-line widths (w .earlier) line (drop at text) l) ∙ w .ahead widths t
+    turn widths t = sym (behind-line widths (w .earlier) line (drop at text) (l .ended)) ∙ w .ahead widths t
 
     pub wrong : queryLine (front (drop at text)) ≡ none → (widths : List ℕ) → tables ≡ tablesValue widths
         → refused 1 line ≡ behind widths [] start text
@@ -158,22 +157,21 @@ module _ {tables : Tables} {text : List ℕ} {start : ℕ} {q : QueryValue} {s h
         unfolding goodValue
         marks-more = rw good (marked-more (w .earlier) A s h (w .marked))
 
-        ahead-more : {c : Cursor} → NextLine (restFrom text at) line c → (widths : List ℕ) → tables ≡ tablesValue widths
-            → 0 ≡ fault widths (w .earlier) A → behind widths (w .earlier ++ A ∷ []) (c .line) (drop (at + c .at) text) ≡ behind widths [] start text
+        ahead-more : (widths : List ℕ) → tables ≡ tablesValue widths → 0 ≡ fault widths (w .earlier) A
+            → behind widths (w .earlier ++ A ∷ []) (line + 1) (drop (at + c .at) text) ≡ behind widths [] start text
         unfolding step judged
-        ahead-more n widths t g = rw (n .number, add-one line, rest-behind text at n) (rw (e, ← g) at (turn widths t))
+        ahead-more widths t g = rw (add-one line, l .behind) (rw (e, ← g) at (turn widths t))
 
         -- a line without a fault
-        pub walked-more : {c : Cursor} → NextLine (restFrom text at) line c
-            → ((widths : List ℕ) → tables ≡ tablesValue widths → 0 ≡ fault widths (w .earlier) A)
-            → Walked tables text start (with-line q p) (bitOr s (p .shown)) (bitOr h (p .hidden)) (c .line) (at + c .at)
+        pub walked-more : {next : ℕ} → next ≡ line + 1 → ((widths : List ℕ) → tables ≡ tablesValue widths → 0 ≡ fault widths (w .earlier) A)
+            → Walked tables text start (with-line q p) (bitOr s (p .shown)) (bitOr h (p .hidden)) next (at + c .at)
         walked-more n g =
             record {
               earlier = w .earlier ++ A ∷ [];
               held = held-more;
               marked = marks-more;
-              number = omega (arith, n .number, w .number, length-append (w .earlier) (A ∷ []));
+              number = omega (arith, n, w .number, length-append (w .earlier) (A ∷ []));
               few = omega (arith, length-append (w .earlier) (A ∷ []));
-              within = next-within text at n l;
-              ahead = λ widths t. ahead-more n widths t (g widths t);
+              within = l .within;
+              ahead = λ widths t. rw n (ahead-more widths t (g widths t));
             }

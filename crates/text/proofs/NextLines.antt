@@ -40,24 +40,31 @@ module _ {text : List ℕ} {k : ℕ} {c : Cursor} (n : NextLine text k c) where
 abbrev pub restFrom : List ℕ → ℕ → List ℕ
 restFrom text at = take (length text - at) (drop at text)
 
+-- a line that ends starts at the place, the next one at c
+pub record LineAt (text : List ℕ) (at : ℕ) (c : Cursor) : Type 0 where
+  pub ended : before 10 (drop at text) < length (drop at text)
+  pub place : c .at ≡ suc (before 10 (drop at text))
+  pub within : at + c .at ≤ length text
+  pub bytes : take (c .at - 1) (restFrom text at) ≡ front (drop at text)
+  pub behind : drop (at + c .at) text ≡ back (drop at text)
+
 module _ (text : List ℕ) (at : ℕ) {k : ℕ} {c : Cursor} (n : NextLine (restFrom text at) k c) where
-  pub here : NextLine (drop at text) k c
+  here : NextLine (drop at text) k c
   here = rw (to-end at text) at n
 
   pub stops-here : length (restFrom text at) < c .at → before 10 (drop at text) ≡ length (drop at text)
   stops-here h = no-end here (rw (to-end at text) at h)
 
-  pub ends-here : c .at ≤ length (restFrom text at) → before 10 (drop at text) < length (drop at text)
-  ends-here h = has-end here (rw (to-end at text) at h)
-
-  pub line-here : take (c .at - 1) (restFrom text at) ≡ front (drop at text)
-  line-here = rw (to-end at text) (line-bytes here)
-
-  pub next-within : before 10 (drop at text) < length (drop at text) → at + c .at ≤ length text
-  next-within h = omega (arith, here .place, length-drop at text)
-
-  pub rest-behind : drop (at + c .at) text ≡ back (drop at text)
-  rest-behind = sym (drop-drop (c .at) at text) ∙ bytes-behind here
+  pub ends-here : c .at ≤ length (restFrom text at) → LineAt text at c
+  ends-here h =
+      let ended = has-end here (rw (to-end at text) at h) in
+      record {
+        ended = ended;
+        place = omega (arith, here .place);
+        within = omega (arith, here .place, ended, length-drop at text);
+        bytes = rw (to-end at text) (line-bytes here);
+        behind = sym (drop-drop (c .at) at text) ∙ bytes-behind here;
+      }
 
 -- ---- names lines
 

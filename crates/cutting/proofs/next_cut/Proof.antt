@@ -2,14 +2,14 @@
 use mathlib.Core.Path.{_≡_, sym, ap, _∙_}
 use mathlib.Core.Bool.{_&&_}
 use mathlib.Core.List.{List}
-use Prim.Native.Nat.{ℕ, _+_, _-_, _≤_, _<_}
+use Prim.Native.Nat.{ℕ, _-_}
 use native.Mathlib.Omega.{arith}
 use borrow.Author.Needs.{needs}
 use lib.Dec.{ltb}
 use lib.ListN.{length, drop, length-take, length-drop}
 use Rattle.text.specs.Lines.{before, sameBytes}
 use Rattle.text.specs.Names.{tableTerms}
-use Rattle.text.proofs.NextLines.{front, stops-here, ends-here, line-here, next-within}
+use Rattle.text.proofs.NextLines.{front, LineAt, stops-here, ends-here}
 use Rattle.cutting.proofs.Walk.{Walked, walked-none, stops, ends, cuts, walked-more}
 use Rattle.cutting.proofs.next_cut.Statement.{statement}
 use Rattle.cutting.proofs.next_cut.Tie as tie
@@ -34,11 +34,8 @@ rest c = drop (turn c .loop .at) (text c)
 abbrev of-end : tie.Else1 Inv-loop μ-loop → tie.After-next-line Inv-loop μ-loop
 of-end c = c .before .before
 
-line-ends : (c : tie.Else1 Inv-loop μ-loop) → before 10 (rest (of-end c)) < length (rest (of-end c))
+line-ends : (c : tie.Else1 Inv-loop μ-loop) → LineAt (text (of-end c)) (turn (of-end c) .loop .at) (of-end c .next-line .result)
 line-ends c = let d = of-end c in ends-here (text d) (turn d .loop .at) (d .next-line .ensures) (c .if1 .left)
-
-next-is : (c : tie.Else1 Inv-loop μ-loop) → turn (of-end c) .loop .at + of-end c .next-line .result .at ≤ length (text (of-end c))
-next-is c = let d = of-end c in next-within (text d) (turn d .loop .at) (d .next-line .ensures) (line-ends c)
 
 -- ---- whether the line starts a query
 
@@ -50,7 +47,7 @@ is-start : (c : tie.After-is-cut Inv-loop μ-loop) → let d = of-end (of-cut c)
 is-start c =
     let d = of-end (of-cut c) in
     c .is-cut .ensures
-    ∙ ap (λ (l : List ℕ). ltb 0 (turn d .loop .at) && sameBytes l tableTerms) (line-here (text d) (turn d .loop .at) (d .next-line .ensures))
+    ∙ ap (λ (l : List ℕ). ltb 0 (turn d .loop .at) && sameBytes l tableTerms) (line-ends (of-cut c) .bytes)
 
 -- ---- the needs
 
@@ -78,7 +75,7 @@ sub-is-cut : tie.Need-sub-is-cut Inv-loop μ-loop
 sub-is-cut c = search needs
 
 slice-aggregate-is-cut : tie.Need-slice-aggregate-is-cut Inv-loop μ-loop
-slice-aggregate-is-cut c = simp (length-take, length-drop) (omega (arith, next-is (c .before .before)))
+slice-aggregate-is-cut c = simp (length-take, length-drop) (omega (arith, line-ends (c .before .before)))
 
 is-cut-requires : tie.Need-is-cut-requires Inv-loop μ-loop
 is-cut-requires c κs = search needs
@@ -88,16 +85,16 @@ returns-2 c =
     let e = of-cut (c .before) in cuts (turn (of-end e) .loop .inv) (line-ends e) (sym (is-start (c .before)) ∙ c .if2 .taken)
 
 add-at : tie.Need-add-at Inv-loop μ-loop
-add-at c = omega (arith, next-is (of-cut (c .before .before)))
+add-at c = omega (arith, line-ends (of-cut (c .before .before)))
 
 loop-less : tie.Need-loop-less Inv-loop μ-loop
-loop-less c = let d = of-cut (c .before .before) in omega (arith, next-is d, of-end d .next-line .ensures .place)
+loop-less c = omega (arith, line-ends (of-cut (c .before .before)))
 
 loop-again : tie.Need-loop-again Inv-loop μ-loop
 loop-again c =
     let s = c .before in
     let e = of-cut (s .before) in
-    walked-more (turn (of-end e) .loop .inv) (line-ends e) (of-end e .next-line .ensures) (sym (is-start (s .before)) ∙ s .if2 .left)
+    walked-more (turn (of-end e) .loop .inv) (line-ends e) (sym (is-start (s .before)) ∙ s .if2 .left)
 
 returns-3 : tie.Need-returns-3 Inv-loop μ-loop
 returns-3 c = ends (c .before .loop .inv) (c .before .before .before .pre) (c .loop-test .left)

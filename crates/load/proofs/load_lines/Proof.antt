@@ -2,14 +2,14 @@
 use mathlib.Core.Path.{_≡_, ap, _∙_}
 use mathlib.Core.Bool.{false}
 use mathlib.Core.List.{List}
-use Prim.Native.Nat.{ℕ, _+_, _-_, _≤_, _<_}
+use Prim.Native.Nat.{ℕ, _-_}
 use native.Mathlib.Omega.{arith}
 use lib.ListN.{length, drop, length-take, length-drop}
 use borrow.Author.Needs.{needs}
 use borrow.Author.Tests.{not-true, not-false}
 use Rattle.model.specs.declared.Outcome.the-variants.{Accepted}
 use Rattle.text.specs.Lines.{before}
-use Rattle.text.proofs.NextLines.{front, stops-here, ends-here, line-here, next-within}
+use Rattle.text.proofs.NextLines.{front, LineAt, stops-here, ends-here}
 use Rattle.policy_text.specs.Text.{refused}
 use Rattle.load.specs.Value.{loadingValue}
 use Rattle.load.specs.Steps.{progressValue, blockNumber, steppedValue}
@@ -38,11 +38,8 @@ rest c = drop (turn c .loop .at) (text c)
 abbrev of-end : tie.Else1 Inv-loop μ-loop → tie.After-next-line Inv-loop μ-loop
 of-end c = c .before .before
 
-ends : (c : tie.Else1 Inv-loop μ-loop) → before 10 (rest (of-end c)) < length (rest (of-end c))
+ends : (c : tie.Else1 Inv-loop μ-loop) → LineAt (text (of-end c)) (turn (of-end c) .loop .at) (of-end c .next-line .result)
 ends c = let d = of-end c in ends-here (text d) (turn d .loop .at) (d .next-line .ensures) (c .if1 .left)
-
-next-is : (c : tie.Else1 Inv-loop μ-loop) → turn (of-end c) .loop .at + of-end c .next-line .result .at ≤ length (text (of-end c))
-next-is c = let d = of-end c in next-within (text d) (turn d .loop .at) (d .next-line .ensures) (ends c)
 
 -- ---- the step of the line
 
@@ -55,10 +52,9 @@ start c = turn (of-end (of-step c))
 stepped : (c : tie.After-step Inv-loop μ-loop) → let w = start c .loop .inv in
     c .step .result ≡ steppedValue (w .block) (w .begun) (w .declared) (front (rest (of-end (of-step c))))
 stepped c =
-    let d = of-end (of-step c) in
     let w = start c .loop .inv in
     c .step .ensures (w .block) (w .begun) (w .declared) (w .held)
-    ∙ ap (steppedValue (w .block) (w .begun) (w .declared)) (line-here (text d) (turn d .loop .at) (d .next-line .ensures))
+    ∙ ap (steppedValue (w .block) (w .begun) (w .declared)) (ends (of-step c) .bytes)
 
 abbrev of-last : tie.After-struct-known4 Inv-loop μ-loop → tie.Else2 Inv-loop μ-loop
 of-last c = c .before .before
@@ -101,7 +97,7 @@ sub-step : tie.Need-sub-step Inv-loop μ-loop
 sub-step c = search needs
 
 slice-aggregate-step : tie.Need-slice-aggregate-step Inv-loop μ-loop
-slice-aggregate-step c = simp (length-take, length-drop) (omega (arith, next-is (c .before .before)))
+slice-aggregate-step c = simp (length-take, length-drop) (omega (arith, ends (c .before .before)))
 
 step-requires : tie.Need-step-requires Inv-loop μ-loop
 step-requires c κs =
@@ -118,16 +114,16 @@ returns-2 c =
     ∙ ap loadingValue (turns-back (start s .loop .inv) (ends (of-step s)) (s .step .result) (stepped s) (c .before .if2 .taken))
 
 add-at : tie.Need-add-at Inv-loop μ-loop
-add-at c = let s = of-last c .before .before in omega (arith, next-is (of-step s), start s .before .before .before .pre .0)
+add-at c = let s = of-last c .before .before in omega (arith, ends (of-step s), start s .before .before .before .pre .0)
 
 loop-less : tie.Need-loop-less Inv-loop μ-loop
-loop-less c = let d = of-step (of-last c .before .before) in omega (arith, next-is d, of-end d .next-line .ensures .place)
+loop-less c = omega (arith, ends (of-step (of-last c .before .before)))
 
 loop-again : tie.Need-loop-again Inv-loop μ-loop
 loop-again c =
     let s = of-last c .before .before in
     let d = of-step s in
-    walked-more (start s .loop .inv) (ends d) (s .step .result) (stepped s) (of-end d .next-line .ensures) (of-last c .if2 .left)
+    walked-more (start s .loop .inv) (ends d) (s .step .result) (stepped s) (of-end d .next-line .ensures .number) (of-last c .if2 .left)
 
 refused-requires-3 : tie.Need-refused-requires-3 Inv-loop μ-loop
 refused-requires-3 c κs = search needs

@@ -3,7 +3,7 @@ use mathlib.Core.Path.{_≡_, sym, ap, _∙_}
 use mathlib.Core.Bool.{false}
 use mathlib.Core.List.{List}
 use mathlib.Core.Option.{some}
-use Prim.Native.Nat.{ℕ, _+_, _-_, _≤_, _<_}
+use Prim.Native.Nat.{ℕ, _-_, _<_}
 use native.Mathlib.Omega.{arith}
 use borrow.Author.Needs.{needs}
 use borrow.Author.Tests.{not-true, not-false}
@@ -17,7 +17,7 @@ use Rattle.model.specs.Parsed.{parsedLine}
 use Rattle.query_text.specs.Text.{fault}
 use Rattle.query_text.specs.Value.{readingValue}
 use Rattle.query_text.proofs.Faults.{well-formed, malformed, is-good, is-tabled}
-use Rattle.text.proofs.NextLines.{front, stops-here, ends-here, line-here, next-within}
+use Rattle.text.proofs.NextLines.{front, LineAt, stops-here, ends-here}
 use Rattle.query_text.proofs.Walk.{Walked, walked-none, counted, stops, empty, done, wrong, faulty, walked-more}
 use Rattle.query_text.proofs.read_lines.Statement.{statement}
 use Rattle.query_text.proofs.read_lines.Tie as tie
@@ -42,11 +42,8 @@ rest c = drop (turn c .loop .at) (text c)
 abbrev of-end : tie.Else1 Inv-loop μ-loop → tie.After-next-line Inv-loop μ-loop
 of-end c = c .before .before
 
-ends : (c : tie.Else1 Inv-loop μ-loop) → before 10 (rest (of-end c)) < length (rest (of-end c))
+ends : (c : tie.Else1 Inv-loop μ-loop) → LineAt (text (of-end c)) (turn (of-end c) .loop .at) (of-end c .next-line .result)
 ends c = let d = of-end c in ends-here (text d) (turn d .loop .at) (d .next-line .ensures) (c .if1 .left)
-
-next-is : (c : tie.Else1 Inv-loop μ-loop) → turn (of-end c) .loop .at + of-end c .next-line .result .at ≤ length (text (of-end c))
-next-is c = let d = of-end c in next-within (text d) (turn d .loop .at) (d .next-line .ensures) (ends c)
 
 -- ---- what the line says
 
@@ -55,8 +52,7 @@ of-read c = c .before .before .before
 
 line-read : (c : tie.After-read-line Inv-loop μ-loop) → c .read-line .result ≡ parsedLine (queryLine (front (rest (of-end (of-read c)))))
 line-read c =
-    let d = of-end (of-read c) in
-    c .read-line .ensures ∙ ap (λ (l : List ℕ). parsedLine (queryLine l)) (line-here (text d) (turn d .loop .at) (d .next-line .ensures))
+    c .read-line .ensures ∙ ap (λ (l : List ℕ). parsedLine (queryLine l)) (ends (of-read c) .bytes)
 
 abbrev of-well : tie.Else2 Inv-loop μ-loop → tie.After-read-line Inv-loop μ-loop
 of-well c = c .before .before
@@ -126,7 +122,7 @@ sub-read-line : tie.Need-sub-read-line Inv-loop μ-loop
 sub-read-line c = search needs
 
 slice-aggregate-read-line : tie.Need-slice-aggregate-read-line Inv-loop μ-loop
-slice-aggregate-read-line c = simp (length-take, length-drop) (omega (arith, next-is (c .before .before)))
+slice-aggregate-read-line c = simp (length-take, length-drop) (omega (arith, ends (c .before .before)))
 
 read-line-requires : tie.Need-read-line-requires Inv-loop μ-loop
 read-line-requires c κs = simp (length-take, length-drop) (omega (arith, turn (of-end (c .before .before)) .before .before .before .pre))
@@ -170,10 +166,10 @@ unfolding mostLines
 add-q c = omega (arith, faultless (c .before) .0)
 
 add-at : tie.Need-add-at Inv-loop μ-loop
-add-at c = omega (arith, next-is (of-fault (of-last c .before)), start (of-last c .before) .before .before .before .pre .0)
+add-at c = omega (arith, ends (of-fault (of-last c .before)), start (of-last c .before) .before .before .before .pre .0)
 
 loop-less : tie.Need-loop-less Inv-loop μ-loop
-loop-less c = let d = of-fault (of-last c .before) in omega (arith, next-is d, of-end d .next-line .ensures .place)
+loop-less c = omega (arith, ends (of-fault (of-last c .before)))
 
 loop-again : tie.Need-loop-again Inv-loop μ-loop
 loop-again c =
@@ -184,7 +180,7 @@ loop-again c =
     let a = says (f .before) in
     let p = of-well (f .before) .read-line .result in
     walked-more w (ends d) (a .0) (a .1) p (is-good p (a .0) (line-says (f .before)) (faultless e .1))
-    (omega (arith, counted w, faultless e .0)) (of-end d .next-line .ensures) (λ widths t. sym (e .if3 .left) ∙ fault-is f widths t)
+    (omega (arith, counted w, faultless e .0)) (of-end d .next-line .ensures .number) (λ widths t. sym (e .if3 .left) ∙ fault-is f widths t)
 
 refused-requires-4 : tie.Need-refused-requires-4 Inv-loop μ-loop
 refused-requires-4 c κs = search needs
