@@ -11,7 +11,7 @@ abbrev pub mostDigits : ℕ
 mostDigits = 10
 
 -- the largest number that any place of a text allows: that of a constant
-abbrev pub constantLimit : ℕ
+unfoldable pub constantLimit : ℕ
 constantLimit = 4_294_967_295
 
 unfoldable pub isDigit : ℕ → Bool

@@ -8,7 +8,6 @@ use lib.ListN.{length, length-take, length-drop}
 use Rattle.text.specs.Names.{tableTerms}
 use Rattle.text.specs.Cursors.{AfterNames, NextLine}
 use Rattle.text.proofs.NextLines.{behind-names, names-within}
-use Rattle.query_text.specs.Text.{mostQueryBytes}
 use Rattle.query_text.specs.Value.{readingValue}
 use Rattle.query_text.proofs.Names.{too-long, misnamed, well-named}
 use Rattle.query_text.proofs.read_query.Statement.{statement}
@@ -38,7 +37,6 @@ refused-requires : tie.Need-refused-requires
 refused-requires c κs = search needs
 
 returns : tie.Need-returns
-unfolding mostQueryBytes
 returns c = λ widths t. c .refused .ensures ∙ ap readingValue (too-long widths _ (c .before .if1 .taken))
 
 slice-aggregate-after-names : tie.Need-slice-aggregate-after-names
@@ -51,7 +49,6 @@ refused-requires-2 : tie.Need-refused-requires-2
 refused-requires-2 c κs = search needs
 
 returns-2 : tie.Need-returns-2
-unfolding mostQueryBytes
 returns-2 c =
     let d = c .before .before .before in
     λ widths t. c .refused2 .ensures ∙ ap readingValue (misnamed widths (text d) (d .before .before .if1 .left) (after d) (c .before .if2 .taken))
@@ -72,7 +69,6 @@ read-lines-requires c κs = (
 )
 
 returns-3 : tie.Need-returns-3
-unfolding mostQueryBytes
 returns-3 c =
     let e = c .before .before in
     let d = of-names e in
