@@ -9,6 +9,7 @@ use lib.ListN.{length, getD, take, drop}
 use lib.Seq.{take-suc, take-add}
 use borrow.Author.Tests.{eqb-true}
 use Rattle.text.specs.Lines.{before}
+use Rattle.text.proofs.NextLines.{front}
 
 -- the byte that was looked for stands at the place
 pub at-before : (b : ℕ) (l : List ℕ) → before b l < length l → getD l (before b l) 0 ≡ b
@@ -22,14 +23,14 @@ at-before b (x ∷ l) h = go (eqb x b) (λ e. eqb-true x b e) h (λ g. at-before
     go false e g ih = ih (le-of-suc-le-suc g)
 
 -- the line and its end, as a part of the text
-pub line-end : (l : List ℕ) → before 10 l < length l → take (before 10 l) l ++ 10 ∷ [] ≡ take (suc (before 10 l)) l
+pub line-end : (l : List ℕ) → before 10 l < length l → front l ++ 10 ∷ [] ≡ take (suc (before 10 l)) l
 line-end l h =
-    sym (take-suc l (before 10 l) 0 h ∙ ap (λ (b : ℕ). take (before 10 l) l ++ b ∷ []) (at-before 10 l h))
+    sym (take-suc l (before 10 l) 0 h ∙ ap (λ (b : ℕ). front l ++ b ∷ []) (at-before 10 l h))
 
 -- the same behind the bytes before it
 pub with-line : (s : List ℕ) (at : ℕ) → before 10 (drop at s) < length (drop at s)
-    → take at s ++ take (before 10 (drop at s)) (drop at s) ++ 10 ∷ [] ≡ take (at + suc (before 10 (drop at s))) s
+    → take at s ++ front (drop at s) ++ 10 ∷ [] ≡ take (at + suc (before 10 (drop at s))) s
 with-line s at h =
-    append-assoc (take at s) (take (before 10 (drop at s)) (drop at s)) (10 ∷ [])
+    append-assoc (take at s) (front (drop at s)) (10 ∷ [])
     ∙ ap (λ (l : List ℕ). take at s ++ l) (line-end (drop at s) h)
     ∙ sym (take-add at (suc (before 10 (drop at s))) s)

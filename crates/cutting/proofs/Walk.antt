@@ -3,17 +3,19 @@ use mathlib.Core.Path.{_≡_, refl, sym, ap, subst, _∙_}
 use mathlib.Core.Logic.{_⊎_, inl, inr, ⊎-elim, by-cases}
 use mathlib.Core.Bool.{Bool, true, false, cond, _&&_}
 use mathlib.Core.List.{List, [], _∷_, _++_, append-nil}
-use Prim.Native.Nat.{ℕ, suc, _+_, _≤_, _<_, zero-le}
+use Prim.Native.Nat.{ℕ, _+_, _≤_, _<_, zero-le}
 use native.Mathlib.Decide.{decLt}
 use native.Mathlib.Omega.{arith}
 use lib.Dec.{T, ltb}
-use lib.ListN.{length, take, drop, length-drop, drop-of-length-le, take-append-drop}
-use lib.Seq.{take-all, drop-drop, length-take-le, take-length, drop-length}
+use lib.ListN.{length, take, drop, drop-of-length-le, take-append-drop}
+use lib.Seq.{take-all, length-take-le, take-length, drop-length}
 use borrow.Author.Tests.{ltb-true, ltb-false}
 use Rattle.text.specs.Lines.{Split, lines, before, sameBytes}
 use Rattle.text.specs.Names.{tableTerms}
+use Rattle.text.specs.declared.Cursor.{Cursor}
 use Rattle.text.proofs.Lines.{split-none, split-found, before-le}
 use Rattle.text.proofs.Names.{same-bytes-iff}
+use Rattle.text.proofs.NextLines.{front, back, LineAt}
 use Rattle.cutting.specs.Cut.{piece, cutFrom, cut}
 use Rattle.cutting.specs.NextCut.{Starts, NextCut}
 use Rattle.cutting.proofs.Line.{with-line}
@@ -23,13 +25,6 @@ use Rattle.cutting.proofs.Line.{with-line}
 -- the query texts of an input of which the bytes `now` of a query begun are passed
 abbrev behind : List ℕ → List ℕ → List (List ℕ)
 behind now text = cutFrom now (lines text .ended) (lines text .rest)
-
--- the first line of a text, and what follows it
-abbrev front : List ℕ → List ℕ
-front text = take (before 10 text) text
-
-abbrev back : List ℕ → List ℕ
-back text = drop (suc (before 10 text)) text
 
 behind-none : (now : List ℕ) → behind now [] ≡ piece now
 unfolding lines cutFrom
@@ -130,7 +125,7 @@ module _ {s : List ℕ} {at : ℕ} (w : Walked s at) where
       let one : behind (take at s) (drop at s) ≡ piece s = rw (drop-of-length-le s l, take-all at s l) (behind-none s) in
       rw e (whole s h (w .ahead ∙ one))
 
-  module _ (l : before 10 (drop at s) < length (drop at s)) where
+  module _ {c : Cursor} (l : LineAt s at c) where
     -- a line that starts a query
     pub cuts : (ltb 0 at && sameBytes (front (drop at s)) tableTerms) ≡ true → NextCut s at
     cuts e =
@@ -141,10 +136,10 @@ module _ {s : List ℕ} {at : ℕ} (w : Walked s at) where
           within = w .within;
           some = p;
           pieces = w .ahead
-              ∙ starting (take at s) (drop at s) l b
+              ∙ starting (take at s) (drop at s) (l .ended) b
               ∙ ap (λ (x : List (List ℕ)). x ++ cut (drop at s)) (piece-some (take at s) (omega arith));
           line = w .passed p;
-          starts = λ h. starts-query (drop at s) l b;
+          starts = λ h. starts-query (drop at s) (l .ended) b;
         }
 
     -- a line that is part of the query begun
@@ -153,18 +148,15 @@ module _ {s : List ℕ} {at : ℕ} (w : Walked s at) where
     joins e =
         ⊎-elim (λ (a : ltb 0 at ≡ false). let z : at ≡ 0 = omega (arith, ltb-false 0 at a) in
         let none : take at s ≡ [] = ap (λ (k : ℕ). take k s) z in
-        rw none (first-line (drop at s) l))
-        (λ b. going-on (take at s) (drop at s) l b)
+        rw none (first-line (drop at s) (l .ended)))
+        (λ b. going-on (take at s) (drop at s) (l .ended) b)
         (one-of _ _ e)
 
-    pub walked-more : (n : ℕ) → n ≡ before 10 (drop at s) → (ltb 0 at && sameBytes (front (drop at s)) tableTerms) ≡ false
-        → Walked s (at + n + 1)
-    walked-more n c e =
-        let place : at + n + 1 ≡ at + suc (before 10 (drop at s)) = omega arith in
-        let next : back (drop at s) ≡ drop (at + suc (before 10 (drop at s))) s = drop-drop (suc (before 10 (drop at s))) at s in
+    pub walked-more : (ltb 0 at && sameBytes (front (drop at s)) tableTerms) ≡ false → Walked s (at + c .at)
+    walked-more e =
         record {
-          within = omega (arith, length-drop at s);
-          ahead = w .ahead ∙ joins e ∙ rw (with-line s at l, next, place);
+          within = l .within;
+          ahead = w .ahead ∙ joins e ∙ rw (with-line s at (l .ended), ← l .behind, l .place);
           passed = λ p h. by-cases (decLt 0 at) (λ q. omega (arith, w .passed q h))
               (λ q. let z : at ≡ 0 = omega arith in
               let same : before 10 (drop at s) ≡ before 10 s = ap (λ (k : ℕ). before 10 (drop k s)) z in

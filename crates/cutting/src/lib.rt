@@ -19,7 +19,7 @@ fn is_cut(at: usize, line: &[u8]) -> bool
     text::same(line, &text::TABLE_TERMS)
 }
 
-// The place where the second query text starts, or the length of the input where there is one only.
+// The place where the second query text starts, or the length of the input where there is one only. Lines are not counted here.
 pub fn next_cut(input: &[u8]) -> usize
     requires { ⌜ 0 < length (now input) ⌝ }
     ensures { λ r. ⌜ NextCut (now (input .entry)) r ⌝ }
@@ -27,14 +27,14 @@ pub fn next_cut(input: &[u8]) -> usize
     let mut at = 0;
     while at < input.len() {
         let rest = &input[at..];
-        let n = text::first(rest, b'\n');
-        if n == rest.len() {
+        let next = text::next_line(rest, 1);
+        if rest.len() < next.at {
             return input.len();
         }
-        if is_cut(at, &rest[..n]) {
+        if is_cut(at, &rest[..next.at - 1]) {
             return at;
         }
-        at = at + n + 1;
+        at = at + next.at;
     }
     at
 }

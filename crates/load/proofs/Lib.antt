@@ -12,5 +12,3 @@ pub mod Walk
 pub mod Start
 -- What a text that is accepted loads to.
 pub mod Accepted
--- Machine values, for the walks of code that has a reader.
-pub mod MachineValues

@@ -8,10 +8,11 @@ use Prim.Native.Nat.{ℕ, zero, suc, _+_, _≤_, _<_}
 use native.Mathlib.Nat.{suc-ne-zero, not-suc-le-zero}
 use native.Mathlib.Numerals.{add-one}
 use native.Mathlib.Omega.{arith}
-use lib.ListN.{length, take, drop, length-drop, drop-of-length-le}
-use lib.Seq.{drop-drop}
+use lib.ListN.{length, drop, length-drop, drop-of-length-le}
 use Rattle.text.specs.Lines.{Split, lines, split, before}
+use Rattle.text.specs.declared.Cursor.{Cursor}
 use Rattle.text.proofs.Lines.{split-none, split-found}
+use Rattle.text.proofs.NextLines.{front, back, LineAt}
 use Rattle.model.specs.Fields.{Numbered, tableLine, viewLine, partitionLine}
 use Rattle.policy_text.specs.Text.{nothing, refused, accepted, faulty, entered, Block, tables, views, partitions, unless, entry, enter, tableFault, viewFault, partitionFault, isNext, nextBlock, policyEnds, goOn, loadFrom}
 use Rattle.policy_text.specs.Declared.{Declared}
@@ -28,9 +29,7 @@ abbrev pub behind : Block → Bool → Declared → ℕ → List ℕ → TheLoad
 behind b started d k text = loadFrom b started d k (lines text .ended) (lines text .rest)
 
 behind-line : (b : Block) (started : Bool) (d : Declared) (k : ℕ) (text : List ℕ) → before 10 text < length text
-    → behind b started d k text
-    ≡ loadFrom b started d k (take (before 10 text) text ∷ lines (drop (suc (before 10 text)) text) .ended)
-    (lines (drop (suc (before 10 text)) text) .rest)
+    → behind b started d k text ≡ loadFrom b started d k (front text ∷ lines (back text) .ended) (lines (back text) .rest)
 unfolding lines
 behind-line b started d k text h = ap (λ (s : Split). loadFrom b started d k (s .ended) (s .rest)) (split-found 10 text h)
 
@@ -137,17 +136,17 @@ module _ {text : List ℕ} {start : ℕ} {g : Progress} {line at : ℕ} (w : Wal
   stops l e =
       sym (behind-tail (w .block) (w .begun) (w .declared) line (drop at text) e (simp length-drop (omega arith))) ∙ w .ahead
 
-  module _ (h : before 10 (drop at text) < length (drop at text)) where
+  module _ {c : Cursor} (m : LineAt text at c) where
     -- the line that starts here, and the text behind it
     abbrev here : List ℕ
-    here = take (before 10 (drop at text)) (drop at text)
+    here = front (drop at text)
 
     abbrev rest : List ℕ
-    rest = drop (suc (before 10 (drop at text))) (drop at text)
+    rest = back (drop at text)
 
     from-here : loadFrom (w .block) (w .begun) (w .declared) line (here ∷ lines rest .ended) (lines rest .rest)
         ≡ behind tables false nothing start text
-    from-here = sym (behind-line (w .block) (w .begun) (w .declared) line (drop at text) h) ∙ w .ahead
+    from-here = sym (behind-line (w .block) (w .begun) (w .declared) line (drop at text) (m .ended)) ∙ w .ahead
 
     module _ (r : Stepped) (value : r ≡ steppedValue (w .block) (w .begun) (w .declared) here) where
       pub turns-back : (r .fault ≡ 0 → ⊥) → refused (r .fault) line ≡ behind tables false nothing start text
@@ -157,8 +156,8 @@ module _ {text : List ℕ} {start : ℕ} {g : Progress} {line at : ℕ} (w : Wal
           ∙ sym (turned-back (w .block) (w .begun) (w .declared) here line (lines rest .ended) (lines rest .rest) (λ e. n (fault ∙ e)))
           ∙ from-here
 
-      pub walked-more : r .fault ≡ 0 → Walked text start (r .progress) (line + 1) (at + before 10 (drop at text) + 1)
-      walked-more z =
+      pub walked-more : {next : ℕ} → next ≡ line + 1 → r .fault ≡ 0 → Walked text start (r .progress) next (at + c .at)
+      walked-more e z =
           let n = goes-on (w .block) (w .begun) (w .declared) here line (lines rest .ended) (lines rest .rest)
           (sym (ap (λ (s : Stepped). s .fault) value) ∙ z) in
           record {
@@ -166,18 +165,10 @@ module _ {text : List ℕ} {start : ℕ} {g : Progress} {line at : ℕ} (w : Wal
             begun = n .begun;
             declared = n .declared;
             held = ap (λ (s : Stepped). s .progress) value ∙ n .progress;
-            number = omega (arith, w .number);
-            inside = omega (arith, length-drop at text, h, w .inside);
-            ahead =
-                ap (λ (k : ℕ). behind (n .block) (n .begun) (n .declared) k (drop (at + before 10 (drop at text) + 1) text)) (add-one line)
-                ∙ ap (behind (n .block) (n .begun) (n .declared) (suc line)) same-rest
-                ∙ sym (n .same) ∙ from-here;
+            number = omega (arith, w .number, e, m .place);
+            inside = m .within;
+            ahead = rw (e, add-one line, m .behind) (sym (n .same) ∙ from-here);
           }
-        where
-          same-rest : drop (at + before 10 (drop at text) + 1) text ≡ rest
-          same-rest =
-              let e : at + before 10 (drop at text) + 1 ≡ at + suc (before 10 (drop at text)) = omega arith in
-              ap (λ (k : ℕ). drop k text) e ∙ sym (drop-drop (suc (before 10 (drop at text))) at text)
 
   -- the text stops behind its last line
   module _ (l : length text ≤ at) where

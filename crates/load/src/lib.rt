@@ -20,7 +20,6 @@ use model::Outcome;
 use model::Policy;
 use model::Tables;
 use model::Term;
-use text::Reader;
 
 // The most bytes of a policy text.
 const MOST_BYTES: usize = 16384;
@@ -139,7 +138,7 @@ fn step(g: Progress, line: &[u8]) -> Stepped
 
 // The blocks without their first names line, all of a text whose first line has the number `start`.
 fn load_lines(text: &[u8], start: u64) -> Loading
-    requires { ⌜ (length (now text) ≤ 16384) × (start < 2 ^ 32) ⌝ }
+    requires { ⌜ (length (now text) < 2 ^ 32) × (start < 2 ^ 32) ⌝ }
     ensures { λ r. ⌜ BlocksLoaded (now (text .entry)) start r ⌝ }
 {
     let mut g = Progress {
@@ -151,17 +150,17 @@ fn load_lines(text: &[u8], start: u64) -> Loading
     let mut at = 0;
     while at < text.len() {
         let rest = &text[at..];
-        let n = text::first(rest, b'\n');
-        if n == rest.len() {
+        let next = text::next_line(rest, line);
+        if rest.len() < next.at {
             return refused(1, line);
         }
-        let r = step(g, &rest[..n]);
+        let r = step(g, &rest[..next.at - 1]);
         if r.fault != 0 {
             return refused(r.fault, line);
         }
         g = r.progress;
-        line += 1;
-        at = at + n + 1;
+        line = next.line;
+        at = at + next.at;
     }
     if g.block != PARTITIONS {
         return refused(1, line);
@@ -176,23 +175,6 @@ fn load_lines(text: &[u8], start: u64) -> Loading
     }
 }
 
-// The blocks that a reader has before it. The work is done on its two parts, since code that holds a reader is proved by
-// hand.
-fn load_rest<'a>(r: Reader<'a>) -> Loading
-    requires { ⌜ (length (now (r .rest)) ≤ 16384) × (r .line < 2 ^ 32) ⌝ }
-    ensures { λ y. ⌜ BlocksLoaded (now (r .entry .rest)) (r .entry .line) y ⌝ }
-{
-    load_lines(r.rest, r.line)
-}
-
-// The same of a text that is lent, with the number of its first line: a reader is made of the two.
-fn load_from(text: &[u8], line: u64) -> Loading
-    requires { ⌜ (length (now text) ≤ 16384) × (line < 2 ^ 32) ⌝ }
-    ensures { λ r. ⌜ BlocksLoaded (now (text .entry)) line r ⌝ }
-{
-    load_rest(Reader { rest: text, line })
-}
-
 // The policy of a text, or the number that turns it back and the line.
 pub fn load(text: &[u8]) -> Loading
     ensures { λ r. ⌜ r ≡ loadingValue (loadText (now (text .entry))) ⌝ }
@@ -200,13 +182,10 @@ pub fn load(text: &[u8]) -> Loading
     if MOST_BYTES < text.len() {
         return refused(7, 0);
     }
-    let n = text::first(text, b'\n');
-    if n == text.len() {
+    let start = text::after_names(text, &text::TABLE_COLUMNS);
+    if start.at == 0 {
         return refused(1, 1);
     }
-    if !text::same(&text[..n], &text::TABLE_COLUMNS) {
-        return refused(1, 1);
-    }
-    let from = n + 1;
-    load_from(&text[from..], 2)
+    let from = start.at;
+    load_lines(&text[from..], start.line)
 }

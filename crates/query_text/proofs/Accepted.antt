@@ -60,7 +60,7 @@ more-read widths earlier A w t e =
     let f = no-fault (clashing earlier A) 5 _ (d .1) in
     let within = not-not (lineWithin A) (b .0) in
     record {
-      few = omega (arith, length-append earlier (A ∷ []), nleb→lt 8 (length earlier) (a .0));
+      few = omega (arith, length-append earlier (A ∷ []), nleb→lt mostLines (length earlier) (a .0));
       terms = each-more (λ B. 1 ≤ length (B .columns)) earlier A (w .terms) t;
       within = each-more (λ B. T (lineWithin B)) earlier A (w .within) within;
       fits =

@@ -73,16 +73,16 @@ module _ (p : Parsed) (A : Line) (e : p ≡ parsedLine (some A)) where
 
 module _ (widths : List ℕ) (earlier : List Line) (A : Line) (count : ℕ) (p : Parsed) (counted : count ≡ length earlier)
     (read : p ≡ parsedLine (some A)) where
-  pub ninth : 8 ≤ count → 7 ≡ fault widths earlier A
+  pub ninth : mostLines ≤ count → 7 ≡ fault widths earlier A
   unfolding fault firstFault
-  ninth l = rw (le-leb 8 (length earlier) (omega arith))
+  ninth l = rw (le-leb mostLines (length earlier) (omega arith))
 
-  module _ (few : count < 8) where
+  module _ (few : count < mostLines) where
     pub past-limit : p .outside ≡ true → 2 ≡ fault widths earlier A
     unfolding fault firstFault
-    past-limit o = rw (lt-leb 8 (length earlier) (omega arith), is-outside p A read o)
+    past-limit o = rw (lt-leb mostLines (length earlier) (omega arith), is-outside p A read o)
 
     -- what is left are the checks against the tables and the lines before it
     pub checked : p .outside ≡ false → misfit widths earlier A ≡ fault widths earlier A
     unfolding fault firstFault misfit
-    checked o = rw (lt-leb 8 (length earlier) (omega arith), is-within p A read o)
+    checked o = rw (lt-leb mostLines (length earlier) (omega arith), is-within p A read o)

@@ -6,5 +6,3 @@ pub mod Accepted
 pub mod Printed
 pub mod Numbers
 pub mod Bridge
--- Machine values, for the walks of code that has a reader.
-pub mod MachineValues

@@ -97,7 +97,7 @@ module _ (widths : List ℕ) (narrow : (n : ℕ) → n ∈ widths → T (upTo mo
 
   -- coarse bounds suffice: each numeral is taken as 10 bytes
   pub query-short : length (queryText Q) ≤ mostQueryBytes
-  unfolding queryText endEach tableTerms mostQueryBytes
+  unfolding queryText endEach tableTerms
   query-short =
       let each = each-map (Within 107) printQueryLine Q (λ A i. query-line-short A (within-writable A (within A i)) (columns A i .1)) in
       let all = rw (length-map Q printQueryLine) at (length-ended 107 (map printQueryLine Q) each) in

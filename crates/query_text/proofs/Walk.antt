@@ -6,11 +6,13 @@ use Prim.Native.Nat.{ℕ, zero, suc, _+_, _≤_, _<_}
 use native.Mathlib.Numerals.{add-one}
 use native.Mathlib.Omega.{arith}
 use lib.Bits.{bitOr}
-use lib.ListN.{length, take, drop, set, length-append, length-map, length-drop, drop-of-length-le}
-use lib.Seq.{drop-drop}
+use lib.ListN.{length, drop, set, length-append, length-map, length-drop, drop-of-length-le}
 use Rattle.theory.specs.Query.{Line}
 use Rattle.text.specs.Lines.{Split, lines, before}
 use Rattle.text.proofs.Lines.{split-none, split-found}
+use Rattle.text.specs.declared.Cursor.{Cursor}
+use Rattle.text.proofs.NextLines.{front, back, LineAt}
+use Rattle.model.specs.Limits.{mostLines}
 use Rattle.model.specs.Fields.{queryLine}
 use Rattle.model.specs.Value.{pad, unusedLine, lineValue, queryValue, tablesValue}
 use Rattle.model.specs.Parsed.{goodValue}
@@ -29,13 +31,6 @@ use Rattle.model.proofs.Variables.{marked-none, marked-more}
 -- the reading of a text from line k on, behind the lines `earlier`
 abbrev pub behind : List ℕ → List Line → ℕ → List ℕ → Reading
 behind widths earlier k text = readFrom widths earlier k (lines text .ended) (lines text .rest)
-
--- the first line of a text, and what follows it
-abbrev pub front : List ℕ → List ℕ
-front text = take (before 10 text) text
-
-abbrev pub back : List ℕ → List ℕ
-back text = drop (suc (before 10 text)) text
 
 -- a tail that lacks its end
 behind-tail : (widths : List ℕ) (earlier : List Line) (k : ℕ) (text : List ℕ) → before 10 text ≡ length text → 0 < length text
@@ -59,14 +54,15 @@ behind-line widths earlier k text h = ap (λ (s : Split). readFrom widths earlie
 abbrev pub with-line : QueryValue → Parsed → QueryValue
 with-line q p = record { count = q .count + 1; lines = set (q .lines) (q .count) (record { table = p .table; terms = p .terms }) }
 
-one-more : (earlier : List Line) (A : Line) → length earlier < 8
-    → set (pad 8 unusedLine (map lineValue earlier)) (length earlier) (lineValue A) ≡ pad 8 unusedLine (map lineValue (earlier ++ A ∷ []))
+one-more : (earlier : List Line) (A : Line) → length earlier < mostLines
+    → set (pad mostLines unusedLine (map lineValue earlier)) (length earlier) (lineValue A)
+    ≡ pad mostLines unusedLine (map lineValue (earlier ++ A ∷ []))
 one-more earlier A h =
     let l = map lineValue earlier in
     let n = length-map earlier lineValue in
-    ap (λ (k : ℕ). set (pad 8 unusedLine l) k (lineValue A)) (sym n)
-    ∙ pad-more 8 unusedLine l (lineValue A) (omega (arith, n))
-    ∙ ap (pad 8 unusedLine) (sym (map-append lineValue earlier (A ∷ [])))
+    ap (λ (k : ℕ). set (pad mostLines unusedLine l) k (lineValue A)) (sym n)
+    ∙ pad-more mostLines unusedLine l (lineValue A) (omega (arith, n))
+    ∙ ap (pad mostLines unusedLine) (sym (map-append lineValue earlier (A ∷ [])))
 
 -- ---- what has been read
 
@@ -77,7 +73,7 @@ pub record Walked (tables : Tables) (text : List ℕ) (start : ℕ) (q : QueryVa
   pub held : q ≡ queryValue earlier
   pub marked : Marked earlier s h
   pub number : line ≡ start + length earlier
-  pub few : length earlier ≤ 8
+  pub few : length earlier ≤ mostLines
   pub within : at ≤ length text
   pub ahead : (widths : List ℕ) → tables ≡ tablesValue widths → behind widths earlier line (drop at text) ≡ behind widths [] start text
 
@@ -130,11 +126,11 @@ module _ {tables : Tables} {text : List ℕ} {start : ℕ} {q : QueryValue} {s h
         go (A ∷ Q) v n e = rw v (ap readingValue e)
 
   -- a line that ends
-  module _ (l : before 10 (drop at text) < length (drop at text)) where
+  module _ {c : Cursor} (l : LineAt text at c) where
     turn : (widths : List ℕ) → tables ≡ tablesValue widths
         → step (queryLine (front (drop at text))) line (fault widths (w .earlier)) (λ A. behind widths (w .earlier ++ A ∷ []) (suc line) (back (drop at text)))
         ≡ behind widths [] start text
-    turn widths t = sym (behind-line widths (w .earlier) line (drop at text) l) ∙ w .ahead widths t
+    turn widths t = sym (behind-line widths (w .earlier) line (drop at text) (l .ended)) ∙ w .ahead widths t
 
     pub wrong : queryLine (front (drop at text)) ≡ none → (widths : List ℕ) → tables ≡ tablesValue widths
         → refused 1 line ≡ behind widths [] start text
@@ -148,12 +144,12 @@ module _ {tables : Tables} {text : List ℕ} {start : ℕ} {q : QueryValue} {s h
       faulty zero n widths t g = absurd (n refl)
       faulty (suc f) n widths t g = rw (e, ← g) at (turn widths t)
 
-      module _ (p : Parsed) (good : p ≡ goodValue (A .table) (A .columns)) (room : length (w .earlier) < 8) where
+      module _ (p : Parsed) (good : p ≡ goodValue (A .table) (A .columns)) (room : length (w .earlier) < mostLines) where
         held-more : with-line q p ≡ queryValue (w .earlier ++ A ∷ [])
-        unfolding queryValue lineValue goodValue
+        unfolding queryValue lineValue goodValue mostLines
         held-more =
             let counts : q .count + 1 ≡ length (w .earlier ++ A ∷ []) = simp length-append (omega (arith, counted)) in
-            let kept : with-line q p .lines ≡ pad 8 unusedLine (map lineValue (w .earlier ++ A ∷ []))
+            let kept : with-line q p .lines ≡ pad mostLines unusedLine (map lineValue (w .earlier ++ A ∷ []))
             = rw (w .held, good) (one-more (w .earlier) A room) in
             λ i. record { count = counts i; lines = kept i }
 
@@ -161,26 +157,21 @@ module _ {tables : Tables} {text : List ℕ} {start : ℕ} {q : QueryValue} {s h
         unfolding goodValue
         marks-more = rw good (marked-more (w .earlier) A s h (w .marked))
 
-        ahead-more : (n : ℕ) → n ≡ before 10 (drop at text) → (widths : List ℕ) → tables ≡ tablesValue widths → 0 ≡ fault widths (w .earlier) A
-            → behind widths (w .earlier ++ A ∷ []) (line + 1) (drop (at + n + 1) text) ≡ behind widths [] start text
+        ahead-more : (widths : List ℕ) → tables ≡ tablesValue widths → 0 ≡ fault widths (w .earlier) A
+            → behind widths (w .earlier ++ A ∷ []) (line + 1) (drop (at + c .at) text) ≡ behind widths [] start text
         unfolding step judged
-        ahead-more n c widths t g =
-            let place : at + n + 1 ≡ at + suc (before 10 (drop at text)) = omega arith in
-            let next : drop (at + n + 1) text ≡ back (drop at text)
-            = ap (λ (k : ℕ). drop k text) place ∙ sym (drop-drop (suc (before 10 (drop at text))) at text) in
-            rw (add-one line, next) (rw (e, ← g) at (turn widths t))
+        ahead-more widths t g = rw (add-one line, l .behind) (rw (e, ← g) at (turn widths t))
 
         -- a line without a fault
-        pub walked-more : (n : ℕ) → n ≡ before 10 (drop at text)
-            → ((widths : List ℕ) → tables ≡ tablesValue widths → 0 ≡ fault widths (w .earlier) A)
-            → Walked tables text start (with-line q p) (bitOr s (p .shown)) (bitOr h (p .hidden)) (line + 1) (at + n + 1)
-        walked-more n c g =
+        pub walked-more : {next : ℕ} → next ≡ line + 1 → ((widths : List ℕ) → tables ≡ tablesValue widths → 0 ≡ fault widths (w .earlier) A)
+            → Walked tables text start (with-line q p) (bitOr s (p .shown)) (bitOr h (p .hidden)) next (at + c .at)
+        walked-more n g =
             record {
               earlier = w .earlier ++ A ∷ [];
               held = held-more;
               marked = marks-more;
-              number = omega (arith, length-append (w .earlier) (A ∷ []));
+              number = omega (arith, n, w .number, length-append (w .earlier) (A ∷ []));
               few = omega (arith, length-append (w .earlier) (A ∷ []));
-              within = omega (arith, length-drop at text);
-              ahead = λ widths t. ahead-more n c widths t (g widths t);
+              within = l .within;
+              ahead = λ widths t. rw n (ahead-more widths t (g widths t));
             }

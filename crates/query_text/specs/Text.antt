@@ -18,7 +18,7 @@ pub data Reading : Type 0 where
   accepted : Query → Reading
 
 -- "query text at most 4,096" bytes
-unfoldable pub mostQueryBytes : ℕ
+abbrev pub mostQueryBytes : ℕ
 mostQueryBytes = 4096
 
 -- what turns a query text back: "1, 7 (a ninth line), 2, 4, 5, 6", and 7 for its length
@@ -68,6 +68,6 @@ readLines widths (l ∷ ls) tail = cond (sameBytes l tableTerms) (readFrom width
 
 -- "7 at line 0 for length, else …"
 unfoldable pub read : List ℕ → List ℕ → Reading
-unfolding readLines lines mostQueryBytes
+unfolding readLines lines
 read widths text =
     let s = lines text in cond (ltb mostQueryBytes (length text)) (refused 7 0) (readLines widths (s .ended) (s .rest))

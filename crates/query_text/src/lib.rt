@@ -4,10 +4,11 @@ ghost use mathlib.Core.Path.{_≡_};
 ghost use mathlib.Core.Bool.{false};
 ghost use mathlib.Core.List.{List, []};
 ghost use mathlib.Core.Option.{some};
-ghost use Prim.Native.Nat.{ℕ, _≤_, _<_, _^_};
+ghost use Prim.Native.Nat.{ℕ, _<_, _^_};
 ghost use lib.ListN.{length};
 ghost use Rattle.theory.specs.Query.{Query as TheQuery, Line as TheLine};
 ghost use Rattle.model.specs.Value.{queryValue, tablesValue};
+ghost use Rattle.model.specs.Limits.{mostLines};
 ghost use Rattle.model.specs.Parsed.{parsedLine};
 ghost use Rattle.query_text.specs.Text.{refused as refusedReading, fault as faultOf, read};
 ghost use Rattle.model.specs.Variables.{Marked};
@@ -18,7 +19,6 @@ use model::Parsed;
 use model::Query;
 use model::Tables;
 use model::Term;
-use text::Reader;
 
 // The most bytes of a query text.
 const MOST_BYTES: usize = 4096;
@@ -59,7 +59,7 @@ fn refused(number: u64, line: u64) -> Reading
 fn fault(tables: Tables, count: usize, shown: u64, hidden: u64, p: Parsed) -> u64
     requires { ⌜ LineTabled p ⌝ }
     ensures { λ r. ⌜ ((widths : List ℕ) (earlier : TheQuery) (A : TheLine) → tables ≡ tablesValue widths → count ≡ length earlier → Marked earlier shown hidden → p ≡ parsedLine (some A) → r ≡ faultOf widths earlier A) ⌝ }
-    ensures { λ r. ⌜ (r ≡ 0 → (count < 8) × (p .outside ≡ false)) ⌝ }
+    ensures { λ r. ⌜ (r ≡ 0 → (count < mostLines) × (p .outside ≡ false)) ⌝ }
 {
     if MOST_LINES <= count {
         return 7;
@@ -72,7 +72,7 @@ fn fault(tables: Tables, count: usize, shown: u64, hidden: u64, p: Parsed) -> u6
 
 // The lines of values, all of a text whose first line has the number `start`.
 fn read_lines(tables: Tables, text: &[u8], start: u64) -> Reading
-    requires { ⌜ (length (now text) ≤ 4096) × (start < 2 ^ 32) ⌝ }
+    requires { ⌜ (length (now text) < 2 ^ 32) × (start < 2 ^ 32) ⌝ }
     ensures { λ r. ⌜ LinesRead tables (now (text .entry)) start r ⌝ }
 {
     let mut q = no_query();
@@ -82,11 +82,11 @@ fn read_lines(tables: Tables, text: &[u8], start: u64) -> Reading
     let mut at = 0;
     while at < text.len() {
         let rest = &text[at..];
-        let n = text::first(rest, b'\n');
-        if n == rest.len() {
+        let next = text::next_line(rest, line);
+        if rest.len() < next.at {
             return refused(1, line);
         }
-        let p = model::read_line(&rest[..n]);
+        let p = model::read_line(&rest[..next.at - 1]);
         if !p.ok {
             return refused(1, line);
         }
@@ -101,31 +101,14 @@ fn read_lines(tables: Tables, text: &[u8], start: u64) -> Reading
         q.count = count + 1;
         shown = shown | p.shown;
         hidden = hidden | p.hidden;
-        line += 1;
-        at = at + n + 1;
+        line = next.line;
+        at = at + next.at;
     }
     if q.count == 0 {
         return refused(1, line);
     }
     let outcome = Outcome::Accepted;
     Reading { outcome, query: q }
-}
-
-// The lines of values that a reader has before it. The work is done on its two parts, since code that holds a reader is
-// proved by hand.
-fn read_rest<'a>(tables: Tables, r: Reader<'a>) -> Reading
-    requires { ⌜ (length (now (r .rest)) ≤ 4096) × (r .line < 2 ^ 32) ⌝ }
-    ensures { λ y. ⌜ LinesRead tables (now (r .entry .rest)) (r .entry .line) y ⌝ }
-{
-    read_lines(tables, r.rest, r.line)
-}
-
-// The same of a text that is lent, with the number of its first line: a reader is made of the two.
-fn read_from(tables: Tables, text: &[u8], line: u64) -> Reading
-    requires { ⌜ (length (now text) ≤ 4096) × (line < 2 ^ 32) ⌝ }
-    ensures { λ r. ⌜ LinesRead tables (now (text .entry)) line r ⌝ }
-{
-    read_rest(tables, Reader { rest: text, line })
 }
 
 // The query of a text, or the number that turns it back and the line.
@@ -135,13 +118,10 @@ pub fn read_query(tables: Tables, text: &[u8]) -> Reading
     if MOST_BYTES < text.len() {
         return refused(7, 0);
     }
-    let n = text::first(text, b'\n');
-    if n == text.len() {
+    let start = text::after_names(text, &text::TABLE_TERMS);
+    if start.at == 0 {
         return refused(1, 1);
     }
-    if !text::same(&text[..n], &text::TABLE_TERMS) {
-        return refused(1, 1);
-    }
-    let from = n + 1;
-    read_from(tables, &text[from..], 2)
+    let from = start.at;
+    read_lines(tables, &text[from..], start.line)
 }

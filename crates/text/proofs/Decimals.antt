@@ -1,4 +1,4 @@
--- A numeral is the decimal digits of its number, and a number below 10 ^ 10 is printed as a numeral.
+-- A numeral is the decimal digits of its number, and a number of no more digits than a numeral may have is printed as one.
 use mathlib.Core.Path.{_≡_, refl, sym, ap, ap₂, _∙_}
 use mathlib.Core.Logic.{_↔_, ⊎-elim, by-cases}
 use mathlib.Core.Bool.{Bool, true, false, cond, not, _&&_}
@@ -116,8 +116,11 @@ length-iff (suc k) n = (
 )
 
 -- "A numeral has 1 to 10 decimal digits"
-pub decimal-short : (n : ℕ) → n < 10 ^ 10 → length (decimal n) ≤ 10
-decimal-short n h = length-iff 9 n .0 h
+digits-iff : (n : ℕ) → (n < 10 ^ mostDigits) ↔ (length (decimal n) ≤ mostDigits)
+digits-iff n = length-iff (mostDigits - 1) n
+
+pub decimal-short : (n : ℕ) → n < 10 ^ mostDigits → length (decimal n) ≤ mostDigits
+decimal-short n h = digits-iff n .0 h
 
 -- ---- the number
 
@@ -132,16 +135,16 @@ decimal-value =
     by-digits (λ n. digitsAfter 0 (decimal n) ≡ n) (λ n h. rw (decimal-one n h) (omega arith))
     (λ n h rest. rw (decimal-more n h, after-last 0 (decimal (n / 10)) (digit (n % 10)), rest) (omega arith))
 
-pub numeral-decimal : (n : ℕ) → n < 10 ^ 10 → numeral (decimal n) ≡ some n
-unfolding numeral isNumeral mostDigits
+pub numeral-decimal : (n : ℕ) → n < 10 ^ mostDigits → numeral (decimal n) ≡ some n
+unfolding numeral isNumeral
 numeral-decimal n h = rw (is-true (isNumeral (decimal n)) is, decimal-value n)
   where
     is : T (isNumeral (decimal n))
     is =
-        yes-and (allDigits (decimal n)) (leads (decimal n) && leb (length (decimal n)) 10)
+        yes-and (allDigits (decimal n)) (leads (decimal n) && leb (length (decimal n)) mostDigits)
         (all-digits (decimal n) (decimal-digits n))
-        (yes-and (leads (decimal n)) (leb (length (decimal n)) 10) (leads-decimal n)
-        (le→leb (length (decimal n)) 10 (decimal-short n h)))
+        (yes-and (leads (decimal n)) (leb (length (decimal n)) mostDigits) (leads-decimal n)
+        (le→leb (length (decimal n)) mostDigits (decimal-short n h)))
 
 -- ---- digits are the decimal of their number
 
@@ -189,14 +192,14 @@ decimal-of-digits (b ∷ c ∷ l) h f =
         (or-yes (not (eqb b 48)) (eqb (suc (length l)) 0) f)
 
 -- a field is a numeral exactly when it is printed so
-pub numeral-iff : (l : List ℕ) (n : ℕ) → (numeral l ≡ some n) ↔ ((n < 10 ^ 10) × (l ≡ decimal n))
-unfolding numeral isNumeral mostDigits
+pub numeral-iff : (l : List ℕ) (n : ℕ) → (numeral l ≡ some n) ↔ ((n < 10 ^ mostDigits) × (l ≡ decimal n))
+unfolding numeral isNumeral
 numeral-iff l n = (go (isNumeral l) (λ t. t), λ r. rw (r .1) (numeral-decimal n (r .0)))
   where
-    go : (t : Bool) → (T t → T (isNumeral l)) → cond t (some (digitsAfter 0 l)) none ≡ some n → (n < 10 ^ 10) × (l ≡ decimal n)
+    go : (t : Bool) → (T t → T (isNumeral l)) → cond t (some (digitsAfter 0 l)) none ≡ some n → (n < 10 ^ mostDigits) × (l ≡ decimal n)
     go true h e =
-        let a = and-yes (allDigits l) (leads l && leb (length l) 10) (h tt) in
-        let b = and-yes (leads l) (leb (length l) 10) (a .1) in
+        let a = and-yes (allDigits l) (leads l && leb (length l) mostDigits) (h tt) in
+        let b = and-yes (leads l) (leb (length l) mostDigits) (a .1) in
         let same = decimal-of-digits l (a .0) (b .0) ∙ ap decimal (Option·some-injective (digitsAfter 0 l) n e) in
-        (length-iff 9 n .1 (rw same at (leb→le (length l) 10 (b .1))), same)
+        (digits-iff n .1 (rw same at (leb→le (length l) mostDigits (b .1))), same)
     go false h e = absurd (Option·none-ne-some n e)

@@ -1,17 +1,17 @@
 -- Numerals: what makes a field one, and the number that its digits stand for.
 use mathlib.Core.Path.{_≡_, refl, ap, _∙_}
-use mathlib.Core.Bool.{Bool, true, false, false≢true, cond, not, _&&_, _||_}
+use mathlib.Core.Bool.{Bool, true, false, not, _&&_, _||_}
 use mathlib.Core.List.{List, [], _∷_}
-use mathlib.Core.Option.{none, some}
-use Prim.Native.Nat.{ℕ, suc, _+_, _-_, _*_, _^_, _≤_, _<_, zero-le}
-use native.Mathlib.Nat.{not-suc-le-zero, zero-add, add-zero, add-suc, suc-add, pow-suc, pow-le-pow-right}
+use mathlib.Core.Option.{some}
+use Prim.Native.Nat.{ℕ, _+_, _-_, _*_, _^_, _≤_, _<_, zero-le}
+use native.Mathlib.Nat.{not-suc-le-zero, pow-suc, pow-le-pow-right}
 use native.Mathlib.Decide.{decLe}
 use native.Mathlib.Numerals.{add-one}
 use native.Mathlib.Omega.{arith}
 use lib.Dec.{leb, eqb, lit<}
 use lib.ListN.{length, getD, drop, drop-of-length-le}
 use lib.Seq.{drop-cons}
-use borrow.Author.Tests.{le-leb, lt-leb, leb-true, ne-eqb}
+use borrow.Author.Tests.{le-leb, lt-leb, ne-eqb}
 use Rattle.text.specs.Numeral.{mostDigits, constantLimit, isDigit, allDigits, leads, isNumeral, digitsAfter, numeral}
 use Rattle.text.specs.Value.{limited, numeralValue}
 use Rattle.text.specs.declared.Numeral.the-variants.{Malformed, Large, Value}
@@ -109,57 +109,27 @@ pub badly-led : (l : List ℕ) → leads l ≡ false → Malformed ≡ numeralVa
 unfolding isNumeral
 badly-led l e = malformed l (and-false (allDigits l) (leads l && leb (length l) mostDigits) (rw e))
 
-pub too-long : (l : List ℕ) → 10 < length l → Malformed ≡ numeralValue l
-unfolding isNumeral mostDigits
+pub too-long : (l : List ℕ) → mostDigits < length l → Malformed ≡ numeralValue l
+unfolding isNumeral
 too-long l h =
     malformed l
-    (and-false (allDigits l) (leads l && leb (length l) 10)
-    (and-false (leads l) (leb (length l) 10) (lt-leb (length l) 10 h)))
+    (and-false (allDigits l) (leads l && leb (length l) mostDigits)
+    (and-false (leads l) (leb (length l) mostDigits) (lt-leb (length l) mostDigits h)))
 
 pub no-byte : (l : List ℕ) → length l ≡ 0 → Malformed ≡ numeralValue l
 unfolding leads
 no-byte [] e = badly-led [] refl
 no-byte (b ∷ l) e = absurd (omega arith)
 
-numeral-is : (l : List ℕ) → allDigits l ≡ true → leads l ≡ true → length l ≤ 10 → numeral l ≡ some (digitsAfter 0 l)
-unfolding numeral isNumeral mostDigits
-numeral-is l d f h = rw (d, f, le-leb (length l) 10 h)
+numeral-is : (l : List ℕ) → allDigits l ≡ true → leads l ≡ true → length l ≤ mostDigits → numeral l ≡ some (digitsAfter 0 l)
+unfolding numeral isNumeral
+numeral-is l d f h = rw (d, f, le-leb (length l) mostDigits h)
 
-module _ (l : List ℕ) (v : ℕ) (f : leads l ≡ true) (h : length l ≤ 10) (d : (allDigits l ≡ true) × (digitsAfter 0 l ≡ v)) where
-  pub large : 4_294_967_295 < v → Large ≡ numeralValue l
-  unfolding numeralValue limited constantLimit
-  large k = rw (numeral-is l (d .0) f h, d .1, lt-leb v 4_294_967_295 k)
+module _ (l : List ℕ) (v : ℕ) (f : leads l ≡ true) (h : length l ≤ mostDigits) (d : (allDigits l ≡ true) × (digitsAfter 0 l ≡ v)) where
+  pub large : constantLimit < v → Large ≡ numeralValue l
+  unfolding numeralValue limited
+  large k = rw (numeral-is l (d .0) f h, d .1, lt-leb v constantLimit k)
 
-  pub valued : v ≤ 4_294_967_295 → Value v ≡ numeralValue l
-  unfolding numeralValue limited constantLimit
-  valued k = rw (numeral-is l (d .0) f h, d .1, le-leb v 4_294_967_295 k)
-
--- ---- a numeral has at most ten digits
-
-and-true : (a b : Bool) → (a && b) ≡ true → (a ≡ true) × (b ≡ true)
-and-true true b e = (refl, e)
-and-true false b e = absurd (false≢true e)
-
-digit-small : (b : ℕ) → isDigit b ≡ true → b - 48 ≤ 9
-unfolding isDigit
-digit-small b e = omega (arith, leb-true b 57 (and-true (leb 48 b) (leb b 57) e .1))
-
-digits-below : (l : List ℕ) (v k : ℕ) → allDigits l ≡ true → v < 10 ^ k → digitsAfter v l < 10 ^ (k + length l)
-unfolding allDigits digitsAfter
-digits-below [] v k e h = rw add-zero h
-digits-below (b ∷ l) v k e h =
-    let d = and-true (isDigit b) (allDigits l) e in
-    rw (add-suc, ← suc-add)
-    (digits-below l (v * 10 + (b - 48)) (suc k) (d .1) (rw pow-suc (omega (arith, digit-small b (d .0)))))
-
-pub numeral-small : (l : List ℕ) (n : ℕ) → numeral l ≡ some n → n < 10 ^ 10
-unfolding numeral isNumeral mostDigits
-numeral-small l n e = go (isNumeral l) refl e
-  where
-    go : (t : Bool) → isNumeral l ≡ t → cond t (some (digitsAfter 0 l)) none ≡ some n → n < 10 ^ 10
-    go true p q =
-        let r = and-true (allDigits l) (leads l && leb (length l) 10) p in
-        let s = leb-true (length l) 10 (and-true (leads l) (leb (length l) 10) (r .1) .1) in
-        let v : digitsAfter 0 l ≡ n = cc in
-        omega (arith, rw zero-add at (digits-below l 0 0 (r .0) (lit< tt)), pow-le-pow-right {n = 10} (lit< tt) s)
-    go false p q = let z : _≡_ {A = ℕ} 0 1 = cc in absurd (omega arith)
+  pub valued : v ≤ constantLimit → Value v ≡ numeralValue l
+  unfolding numeralValue limited
+  valued k = rw (numeral-is l (d .0) f h, d .1, le-leb v constantLimit k)

@@ -3,6 +3,7 @@
 --     IsReader       that it is a value of its type, at that machine value
 --     TypedReader    that the machine value has the type that the code gives it
 --     own-reader     what it owns, and own-parts what its parts own, the text and the number
+--     cursor-typed   what a reader says of a line, a cursor, has its type at its machine value
 use mathlib.Core.Path.{_≡_}
 use mathlib.Core.List.{[], _∷_}
 use lib.Dec.{T as Holds}
@@ -21,8 +22,11 @@ use denote.Struct.Declared.{Declared}
 use denote.Struct.Laws as LL
 use denote.Struct.Rest.{all-own, own-open, own-shut}
 use Rattle.text.specs.declared.Reader.{Reader}
+use Rattle.text.specs.declared.Cursor.{Cursor}
 use Rattle.text.proofs.Reader as R
 use Rattle.text.proofs.Reader.Laws as R′
+use Rattle.text.proofs.Cursor as C
+use Rattle.text.proofs.Cursor.Laws as C′
 
 abbrev pub reader-type : Lft → Declared
 reader-type κ = R.the-type (namedLft 1 0 tt (κ, tt))
@@ -64,3 +68,7 @@ module _ {M : Type 1} (𝓤 : URA M) (H : Heap 𝓤) (A : Atoms 𝓤) (W : Given
 
   pub put-together : ent 𝓤 (sem 𝓤 H A (own-parts κ r)) (sem 𝓤 H A (own-reader κ r))
   put-together = own-shut 𝓤 H A W (reader-type κ) (reader-laws κ) (r .rest, (r .line, tt))
+
+module _ {M : Type 1} (𝓤 : URA M) (H : Heap 𝓤) (A : Atoms 𝓤) (W : Given 𝓤 H A) where
+  pub cursor-typed : (c : Cursor) (u : Val) → Is C.the-row c (u ∷ []) → Holds (hasTy C′.mir u) × WT u
+  cursor-typed c u is = LL.lawful C.the-type C′.the-laws 𝓤 H A W .typed c _ is .0

@@ -7,7 +7,7 @@ use lib.Dec.{leb, eqb}
 use lib.ListN.{length}
 
 -- the most digits of a numeral
-unfoldable pub mostDigits : ℕ
+abbrev pub mostDigits : ℕ
 mostDigits = 10
 
 -- the largest number that any place of a text allows: that of a constant
@@ -28,7 +28,7 @@ leads [] = false
 leads (b ∷ l) = not (eqb b 48) || eqb (length l) 0
 
 unfoldable pub isNumeral : List ℕ → Bool
-unfolding allDigits leads mostDigits
+unfolding allDigits leads
 isNumeral l = allDigits l && (leads l && leb (length l) mostDigits)
 
 -- the number that digits stand for, behind digits that stand for n

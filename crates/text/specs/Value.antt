@@ -10,7 +10,6 @@ use Rattle.text.specs.declared.Numeral.the-variants.{Malformed, Large, V
 
 -- a numeral's value, with a mark where it is past every limit
 unfoldable pub limited : Option ℕ → Numeral
-unfolding constantLimit
 limited none = Malformed
 limited (some n) = cond (leb n constantLimit) (Value n) Large
 

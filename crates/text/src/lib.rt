@@ -2,8 +2,9 @@
 
 ghost use mathlib.Core.Bool.{not};
 ghost use mathlib.Core.Path.{_≡_};
-ghost use Prim.Native.Nat.{_-_, _<_, _≤_};
+ghost use Prim.Native.Nat.{_+_, _-_, _<_, _≤_, _^_};
 ghost use lib.ListN.{length};
+ghost use Rattle.text.specs.Cursors.{NextLine, AfterNames};
 ghost use Rattle.text.specs.Lines.{before, sameBytes};
 ghost use Rattle.text.specs.Numeral.{leads};
 ghost use Rattle.text.specs.Value.{numeralValue};
@@ -12,7 +13,7 @@ ghost use Rattle.text.specs.Value.{numeralValue};
 const MOST_DIGITS: usize = 10;
 
 // The largest number that any place of a text allows: that of a constant.
-const CONSTANT_LIMIT: u64 = 4_294_967_295;
+pub const CONSTANT_LIMIT: u64 = 4_294_967_295;
 
 // The names lines.
 pub const TABLE_COLUMNS: [u8; 13] = *b"table columns";
@@ -35,6 +36,12 @@ pub enum Numeral {
 // The unread part of a text that is lent, and the number of its next line.
 pub struct Reader<'a> {
     pub rest: &'a [u8],
+    pub line: u64,
+}
+
+// A place where a line starts, and the number of that line.
+pub struct Cursor {
+    pub at: usize,
     pub line: u64,
 }
 
@@ -67,6 +74,48 @@ pub fn same<'a>(a: &'a [u8], b: &'a [u8]) -> bool
         i += 1;
     }
     true
+}
+
+// A reader's work, on its two parts: where the line behind the next one starts.
+fn behind_line(rest: &[u8], line: u64) -> Cursor
+    requires { ⌜ line + 1 < 2 ^ 64 ⌝ }
+    ensures { λ c. ⌜ NextLine (now (rest .entry)) line c ⌝ }
+{
+    let n = first(rest, b'\n');
+    Cursor {
+        at: n + 1,
+        line: line + 1,
+    }
+}
+
+// The next line of a reader ends at the byte before this place, and lacks its end where the place is past the text.
+pub fn next<'a>(r: Reader<'a>) -> Cursor
+    requires { ⌜ r .line + 1 < 2 ^ 64 ⌝ }
+    ensures { λ c. ⌜ NextLine (now (r .entry .rest)) (r .entry .line) c ⌝ }
+{
+    behind_line(r.rest, r.line)
+}
+
+// The same of a text that is lent, with the number of its next line: a reader is made of the two.
+pub fn next_line(rest: &[u8], line: u64) -> Cursor
+    requires { ⌜ line + 1 < 2 ^ 64 ⌝ }
+    ensures { λ c. ⌜ NextLine (now (rest .entry)) line c ⌝ }
+{
+    next(Reader { rest, line })
+}
+
+// Where the line behind the names line starts that is the text's first; place 0 where another line is.
+pub fn after_names<'a>(text: &'a [u8], names: &'a [u8]) -> Cursor
+    ensures { λ c. ⌜ AfterNames (now (names .entry)) (now (text .entry)) c ⌝ }
+{
+    let behind = next_line(text, 1);
+    if text.len() < behind.at {
+        return Cursor { at: 0, line: 1 };
+    }
+    if !same(&text[..behind.at - 1], names) {
+        return Cursor { at: 0, line: 1 };
+    }
+    behind
 }
 
 // A byte that no digit is has a value of 10 or more.

@@ -1,108 +1,82 @@
-use mathlib.Core.Path.{_≡_, sym, ap, _∙_}
-use mathlib.Core.Bool.{false}
+-- The length, then the names line, then the blocks.
+use mathlib.Core.Path.{ap, _∙_}
 use mathlib.Core.List.{List}
-use Prim.Native.Nat.{ℕ, suc, _+_, _-_, _<_}
-use native.Mathlib.Numerals.{add-one}
 use native.Mathlib.Omega.{arith}
-use lib.ListN.{length, take, drop, length-take, length-drop}
-use lib.Seq.{take-all}
 use borrow.Author.Needs.{needs}
-use borrow.Author.Tests.{not-true, not-false}
-use Rattle.text.specs.Lines.{lines, before, sameBytes}
+use Prim.Native.Nat.{ℕ, _≤_}
+use lib.ListN.{length, length-take, length-drop}
 use Rattle.text.specs.Names.{tableColumns}
-use Rattle.text.proofs.Lines.{before-le}
-use Rattle.policy_text.specs.Text.{tables, nothing, loadFrom}
+use Rattle.text.specs.Cursors.{AfterNames, NextLine}
+use Rattle.text.proofs.NextLines.{behind-names, names-within}
+use Rattle.policy_text.specs.Text.{mostPolicyBytes}
 use Rattle.load.specs.Value.{loadingValue}
-use Rattle.load.proofs.Start.{too-long, no-line, other-names, names}
+use Rattle.load.proofs.Start.{too-long, misnamed, well-named}
 use Rattle.load.proofs.load.Statement.{statement}
 use Rattle.load.proofs.load.Tie as tie
 
--- the first line ends within the text
-within : (text : List ℕ) (n : ℕ) → n ≡ before 10 text → (n ≡ length text → ⊥) → before 10 text < length text
-within text n e ne = let l = before-le 10 text in let k : before 10 text ≡ length text → ⊥ = λ q. ne (e ∙ q) in omega arith
+-- ---- the names line
 
--- the text behind its first line
-behind : (text : List ℕ) (n : ℕ) → n ≡ before 10 text → take (length text - (n + 1)) (drop (n + 1) text) ≡ drop (suc (before 10 text)) text
-behind text n e =
-    take-all (length text - (n + 1)) (drop (n + 1) text) (omega (arith, length-drop (n + 1) text))
-    ∙ ap (λ (k : ℕ). drop k text) (add-one n ∙ ap suc e)
+abbrev text : tie.After-after-names → List ℕ
+text c = c .before .before .before .before .args .text .now
+
+after : (c : tie.After-after-names) → AfterNames tableColumns (text c) (c .after-names .result)
+unfolding tableColumns
+after c = c .after-names .ensures
+
+abbrev of-names : tie.Else2 → tie.After-after-names
+of-names c = c .before .before
+
+behind : (c : tie.Else2) → NextLine (text (of-names c)) 1 (of-names c .after-names .result)
+behind c = behind-names tableColumns (text (of-names c)) (after (of-names c)) (c .if2 .left)
+
+within : (c : tie.Else2) → of-names c .after-names .result .at ≤ length (text (of-names c))
+within c = names-within tableColumns (text (of-names c)) (after (of-names c)) (c .if2 .left)
+
+-- ---- the needs
 
 refused-requires : tie.Need-refused-requires
 refused-requires c κs = search needs
 
 returns : tie.Need-returns
-returns c = c .refused .ensures ∙ ap loadingValue (too-long (c .before .before .before .args .text .now) (c .before .if1 .taken))
+unfolding mostPolicyBytes
+returns c = c .refused .ensures ∙ ap loadingValue (too-long _ (c .before .if1 .taken))
 
-first-requires : tie.Need-first-requires
-first-requires c κs = search needs
+slice-aggregate-after-names : tie.Need-slice-aggregate-after-names
+slice-aggregate-after-names c = search needs
+
+after-names-requires : tie.Need-after-names-requires
+after-names-requires c κs = search needs
 
 refused-requires-2 : tie.Need-refused-requires-2
 refused-requires-2 c κs = search needs
 
 returns-2 : tie.Need-returns-2
+unfolding mostPolicyBytes
 returns-2 c =
-    c .refused2 .ensures
-    ∙ ap loadingValue
-    (no-line (c .before .before .before .before .before .args .text .now) (c .before .before .before .if1 .left)
-    (sym (c .before .before .first .ensures) ∙ c .before .if2 .taken))
+    let d = c .before .before .before in
+    c .refused2 .ensures ∙ ap loadingValue (misnamed (text d) (d .before .before .if1 .left) (after d) (c .before .if2 .taken))
 
-slice-aggregate-same : tie.Need-slice-aggregate-same
-slice-aggregate-same c =
-    simp length-take
-    (omega (arith, c .before .before .first .ensures, before-le 10 (c .before .before .before .before .before .args .text .now)))
+sub-load-lines : tie.Need-sub-load-lines
+sub-load-lines c = within c
 
-slice-aggregate-same-2 : tie.Need-slice-aggregate-same-2
-slice-aggregate-same-2 c = search needs
+part-load-lines-start : tie.Need-part-load-lines-start
+part-load-lines-start c = within c
 
-same-requires : tie.Need-same-requires
-same-requires c κs = search needs
+part-load-lines-end : tie.Need-part-load-lines-end
+part-load-lines-end c = search needs
 
-refused-requires-3 : tie.Need-refused-requires-3
-refused-requires-3 c κs = search needs
+load-lines-requires : tie.Need-load-lines-requires
+load-lines-requires c κs = (
+  simp (length-take, length-drop) (omega (arith, of-names (c .before) .before .before .if1 .left)),
+  omega (arith, behind (c .before) .number),
+)
 
 returns-3 : tie.Need-returns-3
-unfolding tableColumns
+unfolding mostPolicyBytes
 returns-3 c =
-    let text = c .before .before .before .before .before .before .before .before .before .args .text .now in
-    let f = c .before .before .before .before .before .before .first .ensures in
-    c .refused3 .ensures
-    ∙ ap loadingValue
-    (other-names text (c .before .before .before .before .before .before .before .if1 .left)
-    (within text _ f (c .before .before .before .before .before .if2 .left))
-    (sym (c .before .before .same .ensures ∙ ap (λ (n : ℕ). sameBytes (take n text) tableColumns) f) ∙ not-true _ (c .before .if3 .taken)))
-
-add-from : tie.Need-add-from
-add-from c =
-    let h = within (c .before .before .before .before .before .before .before .before .args .text .now) (c .before .before .before .before .before .first .result) (c .before .before .before .before .before .first .ensures) (c .before .before .before .before .if2 .left) in
-    omega (arith, h, c .before .before .before .before .before .first .ensures)
-
-sub-load-from : tie.Need-sub-load-from
-sub-load-from c =
-    let h = within (c .before .before .before .before .before .before .before .before .args .text .now) (c .before .before .before .before .before .first .result) (c .before .before .before .before .before .first .ensures) (c .before .before .before .before .if2 .left) in
-    omega (arith, h, c .before .before .before .before .before .first .ensures)
-
-part-load-from-start : tie.Need-part-load-from-start
-part-load-from-start c =
-    let h = within (c .before .before .before .before .before .before .before .before .args .text .now) (c .before .before .before .before .before .first .result) (c .before .before .before .before .before .first .ensures) (c .before .before .before .before .if2 .left) in
-    omega (arith, h, c .before .before .before .before .before .first .ensures)
-
-part-load-from-end : tie.Need-part-load-from-end
-part-load-from-end c = search needs
-
-load-from-requires : tie.Need-load-from-requires
-load-from-requires c κs = search needs
-
-returns-4 : tie.Need-returns-4
-unfolding tableColumns
-returns-4 c =
-    let text = c .before .before .before .before .before .before .before .before .before .before .args .text .now in
-    let n = c .before .before .before .before .before .before .before .first .result in
-    let f = c .before .before .before .before .before .before .before .first .ensures in
-    c .load-from .ensures
-    ∙ ap loadingValue
-    (ap (λ (t : List ℕ). loadFrom tables false nothing 2 (lines t .ended) (lines t .rest)) (behind text n f)
-    ∙ names text (c .before .before .before .before .before .before .before .before .if1 .left) (within text n f (c .before .before .before .before .before .before .if2 .left))
-    (sym (c .before .before .before .same .ensures ∙ ap (λ (m : ℕ). sameBytes (take m text) tableColumns) f) ∙ not-false _ (c .before .before .if3 .left)))
+    let e = c .before .before in
+    let d = of-names e in
+    c .load-lines .ensures ∙ ap loadingValue (well-named (text d) (d .before .before .if1 .left) (after d) (e .if2 .left))
 
 pub load-spec : {M : Type 1} → statement M
 load-spec =
@@ -110,17 +84,12 @@ load-spec =
     (tie.spec
     refused-requires
     returns
-    first-requires
+    slice-aggregate-after-names
+    after-names-requires
     refused-requires-2
     returns-2
-    slice-aggregate-same
-    slice-aggregate-same-2
-    same-requires
-    refused-requires-3
-    returns-3
-    add-from
-    sub-load-from
-    part-load-from-start
-    part-load-from-end
-    load-from-requires
-    returns-4)
+    sub-load-lines
+    part-load-lines-start
+    part-load-lines-end
+    load-lines-requires
+    returns-3)

@@ -1,13 +1,15 @@
 -- The loop's invariant: loading the rest of the text from here gives what loading all of it gives.
-use mathlib.Core.Path.{sym, ap, _∙_, subst}
+use mathlib.Core.Path.{_≡_, ap, _∙_}
 use mathlib.Core.Bool.{false}
-use Prim.Native.Nat.{ℕ, _+_, _-_}
+use mathlib.Core.List.{List}
+use Prim.Native.Nat.{ℕ, _-_}
 use native.Mathlib.Omega.{arith}
-use lib.ListN.{length, length-take, length-drop}
+use lib.ListN.{length, drop, length-take, length-drop}
 use borrow.Author.Needs.{needs}
 use borrow.Author.Tests.{not-true, not-false}
 use Rattle.model.specs.declared.Outcome.the-variants.{Accepted}
-use Rattle.text.proofs.Parts.{found, found-le, found-line, found-none, found-some}
+use Rattle.text.specs.Lines.{before}
+use Rattle.text.proofs.NextLines.{front, LineAt, stops-here, ends-here}
 use Rattle.policy_text.specs.Text.{refused}
 use Rattle.load.specs.Value.{loadingValue}
 use Rattle.load.specs.Steps.{progressValue, blockNumber, steppedValue}
@@ -21,6 +23,43 @@ Inv-loop text start g₀ line₀ at₀ g line at = Walked text start g line at
 
 abbrev μ-loop : tie.MeasureT-loop
 μ-loop text start g₀ line₀ at₀ g line at = length text - at
+
+-- ---- the end of the line
+
+abbrev turn : tie.After-next-line Inv-loop μ-loop → tie.At-loop Inv-loop μ-loop
+turn c = c .before .before .before
+
+abbrev text : tie.After-next-line Inv-loop μ-loop → List ℕ
+text c = turn c .before .before .before .args .text .now
+
+abbrev rest : tie.After-next-line Inv-loop μ-loop → List ℕ
+rest c = drop (turn c .loop .at) (text c)
+
+abbrev of-end : tie.Else1 Inv-loop μ-loop → tie.After-next-line Inv-loop μ-loop
+of-end c = c .before .before
+
+ends : (c : tie.Else1 Inv-loop μ-loop) → LineAt (text (of-end c)) (turn (of-end c) .loop .at) (of-end c .next-line .result)
+ends c = let d = of-end c in ends-here (text d) (turn d .loop .at) (d .next-line .ensures) (c .if1 .left)
+
+-- ---- the step of the line
+
+abbrev of-step : tie.After-step Inv-loop μ-loop → tie.Else1 Inv-loop μ-loop
+of-step c = c .before .before .before
+
+abbrev start : (c : tie.After-step Inv-loop μ-loop) → tie.At-loop Inv-loop μ-loop
+start c = turn (of-end (of-step c))
+
+stepped : (c : tie.After-step Inv-loop μ-loop) → let w = start c .loop .inv in
+    c .step .result ≡ steppedValue (w .block) (w .begun) (w .declared) (front (rest (of-end (of-step c))))
+stepped c =
+    let w = start c .loop .inv in
+    c .step .ensures (w .block) (w .begun) (w .declared) (w .held)
+    ∙ ap (steppedValue (w .block) (w .begun) (w .declared)) (ends (of-step c) .bytes)
+
+abbrev of-last : tie.After-struct-known4 Inv-loop μ-loop → tie.Else2 Inv-loop μ-loop
+of-last c = c .before .before
+
+-- ---- the needs
 
 empty-policy-requires : tie.Need-empty-policy-requires Inv-loop μ-loop
 empty-policy-requires c κs = search needs
@@ -40,76 +79,51 @@ part-rest-start c = omega arith
 part-rest-end : tie.Need-part-rest-end Inv-loop μ-loop
 part-rest-end c = omega arith
 
-first-requires : tie.Need-first-requires Inv-loop μ-loop
-first-requires c κs = search needs
+next-line-requires : tie.Need-next-line-requires Inv-loop μ-loop
+next-line-requires c κs =
+    let t = c .before .before in omega (arith, t .loop .inv .number, t .loop .inv .inside, t .before .before .before .pre)
 
 refused-requires : tie.Need-refused-requires Inv-loop μ-loop
 refused-requires c κs = search needs
 
 returns : tie.Need-returns Inv-loop μ-loop
 returns c =
-    let text = c .before .before .before .before .before .before .before .before .args .text .now in
-    let at = c .before .before .before .before .before .loop .at in
+    let d = c .before .before .before in
     c .refused .ensures
-    ∙ ap loadingValue
-    (stops (c .before .before .before .before .before .loop .inv) (c .before .before .before .before .loop-test .taken)
-    (found-none 10 text at (c .before .before .first .result) (c .before .before .first .ensures) (c .before .if1 .taken)))
+    ∙ ap loadingValue (stops (turn d .loop .inv) (d .before .before .loop-test .taken)
+    (stops-here (text d) (turn d .loop .at) (d .next-line .ensures) (c .before .if1 .taken)))
+
+sub-step : tie.Need-sub-step Inv-loop μ-loop
+sub-step c = search needs
 
 slice-aggregate-step : tie.Need-slice-aggregate-step Inv-loop μ-loop
-slice-aggregate-step c =
-    let le = found-le 10 (c .before .before .before .before .before .before .before .before .args .text .now) (c .before .before .before .before .before .loop .at) (c .before .before .first .result) (c .before .before .first .ensures) in
-    simp (length-take, length-drop) (omega (arith, le))
+slice-aggregate-step c = simp (length-take, length-drop) (omega (arith, ends (c .before .before)))
 
 step-requires : tie.Need-step-requires Inv-loop μ-loop
-step-requires c κs = (
-  block-small (c .before .before .before .before .before .loop .inv),
-  simp (length-take, length-drop) (omega (arith, c .before .before .before .before .before .before .before .before .pre)),
-)
+step-requires c κs =
+    let t = turn (of-end (c .before .before)) in
+    (block-small (t .loop .inv), simp (length-take, length-drop) (omega (arith, t .before .before .before .pre)))
 
 refused-requires-2 : tie.Need-refused-requires-2 Inv-loop μ-loop
 refused-requires-2 c κs = search needs
 
 returns-2 : tie.Need-returns-2 Inv-loop μ-loop
 returns-2 c =
-    let text = c .before .before .before .before .before .before .before .before .before .before .before .before .args .text .now in
-    let w = c .before .before .before .before .before .before .before .before .before .loop .inv in
-    let at = c .before .before .before .before .before .before .before .before .before .loop .at in
-    let n = c .before .before .before .before .before .before .first .result in
-    let f = c .before .before .before .before .before .before .first .ensures in
-    let more = found-some 10 text at n f (c .before .before .before .before .before .if1 .left) in
-    let value = c .before .before .before .step .ensures (w .block) (w .begun) (w .declared) (w .held)
-    ∙ ap (steppedValue (w .block) (w .begun) (w .declared)) (found-line 10 text at n f) in
-    c .refused2 .ensures ∙ ap loadingValue (turns-back w more (c .before .before .before .step .result) value (c .before .if2 .taken))
-
-add-line : tie.Need-add-line Inv-loop μ-loop
-add-line c = omega (arith, c .before .before .before .before .before .before .before .before .before .loop .inv .number, c .before .before .before .before .before .before .before .before .before .loop .inv .inside, c .before .before .before .before .before .before .before .before .before .before .before .before .pre)
+    let s = c .before .before .before in
+    c .refused2 .ensures
+    ∙ ap loadingValue (turns-back (start s .loop .inv) (ends (of-step s)) (s .step .result) (stepped s) (c .before .if2 .taken))
 
 add-at : tie.Need-add-at Inv-loop μ-loop
-add-at c =
-    let le = found-le 10 (c .before .before .before .before .before .before .before .before .before .before .before .before .args .text .now) (c .before .before .before .before .before .before .before .before .before .loop .at) (c .before .before .before .before .before .before .first .result) (c .before .before .before .before .before .before .first .ensures) in
-    omega (arith, le, c .before .before .before .before .before .before .before .before .before .before .before .before .pre, c .before .before .before .before .before .before .before .before .before .loop .inv .inside)
-
-add-at-2 : tie.Need-add-at-2 Inv-loop μ-loop
-add-at-2 c =
-    let le = found-le 10 (c .before .before .before .before .before .before .before .before .before .before .before .before .args .text .now) (c .before .before .before .before .before .before .before .before .before .loop .at) (c .before .before .before .before .before .before .first .result) (c .before .before .before .before .before .before .first .ensures) in
-    omega (arith, le, c .before .before .before .before .before .before .before .before .before .before .before .before .pre, c .before .before .before .before .before .before .before .before .before .loop .inv .inside)
+add-at c = let s = of-last c .before .before in omega (arith, ends (of-step s), start s .before .before .before .pre .0)
 
 loop-less : tie.Need-loop-less Inv-loop μ-loop
-loop-less c = omega arith
+loop-less c = omega (arith, ends (of-step (of-last c .before .before)))
 
 loop-again : tie.Need-loop-again Inv-loop μ-loop
 loop-again c =
-    let text = c .before .before .before .before .before .before .before .before .before .before .before .before .args .text .now in
-    let start = c .before .before .before .before .before .before .before .before .before .before .before .before .args .start in
-    let w = c .before .before .before .before .before .before .before .before .before .loop .inv in
-    let at = c .before .before .before .before .before .before .before .before .before .loop .at in
-    let n = c .before .before .before .before .before .before .first .result in
-    let f = c .before .before .before .before .before .before .first .ensures in
-    let more = found-some 10 text at n f (c .before .before .before .before .before .if1 .left) in
-    let value = c .before .before .before .step .ensures (w .block) (w .begun) (w .declared) (w .held)
-    ∙ ap (steppedValue (w .block) (w .begun) (w .declared)) (found-line 10 text at n f) in
-    subst (λ (k : ℕ). Walked text start (c .before .before .before .step .result .progress) (c .before .before .before .before .before .before .before .before .before .loop .line + 1) (at + k + 1)) (sym (found 10 text at n f))
-    (walked-more w more (c .before .before .before .step .result) value (c .before .if2 .left))
+    let s = of-last c .before .before in
+    let d = of-step s in
+    walked-more (start s .loop .inv) (ends d) (s .step .result) (stepped s) (of-end d .next-line .ensures .number) (of-last c .if2 .left)
 
 refused-requires-3 : tie.Need-refused-requires-3 Inv-loop μ-loop
 refused-requires-3 c κs = search needs
@@ -149,16 +163,15 @@ load-lines-spec =
     sub-rest
     part-rest-start
     part-rest-end
-    first-requires
+    next-line-requires
     refused-requires
     returns
+    sub-step
     slice-aggregate-step
     step-requires
     refused-requires-2
     returns-2
-    add-line
     add-at
-    add-at-2
     loop-less
     loop-again
     refused-requires-3

@@ -3,21 +3,22 @@ use mathlib.Core.Path.{_≡_, sym, ap, _∙_}
 use mathlib.Core.Bool.{false}
 use mathlib.Core.List.{List}
 use mathlib.Core.Option.{some}
-use Prim.Native.Nat.{ℕ, _-_, _≤_, _<_}
+use Prim.Native.Nat.{ℕ, _-_, _<_}
 use native.Mathlib.Omega.{arith}
 use borrow.Author.Needs.{needs}
 use borrow.Author.Tests.{not-true, not-false}
 use lib.ListN.{length, drop, length-take, length-drop}
 use Rattle.theory.specs.Query.{Line}
 use Rattle.text.specs.Lines.{before}
+use Rattle.model.specs.Limits.{mostLines}
 use Rattle.model.specs.Fields.{queryLine}
 use Rattle.model.specs.Value.{tablesValue}
 use Rattle.model.specs.Parsed.{parsedLine}
 use Rattle.query_text.specs.Text.{fault}
 use Rattle.query_text.specs.Value.{readingValue}
 use Rattle.query_text.proofs.Faults.{well-formed, malformed, is-good, is-tabled}
-use Rattle.text.proofs.Parts.{found, found-le, found-line, found-none, found-some}
-use Rattle.query_text.proofs.Walk.{front, Walked, walked-none, counted, stops, empty, done, wrong, faulty, walked-more}
+use Rattle.text.proofs.NextLines.{front, LineAt, stops-here, ends-here}
+use Rattle.query_text.proofs.Walk.{Walked, walked-none, counted, stops, empty, done, wrong, faulty, walked-more}
 use Rattle.query_text.proofs.read_lines.Statement.{statement}
 use Rattle.query_text.proofs.read_lines.Tie as tie
 
@@ -29,42 +30,37 @@ abbrev μ-loop : tie.MeasureT-loop
 
 -- ---- the end of the line
 
-abbrev turn : tie.After-first Inv-loop μ-loop → tie.At-loop Inv-loop μ-loop
+abbrev turn : tie.After-next-line Inv-loop μ-loop → tie.At-loop Inv-loop μ-loop
 turn c = c .before .before .before
 
-abbrev text : tie.After-first Inv-loop μ-loop → List ℕ
+abbrev text : tie.After-next-line Inv-loop μ-loop → List ℕ
 text c = turn c .before .before .before .args .text .now
 
-abbrev rest : tie.After-first Inv-loop μ-loop → List ℕ
+abbrev rest : tie.After-next-line Inv-loop μ-loop → List ℕ
 rest c = drop (turn c .loop .at) (text c)
 
-ends-at : (c : tie.After-first Inv-loop μ-loop) → c .first .result ≡ before 10 (rest c)
-ends-at c = found 10 (text c) (turn c .loop .at) (c .first .result) (c .first .ensures)
+abbrev of-end : tie.Else1 Inv-loop μ-loop → tie.After-next-line Inv-loop μ-loop
+of-end c = c .before .before
 
-end-within : (c : tie.After-first Inv-loop μ-loop) → c .first .result ≤ length (text c) - turn c .loop .at
-end-within c = found-le 10 (text c) (turn c .loop .at) (c .first .result) (c .first .ensures)
-
-ends : (c : tie.Else1 Inv-loop μ-loop) → before 10 (rest (c .before)) < length (rest (c .before))
-ends c = let d = c .before in found-some 10 (text d) (turn d .loop .at) (d .first .result) (d .first .ensures) (c .if1 .left)
+ends : (c : tie.Else1 Inv-loop μ-loop) → LineAt (text (of-end c)) (turn (of-end c) .loop .at) (of-end c .next-line .result)
+ends c = let d = of-end c in ends-here (text d) (turn d .loop .at) (d .next-line .ensures) (c .if1 .left)
 
 -- ---- what the line says
 
 abbrev of-read : tie.After-read-line Inv-loop μ-loop → tie.Else1 Inv-loop μ-loop
-of-read c = c .before .before
+of-read c = c .before .before .before
 
-line-read : (c : tie.After-read-line Inv-loop μ-loop) → c .read-line .result ≡ parsedLine (queryLine (front (rest (of-read c .before))))
+line-read : (c : tie.After-read-line Inv-loop μ-loop) → c .read-line .result ≡ parsedLine (queryLine (front (rest (of-end (of-read c)))))
 line-read c =
-    let d = of-read c .before in
-    c .read-line .ensures
-    ∙ ap (λ (l : List ℕ). parsedLine (queryLine l)) (found-line 10 (text d) (turn d .loop .at) (d .first .result) (d .first .ensures))
+    c .read-line .ensures ∙ ap (λ (l : List ℕ). parsedLine (queryLine l)) (ends (of-read c) .bytes)
 
 abbrev of-well : tie.Else2 Inv-loop μ-loop → tie.After-read-line Inv-loop μ-loop
 of-well c = c .before .before
 
-says : (c : tie.Else2 Inv-loop μ-loop) → (A : Line) × (queryLine (front (rest (of-read (of-well c) .before))) ≡ some A)
+says : (c : tie.Else2 Inv-loop μ-loop) → (A : Line) × (queryLine (front (rest (of-end (of-read (of-well c))))) ≡ some A)
 says c =
     let d = of-well c in
-    well-formed (d .read-line .result) (queryLine (front (rest (of-read d .before)))) (line-read d) (not-false _ (c .if2 .left))
+    well-formed (d .read-line .result) (queryLine (front (rest (of-end (of-read d))))) (line-read d) (not-false _ (c .if2 .left))
 
 line-says : (c : tie.Else2 Inv-loop μ-loop) → of-well c .read-line .result ≡ parsedLine (some (says c .0))
 line-says c = line-read (of-well c) ∙ ap parsedLine (says c .1)
@@ -75,7 +71,7 @@ abbrev of-fault : tie.After-fault Inv-loop μ-loop → tie.Else1 Inv-loop μ-loo
 of-fault c = of-read (of-well (c .before))
 
 abbrev start : tie.After-fault Inv-loop μ-loop → tie.At-loop Inv-loop μ-loop
-start c = turn (of-fault c .before)
+start c = turn (of-end (of-fault c))
 
 fault-is : (c : tie.After-fault Inv-loop μ-loop) (widths : List ℕ) → start c .before .before .before .args .tables ≡ tablesValue widths
     → c .fault .result ≡ fault widths (start c .loop .inv .earlier) (says (c .before) .0)
@@ -84,8 +80,11 @@ fault-is c widths t =
     c .fault .ensures .0 widths (w .earlier) (says (c .before) .0) t (counted w) (w .marked) (line-says (c .before))
 
 -- without a fault it is no ninth line, and within its limits
-faultless : (c : tie.Else3 Inv-loop μ-loop) → (start (c .before) .loop .q .count < 8) × (of-well (c .before .before) .read-line .result .outside ≡ false)
+faultless : (c : tie.Else3 Inv-loop μ-loop) → (start (c .before) .loop .q .count < mostLines) × (of-well (c .before .before) .read-line .result .outside ≡ false)
 faultless c = c .before .fault .ensures .1 (c .if3 .left)
+
+abbrev of-last : tie.After-struct-known6 Inv-loop μ-loop → tie.Else3 Inv-loop μ-loop
+of-last c = c .before .before .before .before
 
 -- ---- the needs
 
@@ -104,25 +103,29 @@ part-rest-start c = search needs
 part-rest-end : tie.Need-part-rest-end Inv-loop μ-loop
 part-rest-end c = search needs
 
-first-requires : tie.Need-first-requires Inv-loop μ-loop
-first-requires c κs = search needs
+next-line-requires : tie.Need-next-line-requires Inv-loop μ-loop
+unfolding mostLines
+next-line-requires c κs = omega (arith, c .before .before .loop .inv)
 
 refused-requires : tie.Need-refused-requires Inv-loop μ-loop
 refused-requires c κs = search needs
 
 returns : tie.Need-returns Inv-loop μ-loop
 returns c =
-    let d = c .before .before in
+    let d = c .before .before .before in
     λ widths t.
     c .refused .ensures
     ∙ ap readingValue (stops (turn d .loop .inv) widths t (d .before .before .loop-test .taken)
-    (found-none 10 (text d) (turn d .loop .at) (d .first .result) (d .first .ensures) (c .before .if1 .taken)))
+    (stops-here (text d) (turn d .loop .at) (d .next-line .ensures) (c .before .if1 .taken)))
+
+sub-read-line : tie.Need-sub-read-line Inv-loop μ-loop
+sub-read-line c = search needs
 
 slice-aggregate-read-line : tie.Need-slice-aggregate-read-line Inv-loop μ-loop
-slice-aggregate-read-line c = simp (length-take, length-drop) (omega (arith, end-within (c .before .before)))
+slice-aggregate-read-line c = simp (length-take, length-drop) (omega (arith, ends (c .before .before)))
 
 read-line-requires : tie.Need-read-line-requires Inv-loop μ-loop
-read-line-requires c κs = simp (length-take, length-drop) (omega (arith, c .before .before .before .before .before .before .before .before .pre))
+read-line-requires c κs = simp (length-take, length-drop) (omega (arith, turn (of-end (c .before .before)) .before .before .before .pre))
 
 refused-requires-2 : tie.Need-refused-requires-2 Inv-loop μ-loop
 refused-requires-2 c κs = search needs
@@ -133,8 +136,8 @@ returns-2 c =
     let d = of-read r in
     λ widths t.
     c .refused2 .ensures
-    ∙ ap readingValue (wrong (turn (d .before) .loop .inv) (ends d)
-    (malformed (r .read-line .result) (queryLine (front (rest (d .before)))) (line-read r) (not-true _ (c .before .if2 .taken))) widths t)
+    ∙ ap readingValue (wrong (turn (of-end d) .loop .inv) (ends d)
+    (malformed (r .read-line .result) (queryLine (front (rest (of-end d)))) (line-read r) (not-true _ (c .before .if2 .taken))) widths t)
 
 fault-requires : tie.Need-fault-requires Inv-loop μ-loop
 fault-requires c κs = is-tabled (of-well c .read-line .result) (says c .0) (line-says c)
@@ -151,37 +154,33 @@ returns-3 c =
     ∙ ap readingValue (faulty (start f .loop .inv) (ends (of-fault f)) (a .0) (a .1) (f .fault .result) (c .before .if3 .taken) widths t (fault-is f widths t))
 
 mul-t18 : tie.Need-mul-t18 Inv-loop μ-loop
+unfolding mostLines
 mul-t18 c = omega (arith, faultless (c .before) .0)
 
 element-set-from-q : tie.Need-element-set-from-q Inv-loop μ-loop
+unfolding mostLines
 element-set-from-q c = faultless (c .before) .0
 
 add-q : tie.Need-add-q Inv-loop μ-loop
+unfolding mostLines
 add-q c = omega (arith, faultless (c .before) .0)
 
-add-line : tie.Need-add-line Inv-loop μ-loop
-add-line c = omega (arith, start (c .before .before .before .before) .loop .inv)
-
 add-at : tie.Need-add-at Inv-loop μ-loop
-add-at c = omega (arith, end-within (of-fault (c .before .before .before .before) .before))
-
-add-at-2 : tie.Need-add-at-2 Inv-loop μ-loop
-add-at-2 c = omega (arith, end-within (of-fault (c .before .before .before .before) .before))
+add-at c = omega (arith, ends (of-fault (of-last c .before)), start (of-last c .before) .before .before .before .pre .0)
 
 loop-less : tie.Need-loop-less Inv-loop μ-loop
-loop-less c = omega (arith, end-within (of-fault (c .before .before .before .before) .before))
+loop-less c = omega (arith, ends (of-fault (of-last c .before)))
 
 loop-again : tie.Need-loop-again Inv-loop μ-loop
 loop-again c =
-    let e = c .before .before .before in
+    let e = of-last c in
     let f = e .before in
     let d = of-fault f in
     let w = start f .loop .inv in
     let a = says (f .before) in
     let p = of-well (f .before) .read-line .result in
     walked-more w (ends d) (a .0) (a .1) p (is-good p (a .0) (line-says (f .before)) (faultless e .1))
-    (omega (arith, counted w, faultless e .0)) (d .before .first .result) (ends-at (d .before))
-    (λ widths t. sym (e .if3 .left) ∙ fault-is f widths t)
+    (omega (arith, counted w, faultless e .0)) (of-end d .next-line .ensures .number) (λ widths t. sym (e .if3 .left) ∙ fault-is f widths t)
 
 refused-requires-4 : tie.Need-refused-requires-4 Inv-loop μ-loop
 refused-requires-4 c κs = search needs
@@ -204,9 +203,10 @@ read-lines-spec =
     sub-rest
     part-rest-start
     part-rest-end
-    first-requires
+    next-line-requires
     refused-requires
     returns
+    sub-read-line
     slice-aggregate-read-line
     read-line-requires
     refused-requires-2
@@ -217,9 +217,7 @@ read-lines-spec =
     mul-t18
     element-set-from-q
     add-q
-    add-line
     add-at
-    add-at-2
     loop-less
     loop-again
     refused-requires-4

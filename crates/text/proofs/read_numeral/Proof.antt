@@ -4,7 +4,7 @@ use mathlib.Core.Bool.{true, not}
 use Prim.Native.Nat.{_-_}
 use native.Mathlib.Omega.{arith}
 use lib.ListN.{length}
-use Rattle.text.specs.Numeral.{leads}
+use Rattle.text.specs.Numeral.{constantLimit, leads}
 use Rattle.text.proofs.Numerals.{Digits, digits-none, digits-more, digits-broken, digits-all, digits-fit, digit-taken, digit-broken, no-byte, too-long, badly-led, no-digit, large, valued}
 use Rattle.text.proofs.read_numeral.Statement.{statement}
 use Rattle.text.proofs.read_numeral.Tie as tie
@@ -65,9 +65,11 @@ led c =
     sym (c .before .before .before .leading-zero .ensures (omega arith)) ∙ ap not (c .before .before .if3 .left)
 
 returns-5 : tie.Need-returns-5 Inv-loop μ-loop
+unfolding constantLimit
 returns-5 c = large _ _ (led (c .before)) (omega arith) (digits-all (c .before .before .loop .inv) (omega arith)) (omega arith)
 
 returns-6 : tie.Need-returns-6 Inv-loop μ-loop
+unfolding constantLimit
 returns-6 c = valued _ _ (led (c .before)) (omega arith) (digits-all (c .before .before .loop .inv) (omega arith)) (omega arith)
 
 pub read-numeral-spec : {M : Type 1} → statement M
