@@ -34,7 +34,8 @@ use Rattle.desk.proofs.ReplyWords.{no-yes, turned-yes}
 
 -- ---- a step
 
--- what a call says of its text, and the partitions that it leaves open of those of `mask`
+-- what a call says, and which of the partitions of `mask` it leaves open: all of them where the text is turned back (passed) or no
+-- open partition settles the query (denied), else those that do (granted)
 pub data Step (d : Declared) (mask : ℕ) (c : Call) : ℕ → Type 0 where
   passed : ((Q : Query) → Asks d c Q → ⊥) → Says c refused → Step d mask c mask
   denied : (Q : Query) → Asks d c Q → stillOpen d Q mask ≡ 0 → Says c no → Step d mask c mask
@@ -79,19 +80,20 @@ module _ (d : Declared) where
 
   -- ---- one call more
 
+  -- a partition determines the query of a call that says yes
+  abbrev DeterminesYes : Call → ℕ → Type 0
+  DeterminesYes c i = Says c yes → (Q : Query) → Asks d c Q → PartitionDetermines d i Q
+
   module _ (before : List Call) (c : Call) where
     pub all-before : (i : ℕ) → DeterminesAll d (before ++ c ∷ []) i → DeterminesAll d before i
     all-before i f b m = f b (Memᴰ·append-left (c ∷ []) m)
 
-    pub the-last : (i : ℕ) → DeterminesAll d (before ++ c ∷ []) i → Says c yes → (Q : Query) → Asks d c Q → PartitionDetermines d i Q
+    pub the-last : (i : ℕ) → DeterminesAll d (before ++ c ∷ []) i → DeterminesYes c i
     the-last i f = f c (Memᴰ·append-right before (List·Memᴰ·head refl))
 
-    -- a partition determines the queries answered yes before, and this one where the call says yes
-    one-more : (i : ℕ) → DeterminesAll d before i → (Says c yes → (Q : Query) → Asks d c Q → PartitionDetermines d i Q)
-        → DeterminesAll d (before ++ c ∷ []) i
+    one-more : (i : ℕ) → DeterminesAll d before i → DeterminesYes c i → DeterminesAll d (before ++ c ∷ []) i
     one-more i f g x m =
-        ⊎-elim (f x)
-        (λ j. subst (λ (z : Call). Says z yes → (Q : Query) → Asks d z Q → PartitionDetermines d i Q) (sym (List·Memᴰ·eq-of-singleton j)) g)
+        ⊎-elim (f x) (λ j. subst (λ (z : Call). DeterminesYes z i) (sym (List·Memᴰ·eq-of-singleton j)) g)
         (List·Memᴰ·append-cases before m)
 
     -- a call that does not say yes leaves the queries answered yes as they were
@@ -136,6 +138,7 @@ module _ (d : Declared) where
       );
     }
 
+    -- the invariant of demand 3
     pub held-step : {c : Call} {mask′ : ℕ} → Step d mask c mask′ → Held (before ++ c ∷ []) mask′
     held-step {c} (passed none says) = held-same before c (λ y. turned-yes says y) h
     held-step {c} (denied Q asks none says) = held-same before c (λ y. no-yes says y) h

@@ -1,14 +1,13 @@
 -- The names line; then the refusal of the policy, or the lines of the queries.
-use mathlib.Core.Path.{_≡_, refl, ap, _∙_}
-use Prim.Native.Nat.{ℕ, _+_, _-_, _^_, _≤_}
+use mathlib.Core.Path.{_≡_, refl}
+use Prim.Native.Nat.{_+_, _≤_}
 use native.Mathlib.Omega.{arith}
 use lib.ListN.{length}
 use Rattle.policy_text.specs.Text.{load, accepted}
 use Rattle.policy_text.specs.Declared.{Declared}
 use Rattle.labelling.specs.Text.{LoadedTo}
 use Rattle.desk.specs.Reply.{refused}
-use Rattle.desk.specs.Opening.{allOpen}
-use Rattle.desk.proofs.Loaded.{partition-count, few-partitions}
+use Rattle.desk.proofs.Loaded.{few-partitions, opens-all}
 use Rattle.run.specs.Output.{outputNames, wordBytes}
 use Rattle.run.proofs.Written.{loads-to, loads-not, behind-names, written-refused, written-accepted}
 use borrow.Author.Needs.{needs}
@@ -95,19 +94,17 @@ same-length-2 : tie.Need-same-length-2
 same-length-2 c = search needs
 
 returns-2 : tie.Need-returns-2
-unfolding outputNames allOpen
+unfolding outputNames
 returns-2 c =
     let r = c .before .before in
     let b = r .before .before .before .before in
     let m = b .before .before .before .before .before in
     let (d, e, l) = loaded m in
-    let all : record { mask = b .low-bits .result } ≡ allOpen d =
-    ap (λ (m : ℕ). record { mask = m }) (b .low-bits .ensures ∙ ap (λ (n : ℕ). 2 ^ n - 1) (partition-count l)) in
     let n : named m .put-bytes .result ≡ 31 = named m .put-bytes .ensures .next in
     let z : length (named m .put-bytes .last .0) ≡ length (start m .args .out .now) = named m .put-bytes .ensures .size in
     let h : 524288 ≤ length (start m .args .out .now) = start m .pre .1 in
     let w = r .decide-all .ensures .0 d l in (
-      behind-names _ (named m .put-bytes .ensures) (rw all at w) (written-accepted _ _ d e),
+      behind-names _ (named m .put-bytes .ensures) (rw (opens-all l (b .low-bits .ensures)) at w) (written-accepted _ _ d e),
       omega (arith, w .size, r .decide-all .ensures .1, z, h),
     )
 

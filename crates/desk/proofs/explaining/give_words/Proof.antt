@@ -22,9 +22,8 @@ words-of-requires c κs = labels-held (c .before .before .pre .1)
 
 -- the words, whatever labels are held
 words : (c : tie.After-words-of) (ws : List ℕ)
-    → (let l = c .before .before .before .args .l in
-    let granted = c .before .before .before .args .granted in
-    l ≡ labelsValue ws → length ws ≤ 8 → c .words-of .result ≡ wordsValue (explained granted ws))
+    → (let s = c .before .before .before in
+    s .args .l ≡ labelsValue ws → length ws ≤ 8 → c .words-of .result ≡ wordsValue (explained (s .args .granted) ws))
 words c ws e few = c .words-of .ensures ws e few (c .before .settles .ensures ws e)
 
 returns : tie.Need-returns
@@ -43,9 +42,10 @@ same-length c = search needs
 returns-2 : tie.Need-returns-2
 unfolding saidExplaining
 returns-2 c = λ ws h.
-    let w = c .before .before .before .before .before .before .before in
+    let t = c .before .before .before in
+    let w = t .before .before .before .before in
     explains-given _ _ _ (words w) ws h _ refl (sym (c .if2 .taken) ∙ w .before .settles .ensures ws (h .is))
-    (omega arith) (c .before .before .before .write-words .ensures)
+    (omega arith) (t .write-words .ensures)
 
 same-length-2 : tie.Need-same-length-2
 same-length-2 c = search needs
@@ -53,9 +53,10 @@ same-length-2 c = search needs
 returns-3 : tie.Need-returns-3
 unfolding saidExplaining
 returns-3 c = λ ws h.
-    let w = c .before .before .before .before .before .before .before in
+    let t = c .before .before .before in
+    let w = t .before .before .before .before in
     explains-given _ _ _ (words w) ws h _ refl (sym (c .if2 .left) ∙ w .before .settles .ensures ws (h .is))
-    (omega arith) (c .before .before .before .write-words .ensures)
+    (omega arith) (t .write-words .ensures)
 
 pub give-words-spec : {M : Type 1} → statement M
 give-words-spec =

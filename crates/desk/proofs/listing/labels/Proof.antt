@@ -22,9 +22,10 @@ enum-told c = search needs
 
 give-labels-requires : tie.Need-give-labels-requires
 give-labels-requires c κs =
-    let a = c .before .before .before .before in
+    let m = c .before .before .before in
+    let a = m .before in
     let l = passes (a .before .before .valid .ensures) (a .before .if1 .left) in
-    labels-held (text-accepted _ _ (a .ask .ensures) l (c .before .before .before .match .keys1) .held)
+    labels-held (text-accepted _ _ (a .ask .ensures) l (m .match .keys1) .held)
 
 enum-known-outcome : tie.Need-enum-known-outcome
 enum-known-outcome c = search needs
@@ -34,9 +35,10 @@ same-length c = search needs
 
 returns-2 : tie.Need-returns-2
 returns-2 c =
-    let a = c .before .before .before .before .before .before .before in
+    let m = c .before .before .before .before .before .before in
+    let a = m .before in
     text-listed (a .ask .result) (passes (a .before .before .valid .ensures) (a .before .if1 .left))
-    (λ l. text-accepted _ _ (a .ask .ensures) l (c .before .before .before .before .before .before .match .keys1))
+    (λ l. text-accepted _ _ (a .ask .ensures) l (m .match .keys1))
     (c .before .before .give-labels .ensures)
 
 returns-3 : tie.Need-returns-3

@@ -1,12 +1,11 @@
 -- `desk::opening::open_session`: 8 and no partition open, or the word that has a bit for each partition.
-use mathlib.Core.Path.{refl, ap, _∙_}
+use mathlib.Core.Path.{refl, ap}
 use borrow.Author.Needs.{needs}
 use native.Mathlib.Omega.{arith}
-use Prim.Native.Nat.{ℕ, _-_, _^_}
 use Rattle.words.proofs.Answers.{passes, fails}
 use Rattle.model.specs.declared.Outcome.the-variants.{Accepted}
-use Rattle.desk.specs.Opening.{allOpen}
-use Rattle.desk.proofs.Loaded.{loaded-to, partition-count, few-partitions}
+use Rattle.desk.specs.declared.opening.Session.{Session}
+use Rattle.desk.proofs.Loaded.{loaded-to, few-partitions, opens-all}
 use Rattle.desk.proofs.opening.open_session.Statement.{statement}
 use Rattle.desk.proofs.opening.open_session.Tie as tie
 
@@ -23,14 +22,11 @@ low-bits-requires : tie.Need-low-bits-requires
 low-bits-requires c κs = omega (arith, few-partitions (loaded-to (passes (c .before .valid .ensures) (c .if1 .left))))
 
 returns-2 : tie.Need-returns-2
-unfolding allOpen
 returns-2 c =
     let valid = passes (c .before .before .valid .ensures) (c .before .if1 .left) in
     record {
       turned = λ n. absurd (n valid);
-      opened = λ l.
-          ap (λ (m : ℕ). record { outcome = Accepted; session = record { mask = m } })
-          (c .low-bits .ensures ∙ ap (λ (n : ℕ). 2 ^ n - 1) (partition-count (loaded-to l)));
+      opened = λ l. ap (λ (s : Session). record { outcome = Accepted; session = s }) (opens-all (loaded-to l) (c .low-bits .ensures));
     }
 
 pub open-session-spec : {M : Type 1} → statement M
