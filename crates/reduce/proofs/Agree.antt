@@ -19,7 +19,8 @@ Joint A S B D =
     (y : Term × Term) → y ∈ zip (A .columns) (S .columns) → (z : Term × Term) → z ∈ zip (B .columns) (D .columns)
     → T (agrees y z)
 
-pub joint-iff : (A S B D : Line) → T (all (λ y. all (agrees y) (zip (B .columns) (D .columns))) (zip (A .columns) (S .columns))) ↔ Joint A S B D
+pub joint-iff : (A S B D : Line)
+    → T (all (λ y. all (agrees y) (zip (B .columns) (D .columns))) (zip (A .columns) (S .columns))) ↔ Joint A S B D
 joint-iff A S B D =
     let zs = zip (B .columns) (D .columns) in
     let a = all-iff (λ y. all (agrees y) zs) (zip (A .columns) (S .columns)) in

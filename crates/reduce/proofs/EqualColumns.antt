@@ -58,7 +58,8 @@ module _ (A B : TheLine) (few : length (A .columns) ≤ mostColumns) (few′ : l
       m : (p * mostColumns + q) % mostColumns ≡ q
       m = omega arith
 
-      go : Dec (q < length (B .columns)) → T (sameTerm (termAt (lineValue A) p) (termAt (lineValue B) q)) ↔ SameColumn A B (p * mostColumns + q)
+      go : Dec (q < length (B .columns))
+          → T (sameTerm (termAt (lineValue A) p) (termAt (lineValue B) q)) ↔ SameColumn A B (p * mostColumns + q)
       go (yes k) =
           let e : sameTerm (termAt (lineValue A) p) (termAt (lineValue B) q) ≡ same (at A p) (at B q) =
           rw (used A few p l, used B few′ q k) (same-value (at A p) (at B q)) in
@@ -73,7 +74,8 @@ module _ (A B : TheLine) (few : length (A .columns) ≤ mostColumns) (few′ : l
 
   -- one column of B more
   pub column-more : (p q : ℕ) (t u : Term) (on : Bool) {m : ℕ} (r : ℕ) → t ≡ termAt (lineValue A) p → u ≡ termAt (lineValue B) q
-      → q < mostColumns → (t .mark ≡ 0 → ⊥) → on ≡ sameTerm t u → r ≡ cond on (setBit m (p * mostColumns + q)) m → Upto (SameColumn A B) (p * mostColumns + q) m
+      → q < mostColumns → (t .mark ≡ 0 → ⊥) → on ≡ sameTerm t u → r ≡ cond on (setBit m (p * mostColumns + q)) m
+      → Upto (SameColumn A B) (p * mostColumns + q) m
       → Upto (SameColumn A B) (p * mostColumns + (q + 1)) r
   column-more p q t u on r et eu h f eo er k =
       let l : p < length (A .columns) = within p (rw et at f) in

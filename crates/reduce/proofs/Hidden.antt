@@ -92,5 +92,6 @@ hidden-in A n few = (
     to b t q (yes l) =
         let v = used A few b l in
         let i : at A b ≡ hidden n = value-hidden (at A b) n (rw v at t) (rw v at q) in
-        (rw q at (hidden-small (termAt (lineValue A) b) t), subst (λ (u : TheTerm). u ∈ A .columns) i (getD-mem (A .columns) b (constant 0) l))
+        let small = hidden-small (termAt (lineValue A) b) t in
+        (rw q at small, subst (λ (u : TheTerm). u ∈ A .columns) i (getD-mem (A .columns) b (constant 0) l))
     to b t q (no f) = absurd (unused-hidden (rw (unused A few b (omega arith)) at t))

@@ -15,5 +15,6 @@ use Rattle.reduce.specs.Laid.{HoldsQuery, Laid}
 abbrev pub valueAt : Query → ℕ → Line
 valueAt Q i = lineValue (lineAt Q i)
 
-pub rows-all : {q : QueryValue} {Q : Query} (i : ℕ) {rows : List ℕ} → HoldsQuery q Q → length Q ≤ i → RowsTo (valueAt Q) i rows → Laid Q rows
+pub rows-all : {q : QueryValue} {Q : Query} (i : ℕ) {rows : List ℕ} → HoldsQuery q Q → length Q ≤ i
+    → RowsTo (valueAt Q) i rows → Laid Q rows
 rows-all i held h r = record { lines = held .lines; columns = held .columns; row = λ j b. r j (omega arith) }

@@ -67,7 +67,8 @@ module _ {X : Type 0} (d : X) where
   pick-more f (x ∷ l) zero h = refl
   pick-more f (x ∷ l) (suc i) h =
       let g : ℕ → Bool = λ k. f (suc k) in
-      cond-append (f 0) x (pick g (take (suc i) l)) (pick g (take i l)) (cond (f (suc i)) (getD l i d ∷ []) []) (pick-more (λ k. f (suc k)) l i (le-of-suc-le-suc h))
+      cond-append (f 0) x (pick g (take (suc i) l)) (pick g (take i l)) (cond (f (suc i)) (getD l i d ∷ []) [])
+      (pick-more (λ k. f (suc k)) l i (le-of-suc-le-suc h))
 
 module _ {X : Type 0} where
   pub pick-all : (f : ℕ → Bool) (l : List X) → ((j : ℕ) → j < length l → f j ≡ true) → pick f l ≡ l

@@ -33,12 +33,14 @@ module _ {Q : Query} {rows : List ℕ} (n : ℕ) (count : length Q ≡ n) (laid 
 
   going-iff : (p : ℕ) → lineOf p < length Q → T (ltb (targetOf p) n && goesRow rows (lineOf p) (targetOf p)) ↔ Going Q p
   going-iff p l =
-      let A = lineAt Q (lineOf p) in
-      let S = lineAt Q (targetOf p) in
-      let k = and-iff (ltb (targetOf p) n) (goesRow rows (lineOf p) (targetOf p)) in
-      let b = below-iff (targetOf p) in
-      let v : targetOf p < length Q → goesRow rows (lineOf p) (targetOf p) ≡ goes A S =
-      λ h. goes-value A S (laid-few laid (lineOf p) l) (laid-few laid (targetOf p) h) rows (lineOf p) (targetOf p) (laid .row (lineOf p) l) (laid .row (targetOf p) h) in (
+      let i = lineOf p in
+      let j = targetOf p in
+      let A = lineAt Q i in
+      let S = lineAt Q j in
+      let k = and-iff (ltb j n) (goesRow rows i j) in
+      let b = below-iff j in
+      let v : j < length Q → goesRow rows i j ≡ goes A S =
+      λ h. goes-value A S (laid-few laid i l) (laid-few laid j h) rows i j (laid .row i l) (laid .row j h) in (
         λ t. let (x, y) = k .0 t in let h = b .0 x in record { line = l; target = h; goes = subst T (v h) y },
         λ g. k .1 (b .1 (g .target), subst T (sym (v (g .target))) (g .goes)),
       )
@@ -57,7 +59,8 @@ module _ {Q : Query} {rows : List ℕ} (n : ℕ) (count : length Q ≡ n) (laid 
 -- the entries before p are as they should be
 pub record Compared (Q : Query) (p : ℕ) (table : List ℕ) : Type 0 where
   pub long : length table ≡ mostPairs
-  pub done : (b : ℕ) → b < p → lineOf b < length Q → targetOf b < length Q → SameColumns (lineAt Q (lineOf b)) (lineAt Q (targetOf b)) (getD table b 0)
+  pub done : (b : ℕ) → b < p → lineOf b < length Q → targetOf b < length Q
+      → SameColumns (lineAt Q (lineOf b)) (lineAt Q (targetOf b)) (getD table b 0)
 
 module _ {Q : Query} where
   pub compared-none : (table : List ℕ) → length table ≡ mostPairs → Compared Q 0 table

@@ -114,12 +114,14 @@ module _ (A S : TheLine) (few : length (A .columns) ≤ mostColumns) (few′ : l
       let w = eqb (length (A .columns)) (length (S .columns)) in
       let z = all keeps (zip (A .columns) (S .columns)) in
       let f : ℕ → Bool = λ p. keepsTerm (laidTerm rows i p) (laidTerm rows j p) in
-      let row : (p : ℕ) → p < mostColumns → f p ≡ keepsTerm (termAt (lineValue A) p) (termAt (lineValue S) p) = λ p l. ap₂ keepsTerm (ri .term p l) (rj .term p l) in
+      let row : (p : ℕ) → p < mostColumns → f p ≡ keepsTerm (termAt (lineValue A) p) (termAt (lineValue S) p) =
+      λ p l. ap₂ keepsTerm (ri .term p l) (rj .term p l) in
+      let kept = all-iff keeps (zip (A .columns) (S .columns)) in
       rw (ri .table, rj .table)
       (same-test (t && allBelow mostColumns f) (t && (w && z))
       (λ h. let r = and-iff t (allBelow mostColumns f) .0 h in
       let b : (p : ℕ) → p < mostColumns → Keeps p = λ p l. subst T (row p l) (allBelow-iff f mostColumns .0 (r .1) p l) in
-      and-iff t (w && z) .1 (r .0, and-iff w z .1 (yes-eqb (same-width b), all-iff keeps (zip (A .columns) (S .columns)) .1 (columns-kept b))))
+      and-iff t (w && z) .1 (r .0, and-iff w z .1 (yes-eqb (same-width b), kept .1 (columns-kept b))))
       (λ h. let r = and-iff t (w && z) .0 h in let s = and-iff w z .0 (r .1) in
       and-iff t (allBelow mostColumns f) .1
-      (r .0, allBelow-iff f mostColumns .1 (λ p l. subst T (sym (row p l)) (kept-columns (eqb-yes (s .0)) (all-iff keeps (zip (A .columns) (S .columns)) .0 (s .1)) p)))))
+      (r .0, allBelow-iff f mostColumns .1 (λ p l. subst T (sym (row p l)) (kept-columns (eqb-yes (s .0)) (kept .0 (s .1)) p)))))

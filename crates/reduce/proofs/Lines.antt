@@ -13,6 +13,7 @@ use Rattle.model.specs.declared.Line.{Line}
 use Rattle.model.specs.declared.Query.{Query as QueryValue}
 use Rattle.words.specs.Bits.{isSet}
 use Rattle.reduce.specs.Agree.{lineAt}
+use Rattle.reduce.specs.Columns.{HoldsLine}
 use Rattle.reduce.specs.Left.{pick}
 use Rattle.reduce.specs.Laid.{HoldsQuery, Laid}
 use Rattle.reduce.proofs.Left.{pick-more}
@@ -36,6 +37,9 @@ pub laid-few : {Q : Query} {rows : List ℕ} → Laid Q rows → (i : ℕ) → i
     → length (lineAt Q i .columns) ≤ mostColumns
 unfolding lineAt
 laid-few {Q} laid i h = laid .columns (lineAt Q i) (getD-mem Q i (record { table = 0; columns = [] }) h)
+
+pub laid-line : {Q : Query} {rows : List ℕ} → Laid Q rows → (i : ℕ) → i < length Q → HoldsLine rows i (lineAt Q i)
+laid-line laid i h = record { row = laid .row i h; few = laid-few laid i h }
 
 -- one line more
 pub left-more : (w : ℕ) (Q : Query) (i : ℕ) → i < length Q

@@ -35,7 +35,9 @@ module _ {Q : Query} {c : ℕ} {words : List ℕ} (tabled : PairsTabled Q c word
 
     before : (i j : ℕ) → bit rows i ≡ 1 → bit rows j ≡ 1 → i < j → Agreed i (x .target i) j (x .target j)
     before i j h g l =
-        rw (line-of i (x .target i) (small i h), target-of i (x .target i) (small i h), line-of j (x .target j) (small j g), target-of j (x .target j) (small j g)) at
+        let s = x .target i in
+        let t = x .target j in
+        rw (line-of i s (small i h), target-of i s (small i h), line-of j t (small j g), target-of j t (small j g)) at
         (tabled .pairs (pairOf i (x .target i)) (x .candidate i h) (pairOf j (x .target j)) .0 (x .joint i j h g l) .1)
 
     extends-assigned : Assigned Q rows (linesAt targets Q)
@@ -48,7 +50,8 @@ module _ {Q : Query} {c : ℕ} {words : List ℕ} (tabled : PairsTabled Q c word
       where
         go : (i j : ℕ) → bit rows i ≡ 1 → bit rows j ≡ 1 → Dec (i < j) → Dec (j < i) → Agreed i (x .target i) j (x .target j)
         go i j h g (yes l) d = before i j h g l
-        go i j h g (no n) (yes l) = agree-swap (lineAt Q j) (lineAt Q (x .target j)) (lineAt Q i) (lineAt Q (x .target i)) (before j i g h l)
+        go i j h g (no n) (yes l) =
+            agree-swap (lineAt Q j) (lineAt Q (x .target j)) (lineAt Q i) (lineAt Q (x .target i)) (before j i g h l)
         go i j h g (no n) (no m) =
             let e : i ≡ j = omega arith in
             subst (λ (o : ℕ). Agreed i (x .target i) o (x .target o)) e
@@ -99,7 +102,8 @@ module _ {Q : Query} {c : ℕ} {words : List ℕ} (tabled : PairsTabled Q c word
       joint = λ i j h g l.
           tabled .pairs (pairOf i (t i)) (candidate i h) (pairOf j (t j)) .1 (
             candidate j g,
-            rw (line-of i (t i) (small-target i h), target-of i (t i) (small-target i h), line-of j (t j) (small-target j g), target-of j (t j) (small-target j g)) (agreeing i j h g),
+            (let b = small-target i h in let d = small-target j g in
+                rw (line-of i (t i) b, target-of i (t i) b, line-of j (t j) d, target-of j (t j) d) (agreeing i j h g)),
           );
     }
 

@@ -37,7 +37,8 @@ spread true false true false = refl
 spread true false false true = refl
 spread true false false false = refl
 
-shared-more : (n : ℕ) (R : Query) (b : Bool) (A : Line) → shared (R ++ cond b (A ∷ []) []) n ≡ (shared R n || (any (standsIn n) R && (b && standsIn n A)))
+shared-more : (n : ℕ) (R : Query) (b : Bool) (A : Line)
+    → shared (R ++ cond b (A ∷ []) []) n ≡ (shared R n || (any (standsIn n) R && (b && standsIn n A)))
 unfolding shared any
 shared-more n [] true A = rw (and-false (standsIn n A))
 shared-more n [] false A = refl
@@ -83,8 +84,14 @@ module _ {R : Query} {once twice : ℕ} (s : Seen R once twice) (there : Bool) (
       let k = bit-and-iff once w n in
       let a = and-iff (any (standsIn n) R) (there && standsIn n A) in
       let b = or-iff (shared R n) (any (standsIn n) R && (there && standsIn n A)) in (
-        λ e. b .1 (⊎-elim (λ x. inl (s .twos n l .0 x)) (λ x. let (y, z) = k .0 x in inr (a .1 (s .ones n l .0 y, here n l .0 z))) (o .0 e)),
-        λ t. o .1 (⊎-elim (λ x. inl (s .twos n l .1 x)) (λ x. let (y, z) = a .0 x in inr (k .1 (s .ones n l .1 y, here n l .1 z))) (b .0 t)),
+        λ e.
+            let both : bit (bitAnd once w) n ≡ 1 → T (any (standsIn n) R && (there && standsIn n A)) =
+            λ x. let (y, z) = k .0 x in a .1 (s .ones n l .0 y, here n l .0 z) in
+            b .1 (⊎-elim (λ x. inl (s .twos n l .0 x)) (λ x. inr (both x)) (o .0 e)),
+        λ t.
+            let both : T (any (standsIn n) R && (there && standsIn n A)) → bit (bitAnd once w) n ≡ 1 =
+            λ x. let (y, z) = a .0 x in k .1 (s .ones n l .1 y, here n l .1 z) in
+            o .1 (⊎-elim (λ x. inl (s .twos n l .1 x)) (λ x. inr (both x)) (b .0 t)),
       )
 
   pub seen-more : Seen (R ++ cond there (A ∷ []) []) (bitOr once w) (bitOr twice (bitAnd once w))

@@ -51,7 +51,8 @@ module _ (w : ℕ) where
   unfolding showValue hiddenTerm unusedTerm
   unused-shown = refl
 
-  hidden-value : (b : Bool) (n : ℕ) → cond b (record { mark = 2; number = n }) (termValue (hidden n)) ≡ termValue (cond b (shown n) (hidden n))
+  hidden-value : (b : Bool) (n : ℕ)
+      → cond b (record { mark = 2; number = n }) (termValue (hidden n)) ≡ termValue (cond b (shown n) (hidden n))
   unfolding termValue kind number
   hidden-value true n = refl
   hidden-value false n = refl
@@ -65,8 +66,10 @@ module _ (w : ℕ) where
   terms-value : (ts : List TheTerm) → length ts ≤ mostColumns → map (showValue w) (termsValue ts) ≡ termsValue (map (shownBy w) ts)
   terms-value ts few =
       let short : length (map (shownBy w) ts) ≤ mostColumns = rw (length-map ts (shownBy w)) few in
-      rw (terms-few ts few, terms-few (map (shownBy w) ts) short, map-pad (showValue w) mostColumns unusedTerm (map termValue ts) unused-shown, map-map (showValue w) termValue ts, map-map termValue (shownBy w) ts)
-      (ap (pad mostColumns unusedTerm) (map-same (λ t. showValue w (termValue t)) (λ t. termValue (shownBy w t)) ts (λ t j. term-value t)))
+      let behind = map-pad (showValue w) mostColumns unusedTerm (map termValue ts) unused-shown in
+      rw (terms-few ts few, terms-few (map (shownBy w) ts) short, behind, map-map (showValue w) termValue ts)
+      (rw (map-map termValue (shownBy w) ts)
+      (ap (pad mostColumns unusedTerm) (map-same (λ t. showValue w (termValue t)) (λ t. termValue (shownBy w t)) ts (λ t j. term-value t))))
 
   pub line-value : (A : TheLine) → length (A .columns) ≤ mostColumns → showLine w (lineValue A) ≡ lineValue (over (shownBy w) A)
   unfolding showLine lineValue

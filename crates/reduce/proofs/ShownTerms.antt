@@ -71,7 +71,8 @@ pub one-done : {k : ℕ} {rows : List ℕ} {w : ℕ} {rows′ : List ℕ} (u : T
     → ShownTo (k + 1) rows w (set rows′ (markPlace (k / mostColumns) (k % mostColumns)) (u .mark))
 one-done {k} {rows} {w} {rows′} u s h e = record {
   long = length-set rows′ at (u .mark) ∙ s .long;
-  table = λ i. getD-set-other rows′ at (i * rowLong) (u .mark) 0 (no-table i (k / mostColumns) (k % mostColumns) (omega arith)) ∙ s .table i;
+  table = λ i.
+      getD-set-other rows′ at (i * rowLong) (u .mark) 0 (no-table i (k / mostColumns) (k % mostColumns) (omega arith)) ∙ s .table i;
   done = λ j b. go j b (ℕ-discrete j k);
   rest = λ j b. other-pair rows′ k (u .mark) j (λ x. omega arith) ∙ s .rest j (omega arith);
 }
@@ -123,5 +124,6 @@ pub shown-term : (w : ℕ) (A : TheLine) → length (A .columns) ≤ mostColumns
     → termAt (showLine w (lineValue A)) p ≡ showValue w (termAt (lineValue A) p)
 unfolding termAt showLine lineValue
 shown-term w A few p h =
-    getD-map (showValue w) (termsValue (A .columns)) p unusedTerm unusedTerm
-    (rw (terms-few (A .columns) few, pad-length mostColumns unusedTerm (map termValue (A .columns)) (rw (length-map (A .columns) termValue) few)) h)
+    let ts = map termValue (A .columns) in
+    let long = pad-length mostColumns unusedTerm ts (rw (length-map (A .columns) termValue) few) in
+    getD-map (showValue w) (termsValue (A .columns)) p unusedTerm unusedTerm (rw (terms-few (A .columns) few, long) h)

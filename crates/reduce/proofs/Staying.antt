@@ -34,8 +34,8 @@ moving = 9205322385119247870
 moving-set : (p : ℕ) → p < mostPairs → lineOf p ≢ targetOf p → bit moving p ≡ 1
 unfolding allBelow
 moving-set p l f =
-    ⊎-elim (λ t. absurd (f (eqb-yes t))) (λ t. eqb-yes t)
-    (or-iff (eqb (lineOf p) (targetOf p)) (isSet moving p) .0 (allBelow-iff (λ k. eqb (lineOf k) (targetOf k) || isSet moving k) mostPairs .0 tt p l))
+    let all = allBelow-iff (λ k. eqb (lineOf k) (targetOf k) || isSet moving k) mostPairs .0 tt in
+    ⊎-elim (λ t. absurd (f (eqb-yes t))) (λ t. eqb-yes t) (or-iff (eqb (lineOf p) (targetOf p)) (isSet moving p) .0 (all p l))
 
 module _ (Q : Query) (g : ℕ) (goings : Goings Q g) (few : length Q ≤ mostLines) (none : meet 64 g moving ≡ false) where
   full : ℕ
@@ -60,10 +60,11 @@ module _ (Q : Query) (g : ℕ) (goings : Goings Q g) (few : length Q ≤ mostLin
       let apart = clear-bit-iff full i j .0 b .1 in
       let d = line-of i j (omega arith) in
       let r = target-of i j (omega arith) in
-      let to : T (goes (lineAt Q i) (lineAt Q j)) = rw e (goes-iff (lineAt Q i) (over (image m) (lineAt Q i)) .1 (goes-image m (lineAt Q i))) in
+      let A = lineAt Q i in
+      let to : T (goes A (lineAt Q j)) = rw e (goes-iff A (over (image m) A) .1 (goes-image m A)) in
       let set = goings (pairOf i j) .1 (record { line = rw d l; target = rw r h; goes = rw (d, r) to }) in
-      false≢true
-      (sym none ∙ meet-iff 64 g moving .1 (pairOf i j, omega arith, set, moving-set (pairOf i j) (omega arith) (rw (d, r) (λ p. apart (sym p)))))
+      let moves = moving-set (pairOf i j) (omega arith) (rw (d, r) (λ p. apart (sym p))) in
+      false≢true (sym none ∙ meet-iff 64 g moving .1 (pairOf i j, omega arith, set, moves))
 
   below : (i : ℕ) → ((k : ℕ) → k < i → k < length Q) → reduceBelow i Q ≡ Q
   unfolding reduceBelow

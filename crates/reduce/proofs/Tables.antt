@@ -25,8 +25,8 @@ use Rattle.reduce.proofs.Lines.{laid-few}
 
 -- ---- four lines: A over S, and B over D
 
-module _ (A S B D : Line) (few : length (A .columns) ≤ mostColumns) (few′ : length (B .columns) ≤ mostColumns) (first : Goes A S) (second : Goes B D)
-    (w w′ : ℕ) (same : SameColumns A B w) (same′ : SameColumns S D w′) where
+module _ (A S B D : Line) (few : length (A .columns) ≤ mostColumns) (few′ : length (B .columns) ≤ mostColumns)
+    (first : Goes A S) (second : Goes B D) (w w′ : ℕ) (same : SameColumns A B w) (same′ : SameColumns S D w′) where
   abbrev Included : Type 0
   Included = (b : ℕ) → b < 64 → bit w b ≡ 1 → bit w′ b ≡ 1
 
@@ -64,20 +64,25 @@ module _ (A S B D : Line) (few : length (A .columns) ≤ mostColumns) (few′ : 
 
 -- ---- two pairs
 
-joined-iff : {Q : Query} {rows : List ℕ} → Laid Q rows → (columns : List ℕ) → Columns Q columns → (p b : ℕ) → Going Q p → Going Q b → T (joins columns p b) ↔ Joined Q p b
+joined-iff : {Q : Query} {rows : List ℕ} → Laid Q rows → (columns : List ℕ) → Columns Q columns → (p b : ℕ) → Going Q p → Going Q b
+    → T (joins columns p b) ↔ Joined Q p b
 unfolding joins
 joined-iff {Q} laid columns right p b g h =
-    let A = lineAt Q (lineOf p) in
-    let S = lineAt Q (targetOf p) in
-    let B = lineAt Q (lineOf b) in
-    let D = lineAt Q (targetOf b) in
+    let i = lineOf p in
+    let j = lineOf b in
+    let t = targetOf p in
+    let u = targetOf b in
+    let A = lineAt Q i in
+    let S = lineAt Q t in
+    let B = lineAt Q j in
+    let D = lineAt Q u in
     let x = goes-iff A S .0 (g .goes) in
     let y = goes-iff B D .0 (h .goes) in
     let k = agree-iff A S B D in
-    let j =
-    include-joint A S B D (laid-few laid (lineOf p) (g .line)) (laid-few laid (lineOf b) (h .line)) x y (getD columns (pairOf (lineOf p) (lineOf b)) 0)
-    (getD columns (pairOf (targetOf p) (targetOf b)) 0) (right .same (lineOf p) (lineOf b) (g .line) (h .line)) (right .same (targetOf p) (targetOf b) (g .target) (h .target)) in
-    (λ t. k .1 (x, y, j .0 t), λ a. j .1 (k .0 a .2))
+    let joint =
+    include-joint A S B D (laid-few laid i (g .line)) (laid-few laid j (h .line)) x y (getD columns (pairOf i j) 0)
+    (getD columns (pairOf t u) 0) (right .same i j (g .line) (h .line)) (right .same t u (g .target) (h .target)) in
+    (λ c. k .1 (x, y, joint .0 c), λ a. joint .1 (k .0 a .2))
 
 candidate-going : {Q : Query} {p : ℕ} → Candidate Q p → Going Q p
 candidate-going {Q} {p} c =
@@ -85,8 +90,8 @@ candidate-going {Q} {p} c =
     let S = lineAt Q (targetOf p) in
     record { line = c .line; target = c .target; goes = goes-iff A S .1 (agree-iff A S A S .0 (c .goes) .0) }
 
-pub tabled : {Q : Query} {rows : List ℕ} → Laid Q rows → (g : ℕ) (columns : List ℕ) (m : ℕ) (words : List ℕ) → Goings Q g → Columns Q columns
-    → Candidates columns g m → PairWords columns m words → PairsTabled Q m words
+pub tabled : {Q : Query} {rows : List ℕ} → Laid Q rows → (g : ℕ) (columns : List ℕ) (m : ℕ) (words : List ℕ)
+    → Goings Q g → Columns Q columns → Candidates columns g m → PairWords columns m words → PairsTabled Q m words
 tabled {Q} laid g columns m words goings right candidates pairs =
     let going : (p : ℕ) → bit m p ≡ 1 → Going Q p = λ p e. goings p .0 (candidates p .0 e .0) in
     let joined : (p b : ℕ) → Going Q p → Going Q b → T (joins columns p b) ↔ Joined Q p b = joined-iff laid columns right in

@@ -3,16 +3,17 @@ use mathlib.Core.Path.{_≡_}
 use mathlib.Core.Logic.{_↔_}
 use mathlib.Core.Bool.{Bool, cond, not, _&&_}
 use mathlib.Core.List.{List}
-use Prim.Native.Nat.{ℕ, _/_, _%_, _<_}
+use Prim.Native.Nat.{ℕ, _+_, _*_, _/_, _%_, _≤_, _<_}
 use lib.Dec.{eqb}
 use lib.ListN.{length}
 use Rattle.theory.specs.Query.{Line as TheLine}
 use Rattle.theory.specs.Cover.{at}
 use Rattle.theory.specs.Executable.Test.{allBelow}
 use Rattle.words.specs.Bits.{bit}
+use Rattle.words.specs.Sets.{Upto}
 use Rattle.model.specs.Limits.{mostColumns}
-use Rattle.model.specs.Value.{sameTerm}
-use Rattle.model.specs.Rows.{laidTable, laidTerm}
+use Rattle.model.specs.Value.{sameTerm, lineValue}
+use Rattle.model.specs.Rows.{termAt, laidTable, laidTerm, LaidAt}
 use Rattle.model.specs.declared.Term.{Term}
 
 unfoldable pub keepsTerm : Term → Term → Bool
@@ -34,3 +35,15 @@ pub record SameColumn (A B : TheLine) (b : ℕ) : Type 0 where
 -- all such columns, as the bits of a word
 abbrev pub SameColumns : TheLine → TheLine → ℕ → Type 0
 SameColumns A B w = (b : ℕ) → (bit w b ≡ 1) ↔ SameColumn A B b
+
+-- row a holds line A, which is within the limit of columns
+pub record HoldsLine (rows : List ℕ) (a : ℕ) (A : TheLine) : Type 0 where
+  pub row : LaidAt rows a (lineValue A)
+  pub few : length (A .columns) ≤ mostColumns
+
+-- where m has such columns of a line before its column p, whose term is t, r has those of column p with the columns before q of the
+-- line in row b too
+abbrev pub WithColumn : ℕ → ℕ → Term → List ℕ → ℕ → ℕ → ℕ → Type 0
+WithColumn m p t rows b q r =
+    (A B : TheLine) → t ≡ termAt (lineValue A) p → length (A .columns) ≤ mostColumns → HoldsLine rows b B
+    → Upto (SameColumn A B) (p * mostColumns) m → Upto (SameColumn A B) (p * mostColumns + q) r

@@ -1,3 +1,4 @@
+-- What the code of reducing and showing builds: rows of lines, words of pairs and of variables, and what they say of a query.
 pub mod Agree
 pub mod Columns
 pub mod Extends

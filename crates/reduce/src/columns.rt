@@ -1,14 +1,12 @@
 // Whether a line could go to another, column by column, and where two lines have the same term.
 
 ghost use mathlib.Core.Path.{_≡_};
-ghost use Prim.Native.Nat.{_*_, _+_, _≤_, _<_};
+ghost use Prim.Native.Nat.{_<_};
 ghost use lib.ListN.{length};
 ghost use Rattle.theory.specs.Query.{Line as TheLine};
-ghost use Rattle.words.specs.Sets.{Upto};
 ghost use Rattle.model.specs.Limits.{mostColumns, mostLines};
-ghost use Rattle.model.specs.Rows.{queryRowsLong, termAt, LaidAt};
-ghost use Rattle.model.specs.Value.{lineValue};
-ghost use Rattle.reduce.specs.Columns.{keepsTerm, goesRow, SameColumn, SameColumns};
+ghost use Rattle.model.specs.Rows.{queryRowsLong};
+ghost use Rattle.reduce.specs.Columns.{keepsTerm, goesRow, SameColumns, HoldsLine, WithColumn};
 use model::HIDDEN;
 use model::MOST_COLUMNS;
 use model::Term;
@@ -47,7 +45,7 @@ pub fn goes_line(lines: &[u64], a: usize, s: usize) -> bool
 // The word with the columns of row b that have term t, which stands in column p of a line.
 fn with_column(m: u64, p: usize, t: Term, lines: &[u64], b: usize) -> u64
     requires { ⌜ (p < mostColumns) × (length (now lines) ≡ queryRowsLong) × (b < mostLines) ⌝ }
-    ensures { λ r. ⌜ ((A B : TheLine) → t ≡ termAt (lineValue A) p → LaidAt (now (lines .entry)) b (lineValue B) → length (A .columns) ≤ mostColumns → length (B .columns) ≤ mostColumns → Upto (SameColumn A B) (p * mostColumns) m → Upto (SameColumn A B) (p * mostColumns + mostColumns) r) ⌝ }
+    ensures { λ r. ⌜ WithColumn m p t (now (lines .entry)) b mostColumns r ⌝ }
 {
     if t.mark == UNUSED {
         return m;
@@ -66,7 +64,7 @@ fn with_column(m: u64, p: usize, t: Term, lines: &[u64], b: usize) -> u64
 // The columns p and q of lines a and b that have the same term, as bit p * MOST_COLUMNS + q.
 pub fn same_columns(lines: &[u64], a: usize, b: usize) -> u64
     requires { ⌜ (length (now lines) ≡ queryRowsLong) × (a < mostLines) × (b < mostLines) ⌝ }
-    ensures { λ r. ⌜ ((A B : TheLine) → LaidAt (now (lines .entry)) a (lineValue A) → LaidAt (now (lines .entry)) b (lineValue B) → length (A .columns) ≤ mostColumns → length (B .columns) ≤ mostColumns → SameColumns A B r) ⌝ }
+    ensures { λ r. ⌜ ((A B : TheLine) → HoldsLine (now (lines .entry)) a A → HoldsLine (now (lines .entry)) b B → SameColumns A B r) ⌝ }
 {
     let mut m = 0;
     let mut p = 0;

@@ -16,7 +16,8 @@ use Rattle.theory.specs.Executable.Label.{label, labels}
 use Rattle.theory.proofs.Lists.{place, at-place, without-other, map-no-repeats, same-elements}
 use Rattle.theory.proofs.Tuples.{tuple-path, map-same, getD-map, getD-mem, over-over, over-same}
 use Rattle.theory.proofs.Terms.{from-hidden}
-use Rattle.theory.proofs.Reduce.{image-twice, sends-twice, reduced-reduced, reduced-subset, reduced-clear, reduced-map, reduced-place, reduced-no-repeats}
+use Rattle.theory.proofs.Reduce.{image-twice, sends-twice, reduced-reduced, reduced-subset, reduced-clear, reduced-map}
+use Rattle.theory.proofs.Reduce.{reduced-place, reduced-no-repeats}
 use Rattle.theory.proofs.Endomorphism.{Stands, hits, hidden-stay, one-to-one}
 use Rattle.theory.proofs.Executable.Reduce.{reduce-reduces}
 use Rattle.theory.proofs.Executable.Show.{show-shared, show-unshared, show-shows}

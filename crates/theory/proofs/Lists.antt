@@ -3,7 +3,8 @@
 use mathlib.Core.Path.{_≡_, refl, sym, ap, _∙_}
 use mathlib.Core.Logic.{_⊎_, inl, inr, ⊎-elim, _≢_}
 use mathlib.Core.Option.{Option, none, some, Option·some-injective}
-use mathlib.Core.List.{List, [], _∷_, map, List·Memᴰ·head, List·Memᴰ·tail, List·Memᴰ·not-nil, List·Memᴰ·cases-cons, Memᴰ·cast, Memᴰ·of-map, List·Permᴰ, List·Permᴰ·nil, List·Permᴰ·cons, List·Permᴰ·swap, List·Permᴰ·trans, Permᴰ·refl}
+use mathlib.Core.List.{List, [], _∷_, map, List·Memᴰ·head, List·Memᴰ·tail, List·Memᴰ·not-nil, List·Memᴰ·cases-cons, Memᴰ·cast}
+use mathlib.Core.List.{Memᴰ·of-map, List·Permᴰ, List·Permᴰ·nil, List·Permᴰ·cons, List·Permᴰ·swap, List·Permᴰ·trans, Permᴰ·refl}
 use Prim.Native.Nat.{ℕ, zero, suc, _≤_, _<_, zero-le, suc-le-suc}
 use native.Mathlib.Nat.{not-suc-le-zero, le-of-suc-le-suc, suc-inj, suc-ne-zero}
 use native.Mathlib.Omega.{arith}
@@ -138,7 +139,8 @@ module _ {X : Type 0} where
       (permuted-out ys (p .0) (p .1))
 
 -- a function that is one to one on a list without repeats keeps it so
-pub map-no-repeats : {X Y : Type 0} (f : X → Y) (l : List X) → ((x y : X) → x ∈ l → y ∈ l → f x ≡ f y → x ≡ y) → NoRepeats l → NoRepeats (map f l)
+pub map-no-repeats : {X Y : Type 0} (f : X → Y) (l : List X) → ((x y : X) → x ∈ l → y ∈ l → f x ≡ f y → x ≡ y) → NoRepeats l
+    → NoRepeats (map f l)
 map-no-repeats f [] one r = none-repeats
 map-no-repeats f (x ∷ l) one r =
     one-more

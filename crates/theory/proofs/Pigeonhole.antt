@@ -9,7 +9,8 @@ use native.Mathlib.Omega.{arith}
 use lib.ListN.{length, getElem?}
 use Rattle.theory.specs.Query.{_∈_}
 use Rattle.theory.specs.Reduce.{without}
-use Rattle.theory.proofs.Lists.{place, place-below, without-cases, length-without, NoRepeats, none-repeats, one-more, head-repeats, tail-repeats}
+use Rattle.theory.proofs.Lists.{place, place-below, without-cases, length-without, NoRepeats, none-repeats, one-more}
+use Rattle.theory.proofs.Lists.{head-repeats, tail-repeats}
 
 -- ---- the argument
 
@@ -31,7 +32,8 @@ module _ {X Y : Type 0} (f : X → Y) where
   nothing (x ∷ xs) h = absurd (not-suc-le-zero h)
 
   -- one y and the x at a place that f takes to it, and the rest
-  module _ (xs : List X) (y : Y) (ys : List Y) (apart : y ∈ ys → ⊥) (x₀ : X) (i : ℕ) (x₀-at : getElem? xs i ≡ some x₀) (hit : f x₀ ≡ y) where
+  module _ (xs : List X) (y : Y) (ys : List Y) (apart : y ∈ ys → ⊥) (x₀ : X) (i : ℕ)
+      (x₀-at : getElem? xs i ≡ some x₀) (hit : f x₀ ≡ y) where
     at-place : (x : X) → getElem? xs i ≡ some x → x ≡ x₀
     at-place x e = Option·some-injective x x₀ (sym e ∙ x₀-at)
 

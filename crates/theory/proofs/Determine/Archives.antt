@@ -78,7 +78,8 @@ module _ (vs : List Line) (R : Query) (i : ℕ) (A : Line) where
       (λ k. let b = of-marked (room vs R) (freeze vs R A) vs r k in
       fits-like
       (sym (ap (λ (x : Row). x .table) (b .same) ∙ ap (λ (x : Row). x .table) (b .matched)))
-      (sym (ap (λ (x : Row). length (x .columns)) (b .same) ∙ length-map (b .v .columns) (value (b .s) (mark (room vs R) (freeze vs R A) (b .h)))
+      (sym (ap (λ (x : Row). length (x .columns)) (b .same)
+      ∙ length-map (b .v .columns) (value (b .s) (mark (room vs R) (freeze vs R A) (b .h)))
       ∙ sym (length-map (b .v .columns) (value (b .s) (b .h))) ∙ ap (λ (x : Row). length (x .columns)) (b .matched)))
       (fits-over (value (s₀ (room vs R)) (h₀ (room vs R))) A (fits A a)))
       (List·Memᴰ·append-cases (map (freeze vs R) R) m)

@@ -24,7 +24,8 @@ use Rattle.theory.proofs.Reduce.{reduced-place}
 use Rattle.theory.proofs.Endomorphism.{Stands, hits, hidden-stay, one-to-one}
 use Rattle.theory.proofs.Match.{cell, row-cell}
 use Rattle.theory.proofs.Determine.Inside.{Unshared, RulesIn, CoversIn}
-use Rattle.theory.proofs.Determine.Freeze.{above-of, above-positive, s₀, h₀, span, frozen, frozen-below, frozen-one, marked, marked-above, marked-one, collapse, collapse-frozen, collapse-marked}
+use Rattle.theory.proofs.Determine.Freeze.{above-of, above-positive, s₀, h₀, span, frozen, frozen-below, frozen-one}
+use Rattle.theory.proofs.Determine.Freeze.{marked, marked-above, marked-one, collapse, collapse-frozen, collapse-marked}
 use Rattle.theory.proofs.Determine.Marked.{Marked, mark}
 use Rattle.theory.proofs.Determine.Archives.{room, freeze, without-A, of-without-A, frozen-answer}
 

@@ -1,3 +1,4 @@
+-- `words::join`: a half below 2 ^ 32 and the other shifted above it have no bit in common.
 use borrow.Author.Needs.{needs}
 use Rattle.words.proofs.Parts.{or-parts}
 use Rattle.words.proofs.join.Statement.{statement}

@@ -1,3 +1,5 @@
+-- `reduce::search`: the targets of the first line that were tried lead to nothing, and the lines behind it are
+-- searched with the candidates that are compatible.
 use mathlib.Core.Path.{sym, subst, _∙_}
 use mathlib.Core.Bool.{false≢true}
 use Prim.Native.Nat.{ℕ, _<_}
@@ -63,11 +65,14 @@ search-returns-2 t c = no-iff (empty-none (c .before .rows-left .ensures (not-tr
 search-least-requires : (t : ℕ) → search-lts.Need-least-requires (calls t) (search-at t) search′.Post search-Inv-loop search-μ-loop
 search-least-requires t c κs = omega arith
 
-search-drop-least-requires : (t : ℕ) → search-lts.Need-drop-least-requires (calls t) (search-at t) search′.Post search-Inv-loop search-μ-loop
+search-drop-least-requires : (t : ℕ)
+    → search-lts.Need-drop-least-requires (calls t) (search-at t) search′.Post search-Inv-loop search-μ-loop
 search-drop-least-requires t c κs = omega arith
 
 search-row-of-requires : (t : ℕ) → search-lts.Need-row-of-requires (calls t) (search-at t) search′.Post search-Inv-loop search-μ-loop
-search-row-of-requires t c κs = (bit-within mostLines _ (c .before .before .before .before .before .pre .1 .0 .0) (c .before .least .ensures .set), c .before .before .before .before .before .pre .1 .0 .1)
+search-row-of-requires t c κs =
+    let (rows, targets) = c .before .before .before .before .before .pre .1 .0 in
+    (bit-within mostLines _ rows (c .before .least .ensures .set), targets)
 
 search-loop-holds : (t : ℕ) → search-lts.Need-loop-holds (calls t) (search-at t) search′.Post search-Inv-loop search-μ-loop
 search-loop-holds t c =
@@ -75,11 +80,17 @@ search-loop-holds t c =
     let others = c .before .drop-least .ensures in (first, others, tried-none _ _ _ _ _ _ first others (c .row-of .ensures))
 
 -- the line and its target are lines of the query
-line : (t : ℕ) (c : search-lts.In-loop (calls t) (search-at t) search′.Post search-Inv-loop search-μ-loop) → c .before .before .before .before .least .result < mostLines
-line t c = bit-within mostLines _ (c .before .before .before .before .before .before .before .before .pre .1 .0 .0) (c .before .before .before .before .least .ensures .set)
+line : (t : ℕ) (c : search-lts.In-loop (calls t) (search-at t) search′.Post search-Inv-loop search-μ-loop)
+    → c .before .before .before .before .least .result < mostLines
+line t c =
+    let first = c .before .before .before .before in
+    bit-within mostLines _ (first .before .before .before .before .pre .1 .0 .0) (first .least .ensures .set)
 
-target : (t : ℕ) (c : search-lts.After-least2 (calls t) (search-at t) search′.Post search-Inv-loop search-μ-loop) → c .least2 .result < mostLines
-target t c = bit-within mostLines _ (c .before .before .before .before .before .before .before .before .before .pre .1 .0 .1) (c .before .before .loop .inv .2 .some _ (c .least2 .ensures .set) .0)
+target : (t : ℕ) (c : search-lts.After-least2 (calls t) (search-at t) search′.Post search-Inv-loop search-μ-loop)
+    → c .least2 .result < mostLines
+target t c =
+    let start = c .before .before .before .before .before .before .before .before .before in
+    bit-within mostLines _ (start .pre .1 .0 .1) (c .before .before .loop .inv .2 .some _ (c .least2 .ensures .set) .0)
 
 search-mul-at : (t : ℕ) → search-lts.Need-mul-at (calls t) (search-at t) search′.Post search-Inv-loop search-μ-loop
 search-mul-at t c = omega (arith, line t c)
@@ -93,13 +104,15 @@ search-add-at t c = omega (arith, line t (c .before), target t c)
 search-mul-left : (t : ℕ) → search-lts.Need-mul-left (calls t) (search-at t) search′.Post search-Inv-loop search-μ-loop
 search-mul-left t c = omega (arith, line t (c .before), target t c)
 
-search-element-copy-out-left : (t : ℕ) → search-lts.Need-element-copy-out-left (calls t) (search-at t) search′.Post search-Inv-loop search-μ-loop
+search-element-copy-out-left : (t : ℕ)
+    → search-lts.Need-element-copy-out-left (calls t) (search-at t) search′.Post search-Inv-loop search-μ-loop
 search-element-copy-out-left t c = omega (arith, line t (c .before), target t c)
 
 search-search-requires : (t : ℕ) → search-lts.Need-search-requires (calls t) (search-at t) search′.Post search-Inv-loop search-μ-loop
 search-search-requires t c κs =
     let less = c .before .before .before .before .before .drop-least .ensures .less in
-    let pre = c .before .before .before .before .before .before .before .before .before .before .pre in (omega (arith, less, pre .0), ((omega (arith, less, pre .1 .0 .0), pre .1 .0 .1), pre .1 .1))
+    let (measured, ((rows, targets), long)) = c .before .before .before .before .before .before .before .before .before .before .pre in
+    (omega (arith, less, measured), ((omega (arith, less, rows), targets), long))
 
 search-returns-3 : (t : ℕ) → search-lts.Need-returns-3 (calls t) (search-at t) search′.Post search-Inv-loop search-μ-loop
 search-returns-3 t c =
@@ -109,7 +122,8 @@ search-returns-3 t c =
     (extends-join _ _ _ _ _ _ first others (found .result) (c .before .search .ensures .0 (c .if3 .taken))
     (tried .some (found .result) (found .ensures .set)))
 
-search-drop-least-requires-2 : (t : ℕ) → search-lts.Need-drop-least-requires-2 (calls t) (search-at t) search′.Post search-Inv-loop search-μ-loop
+search-drop-least-requires-2 : (t : ℕ)
+    → search-lts.Need-drop-least-requires-2 (calls t) (search-at t) search′.Post search-Inv-loop search-μ-loop
 search-drop-least-requires-2 t c κs = omega arith
 
 search-loop-less : (t : ℕ) → search-lts.Need-loop-less (calls t) (search-at t) search′.Post search-Inv-loop search-μ-loop

@@ -1,3 +1,4 @@
+-- `reduce::rows_left`: what is left to look at are lines of `rows`; one without a target is an answer.
 use Prim.Native.Nat.{ℕ, _≤_}
 use mathlib.Core.Path.{_≡_, subst, sym}
 use mathlib.Core.Bool.{false≢true}
@@ -28,7 +29,7 @@ row : (c : tie.After-least Inv-loop μ-loop) → bit (c .before .before .before 
 row c = c .before .before .loop .inv .1 (c .least .result) (c .least .ensures .set)
 
 row-of-requires : tie.Need-row-of-requires Inv-loop μ-loop
-row-of-requires c κs = (bit-within mostLines _ (c .before .before .before .pre .0) (row c), c .before .before .before .pre .1)
+row-of-requires c κs = let pre = c .before .before .before .pre in (bit-within mostLines _ (pre .0) (row c), pre .1)
 
 returns : tie.Need-returns Inv-loop μ-loop
 returns c e = row-empty (row (c .before .before)) (subst (TargetsOf _ _ _) (c .if1 .taken) (c .before .row-of .ensures))
@@ -42,7 +43,9 @@ loop-less c = c .drop-least .ensures .less
 loop-again : tie.Need-loop-again Inv-loop μ-loop
 loop-again c =
     let inv = c .before .before .before .before .before .loop .inv in
-    (omega (arith, c .drop-least .ensures .less, inv .0), λ i h. inv .1 i (left-before i (c .before .before .before .least .ensures) (c .drop-least .ensures) h))
+    let first = c .before .before .before .least .ensures in
+    let others = c .drop-least .ensures in
+    (omega (arith, others .less, inv .0), λ i h. inv .1 i (left-before i first others h))
 
 returns-2 : tie.Need-returns-2 Inv-loop μ-loop
 returns-2 c e = absurd (false≢true (sym e))

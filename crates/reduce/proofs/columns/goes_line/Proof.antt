@@ -1,3 +1,4 @@
+-- `reduce::goes_line`: the columns before `p` stand over columns that keep them.
 use mathlib.Core.Path.{_≡_, sym, ap₂, _∙_}
 use mathlib.Core.Bool.{true}
 use Prim.Native.Nat.{ℕ, _-_, _≤_, _<_}
@@ -54,15 +55,15 @@ answer c = c .keeps-term .ensures ∙ ap₂ keepsTerm (c .before .before .term-a
 returns-2 : tie.Need-returns-2 Inv-loop μ-loop
 unfolding goesRow
 returns-2 c =
-    let a = c .before .before .before .before .before .before .before .before .before .before .args in
+    let test = c .before .before .before .before in
+    let a = test .before .before .before .before .before .before .args in
+    let rows = a .lines .now in
     sym
     (simp
     (sym
-    (below-broken
-    (λ k.
-    keepsTerm (laidTerm (a .lines .now) (a .a) k) (laidTerm (a .lines .now) (a .s) k))
-    mostColumns (c .before .before .before .before .before .loop .p) (c .before .before .before .before .loop-test .taken)
-    (failing (answer (c .before)) (c .if2 .taken)))) (and-no (eqb (laidTable (a .lines .now) (a .a)) (laidTable (a .lines .now) (a .s)))))
+    (below-broken (λ k. keepsTerm (laidTerm rows (a .a) k) (laidTerm rows (a .s) k)) mostColumns (test .before .loop .p)
+    (test .loop-test .taken) (failing (answer (c .before)) (c .if2 .taken))))
+    (and-no (eqb (laidTable rows (a .a)) (laidTable rows (a .s)))))
 
 add-p : tie.Need-add-p Inv-loop μ-loop
 add-p c = omega arith
@@ -72,18 +73,19 @@ loop-less c = omega arith
 
 loop-again : tie.Need-loop-again Inv-loop μ-loop
 loop-again c =
-    (omega arith, below-more _ _ (c .before .before .before .before .before .loop .inv .1) (passing (answer (c .before)) (c .if2 .left)))
+    let at = c .before .before .before .before .before .loop in
+    (omega arith, below-more _ _ (at .inv .1) (passing (answer (c .before)) (c .if2 .left)))
 
 returns-3 : tie.Need-returns-3 Inv-loop μ-loop
 unfolding goesRow
 returns-3 c =
-    let a = c .before .before .before .before .before .before .args in
+    let second = c .before .before .before in
+    let first = second .before in
+    let a = first .before .before .args in
     simp (
-      eq-eqb _ _ (sym (c .before .before .before .before .table-at .ensures) ∙ c .before .before .if1 .left ∙ c .before .before .before .table-at2 .ensures),
-      below-done
-          (λ k.
-          keepsTerm (laidTerm (a .lines .now) (a .a) k) (laidTerm (a .lines .now) (a .s) k))
-          mostColumns (λ k h. c .before .loop .inv .1 k (omega arith)),
+      eq-eqb _ _ (sym (first .table-at .ensures) ∙ c .before .before .if1 .left ∙ second .table-at2 .ensures),
+      below-done (λ k. keepsTerm (laidTerm (a .lines .now) (a .a) k) (laidTerm (a .lines .now) (a .s) k)) mostColumns
+          (λ k h. c .before .loop .inv .1 k (omega arith)),
     )
 
 pub goes-line-spec : {M : Type 1} → statement M

@@ -1,32 +1,26 @@
+-- `reduce::with_column`: the word has those of the column with the other line's columns before `q`.
 use mathlib.Core.Path.{_≡_, _∙_}
-use Prim.Native.Nat.{_+_, _*_, _-_, _≤_}
+use Prim.Native.Nat.{_-_, _≤_}
 use native.Mathlib.Nat.{add-zero}
 use native.Mathlib.Omega.{arith}
-use lib.ListN.{length}
-use Rattle.theory.specs.Query.{Line as TheLine}
-use Rattle.words.specs.Sets.{Upto}
 use Rattle.model.specs.Limits.{mostColumns}
-use Rattle.model.specs.Rows.{termAt, LaidAt}
-use Rattle.model.specs.Value.{lineValue}
-use Rattle.reduce.specs.Columns.{SameColumn}
+use Rattle.reduce.specs.Columns.{WithColumn}
 use Rattle.reduce.proofs.EqualColumns.{column-more, column-skip}
 use Rattle.reduce.proofs.columns.with_column.Statement.{statement}
 use Rattle.reduce.proofs.columns.with_column.Tie as tie
 
 abbrev Inv-loop : tie.InvT-loop
 Inv-loop m p t lines b r₀ q₀ r q =
-    (q ≤ mostColumns)
-    × ((A B : TheLine) → t ≡ termAt (lineValue A) p → LaidAt lines b (lineValue B) → length (A .columns) ≤ mostColumns → length (B .columns) ≤ mostColumns
-    → Upto (SameColumn A B) (p * mostColumns) m → Upto (SameColumn A B) (p * mostColumns + q) r)
+    (q ≤ mostColumns) × WithColumn m p t lines b q r
 
 abbrev μ-loop : tie.MeasureT-loop
 μ-loop m p t lines b r₀ q₀ r q = mostColumns - q
 
 returns : tie.Need-returns Inv-loop μ-loop
-returns c = λ A B et eb few few′ k. column-skip A B few few′ _ _ et (c .if1 .taken) k
+returns c = λ A B et few held k. column-skip A B few (held .few) _ _ et (c .if1 .taken) k
 
 loop-holds : tie.Need-loop-holds Inv-loop μ-loop
-loop-holds c = (omega arith, λ A B et eb few few′ k. simp add-zero k)
+loop-holds c = (omega arith, λ A B et few held k. simp add-zero k)
 
 term-at-requires : tie.Need-term-at-requires Inv-loop μ-loop
 term-at-requires c κs = (omega arith, omega arith)
@@ -52,17 +46,21 @@ loop-less c = omega arith
 loop-again : tie.Need-loop-again Inv-loop μ-loop
 loop-again c = (
   omega arith,
-  λ A B et eb few few′ k.
-      let loop = c .before .before .before .before .loop in
-      column-more A B few few′ _ _ _ (c .before .before .term-at .result) (c .before .same-term .result) (c .set-bit-if .result) et
-      (c .before .before .term-at .ensures ∙ eb .term (loop .q) (c .before .before .before .loop-test .taken)) (c .before .before .before .loop-test .taken)
-      (c .before .before .before .before .before .if1 .left) (c .before .same-term .ensures) (c .set-bit-if .ensures) (loop .inv .1 A B et eb few few′ k),
+  λ A B et few held k.
+      let read = c .before .before .term-at in
+      let same = c .before .same-term in
+      let within = c .before .before .before .loop-test .taken in
+      let at = c .before .before .before .before in
+      let loop = at .loop in
+      column-more A B few (held .few) _ _ _ (read .result) (same .result) (c .set-bit-if .result) et
+      (read .ensures ∙ held .row .term (loop .q) within) within (at .before .if1 .left) (same .ensures)
+      (c .set-bit-if .ensures) (loop .inv .1 A B et few held k),
 )
 
 returns-2 : tie.Need-returns-2 Inv-loop μ-loop
-returns-2 c = λ A B et eb few few′ k.
+returns-2 c = λ A B et few held k.
     let e : c .before .loop .q ≡ mostColumns = omega arith in
-    rw e at (c .before .loop .inv .1 A B et eb few few′ k)
+    rw e at (c .before .loop .inv .1 A B et few held k)
 
 pub with-column-spec : {M : Type 1} → statement M
 with-column-spec =

@@ -1,3 +1,4 @@
+-- `reduce::columns`: the entries of the pairs before `p` are the words of equal columns.
 use mathlib.Core.Path.{_≡_, refl}
 use mathlib.Core.Logic.{⊎-elim}
 use Prim.Native.Nat.{_*_, _-_, _≤_, _<_}
@@ -8,7 +9,7 @@ use Rattle.model.specs.Limits.{mostLines}
 use Rattle.reduce.specs.PairNumbers.{lineOf, targetOf}
 use Rattle.reduce.specs.Agree.{lineAt}
 use Rattle.reduce.specs.Laid.{Laid}
-use Rattle.reduce.proofs.Lines.{laid-few}
+use Rattle.reduce.proofs.Lines.{laid-line}
 use Rattle.reduce.proofs.LinePairs.{Compared, compared-none, compared-more, compared-skip, compared-all}
 use Rattle.reduce.proofs.pairs.columns.Statement.{statement}
 use Rattle.reduce.proofs.pairs.columns.Tie as tie
@@ -46,13 +47,15 @@ loop-again c = (
   λ Q e laid.
       let loop = c .before .before .loop in
       let p = loop .p in
-      let i : lineOf p < length Q = omega (arith, e, c .before .loop-test .taken) in
+      let l = lineOf p in
+      let t = targetOf p in
+      let i : l < length Q = omega (arith, e, c .before .loop-test .taken) in
       ⊎-elim
       (λ w.
-      let j : targetOf p < length Q = omega (arith, e, w .0 .taken) in
+      let j : t < length Q = omega (arith, e, w .0 .taken) in
       rw (w .2)
       (compared-more p (w .1 .result) _ (omega arith) (loop .inv .1 Q e laid)
-      (w .1 .ensures (lineAt Q (lineOf p)) (lineAt Q (targetOf p)) (laid .row (lineOf p) i) (laid .row (targetOf p) j) (laid-few laid (lineOf p) i) (laid-few laid (targetOf p) j))))
+      (w .1 .ensures (lineAt Q l) (lineAt Q t) (laid-line laid l i) (laid-line laid t j))))
       (λ w. rw (w .1) (compared-skip p _ (omega (arith, e, w .0 .left)) (loop .inv .1 Q e laid))) (c .if1 .came),
 )
 

@@ -1,3 +1,4 @@
+-- `reduce::goings`: the word has the pairs before `p` of a line that could go to the other.
 use mathlib.Core.Path.{_≡_}
 use Prim.Native.Nat.{_*_, _-_, _≤_}
 use native.Mathlib.Omega.{arith}
@@ -41,7 +42,8 @@ loop-again : tie.Need-loop-again Inv-loop μ-loop
 loop-again c = (
   omega arith,
   λ Q e laid.
-      goings-more _ e laid _ (c .before .can-go .result) (c .set-bit-if .result) (c .before .before .loop-test .taken) (c .before .can-go .ensures)
+      let on = c .before .can-go in
+      goings-more _ e laid _ (on .result) (c .set-bit-if .result) (c .before .before .loop-test .taken) (on .ensures)
       (c .set-bit-if .ensures) (c .before .before .before .loop .inv .1 Q e laid),
 )
 

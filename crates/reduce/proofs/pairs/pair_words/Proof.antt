@@ -1,3 +1,4 @@
+-- `reduce::pair_words`: the entries of the candidates that were looked at are their words.
 use mathlib.Core.Path.{refl}
 use native.Mathlib.Omega.{arith}
 use Rattle.words.proofs.Marks.{Filled, filled-none, filled-more, filled-all}
@@ -34,8 +35,9 @@ loop-less c = c .drop-least .ensures .less
 
 loop-again : tie.Need-loop-again Inv-loop μ-loop
 loop-again c =
-    filled-more (c .before .pair-word .result) (c .before .before .before .before .loop .inv) (c .before .before .least .ensures) (c .drop-least .ensures)
-    (c .before .pair-word .ensures)
+    let word = c .before .pair-word in
+    filled-more (word .result) (c .before .before .before .before .loop .inv) (c .before .before .least .ensures) (c .drop-least .ensures)
+    (word .ensures)
 
 returns : tie.Need-returns Inv-loop μ-loop
 returns c =

@@ -1,3 +1,4 @@
+-- `reduce::hidden_word`: the word has the hidden variables of the columns before `k`.
 use mathlib.Core.Path.{_≡_, ap, _∙_}
 use Prim.Native.Nat.{_-_, _≤_}
 use native.Mathlib.Omega.{arith}
@@ -35,8 +36,8 @@ loop-again c =
     let at = c .before .before .before .loop in (
       omega arith,
       λ l row.
-          hidden-more l (at .k) (at .m) _ (at .inv .1 l row)
-          (c .with-hidden .ensures ∙ ap (hiddenSet (at .m)) (c .before .term-at .ensures ∙ row .term (at .k) (c .before .before .loop-test .taken))),
+          let read = c .before .term-at .ensures ∙ row .term (at .k) (c .before .before .loop-test .taken) in
+          hidden-more l (at .k) (at .m) _ (at .inv .1 l row) (c .with-hidden .ensures ∙ ap (hiddenSet (at .m)) read),
     )
 
 returns : tie.Need-returns Inv-loop μ-loop

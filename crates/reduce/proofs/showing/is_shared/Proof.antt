@@ -1,3 +1,4 @@
+-- `reduce::is_shared`: a hidden variable that has a bit, and the bit is set.
 use mathlib.Core.Path.{subst}
 use native.Mathlib.Omega.{arith}
 use lib.Dec.{T}
@@ -15,11 +16,13 @@ returns c = simp (← c .before .is-hidden .ensures, not-true (c .before .is-hid
 
 has-bit-requires : tie.Need-has-bit-requires
 has-bit-requires c κs =
-    let small = hidden-small _ (subst T (c .before .is-hidden .ensures) (rw (not-false (c .before .is-hidden .result) (c .if1 .left)) tt)) in
-    omega (arith, small)
+    let hidden = c .before .is-hidden in
+    let small = hidden-small _ (subst T (hidden .ensures) (rw (not-false (hidden .result) (c .if1 .left)) tt)) in omega (arith, small)
 
 returns-2 : tie.Need-returns-2
-returns-2 c = simp (← c .before .before .is-hidden .ensures, not-false (c .before .before .is-hidden .result) (c .before .if1 .left), c .has-bit .ensures)
+returns-2 c =
+    let hidden = c .before .before .is-hidden in
+    simp (← hidden .ensures, not-false (hidden .result) (c .before .if1 .left), c .has-bit .ensures)
 
 pub is-shared-spec : {M : Type 1} → statement M
 is-shared-spec = tie.close (tie.spec is-hidden-requires returns has-bit-requires returns-2)

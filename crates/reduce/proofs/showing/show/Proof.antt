@@ -30,7 +30,8 @@ show-term-requires : tie.Need-show-term-requires Inv-loop μ-loop
 show-term-requires c κs = tt
 
 set-mark-requires : tie.Need-set-mark-requires Inv-loop μ-loop
-set-mark-requires c κs = (omega (arith, c .before .before .before .before .before .loop .inv .1 .long), omega arith)
+set-mark-requires c κs =
+    let at = c .before .before .before .before .before .loop in (omega (arith, at .inv .1 .long), omega arith)
 
 add-k : tie.Need-add-k Inv-loop μ-loop
 add-k c = omega arith
@@ -41,10 +42,11 @@ loop-less c = omega arith
 loop-again : tie.Need-loop-again Inv-loop μ-loop
 loop-again c =
     let at = c .before .before .before .before .before .before .before .before .loop in
-    let shown = c .before .before .before .before .show-term in (
+    let shown = c .before .before .before .before .show-term in
+    let read = c .before .before .before .before .before .term-at in (
       omega arith,
       rw (c .before .before .set-mark .ensures)
-          (one-done (shown .result) (at .inv .1) (omega (arith, at .inv .1 .long)) (shown .ensures ∙ ap (showValue _) (c .before .before .before .before .before .term-at .ensures))),
+          (one-done (shown .result) (at .inv .1) (omega (arith, at .inv .1 .long)) (shown .ensures ∙ ap (showValue _) (read .ensures))),
     )
 
 same-length : tie.Need-same-length Inv-loop μ-loop

@@ -1,3 +1,4 @@
+-- `reduce::fold`: all lines can be sent to those in `rows` once the lines from `i` on were tried.
 use Prim.Native.Nat.{_-_, _^_, _≤_, _<_}
 use mathlib.Core.Path.{_≡_}
 use native.Mathlib.Omega.{arith}
@@ -67,7 +68,7 @@ loop-less-2 : tie.Need-loop-less-2 Inv-loop μ-loop
 loop-less-2 c = omega arith
 
 loop-again-2 : tie.Need-loop-again-2 Inv-loop μ-loop
-loop-again-2 c = (omega arith, c .before .before .before .before .loop .inv .1, c .before .before .before .before .loop .inv .2)
+loop-again-2 c = let at = c .before .before .before .before .loop in (omega arith, at .inv .1, at .inv .2)
 
 returns : tie.Need-returns Inv-loop μ-loop
 returns c = (c .before .loop .inv .1, c .before .loop .inv .2)

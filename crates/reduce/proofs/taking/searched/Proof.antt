@@ -1,3 +1,4 @@
+-- `reduce::searched`: what the four words and tables say of the query, one after the other.
 use borrow.Author.Needs.{needs}
 use Rattle.reduce.proofs.Tables.{tabled}
 use Rattle.reduce.proofs.taking.searched.Statement.{statement}
@@ -20,7 +21,10 @@ taken-requires c κs = search needs
 
 returns : tie.Need-returns
 returns c = λ Q e laid goings.
-    let t = tabled laid _ _ _ _ goings (c .before .before .before .before .before .before .before .before .columns .ensures Q e laid) (c .before .before .before .before .before .before .candidates .ensures) (c .before .before .before .before .pair-words .ensures) in
+    let words = c .before .before .before .before in
+    let candidates = words .before .before in
+    let columns = candidates .before .before .columns in
+    let t = tabled laid _ _ _ _ goings (columns .ensures Q e laid) (candidates .candidates .ensures) (words .pair-words .ensures) in
     c .taken .ensures Q e t (c .before .before .fold .ensures .1 Q e t)
 
 pub searched-spec : {M : Type 1} → statement M

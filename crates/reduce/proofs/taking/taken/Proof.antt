@@ -1,3 +1,4 @@
+-- `reduce::taken`: what is left of the query once the lines from `i` on were tried.
 use Prim.Native.Nat.{ℕ, suc, _-_, _^_, _≤_, _<_}
 use mathlib.Core.Path.{_≡_, sym, _∙_}
 use mathlib.Core.Bool.{false≢true}
@@ -18,7 +19,8 @@ abbrev Inv-loop : tie.InvT-loop
 Inv-loop n rows candidates table left₀ i₀ left i =
     (i ≤ n)
     × (left < 2 ^ mostLines)
-    × ((Q : Query) (e : length Q ≡ n) (t : PairsTabled Q candidates table) (there : (j : ℕ) → bit rows j ≡ 1 → j < length Q) (f : Folds Q rows) → Taking t rows there f i left)
+    × ((Q : Query) (e : length Q ≡ n) (t : PairsTabled Q candidates table) (there : (j : ℕ) → bit rows j ≡ 1 → j < length Q)
+    (f : Folds Q rows) → Taking t rows there f i left)
 
 abbrev μ-loop : tie.MeasureT-loop
 μ-loop n rows candidates table left₀ i₀ left i = i
@@ -79,8 +81,8 @@ loop-again-2 c =
 returns : tie.Need-returns Inv-loop μ-loop
 returns c =
     λ Q e t f.
-    let there : (j : ℕ) → bit (c .before .before .before .args .rows) j ≡ 1 → j < length Q =
-    λ j h. rw e (bit-within (c .before .before .before .args .n) j (c .before .before .before .pre .1) h) in
+    let start = c .before .before .before in
+    let there : (j : ℕ) → bit (start .args .rows) j ≡ 1 → j < length Q = λ j h. rw e (bit-within (start .args .n) j (start .pre .1) h) in
     let none : c .before .loop .i ≡ 0 = omega arith in
     taking-all t _ there f _ (rw none at (c .before .loop .inv .2 Q e t there f))
 
