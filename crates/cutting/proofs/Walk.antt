@@ -10,12 +10,12 @@ use lib.Dec.{T, ltb}
 use lib.ListN.{length, take, drop, drop-of-length-le, take-append-drop}
 use lib.Seq.{take-all, length-take-le, take-length, drop-length}
 use borrow.Author.Tests.{ltb-true, ltb-false}
-use Rattle.text.specs.Lines.{Split, lines, before, sameBytes}
+use Rattle.text.specs.Lines.{lines, before, sameBytes}
 use Rattle.text.specs.Names.{tableTerms}
 use Rattle.text.specs.declared.Cursor.{Cursor}
-use Rattle.text.proofs.Lines.{split-none, split-found, before-le}
+use Rattle.text.proofs.Lines.{before-le}
 use Rattle.text.proofs.Names.{same-bytes-iff}
-use Rattle.text.proofs.NextLines.{front, back, LineAt}
+use Rattle.text.proofs.NextLines.{front, back, of-tail, of-line, LineAt}
 use Rattle.cutting.specs.Cut.{piece, cutFrom, cut}
 use Rattle.cutting.specs.NextCut.{Starts, NextCut}
 use Rattle.cutting.proofs.Line.{with-line}
@@ -31,14 +31,14 @@ unfolding lines cutFrom
 behind-none now = ap piece (append-nil now)
 
 behind-tail : (now text : List ℕ) → before 10 text ≡ length text → behind now text ≡ piece (now ++ text)
-unfolding lines cutFrom
-behind-tail now text e = rw (split-none 10 text e)
+unfolding cutFrom
+behind-tail now text e = of-tail (cutFrom now) text e
 
 behind-line : (now text : List ℕ) → before 10 text < length text
     → behind now text ≡ cond (sameBytes (front text) tableTerms) (piece now ++ behind (front text ++ 10 ∷ []) (back text))
     (behind (now ++ front text ++ 10 ∷ []) (back text))
-unfolding lines cutFrom
-behind-line now text h = ap (λ (s : Split). cutFrom now (s .ended) (s .rest)) (split-found 10 text h)
+unfolding cutFrom
+behind-line now text h = of-line (cutFrom now) text h
 
 piece-some : (l : List ℕ) → 0 < length l → piece l ≡ l ∷ []
 unfolding piece

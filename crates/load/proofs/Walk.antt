@@ -9,10 +9,9 @@ use native.Mathlib.Nat.{suc-ne-zero, not-suc-le-zero}
 use native.Mathlib.Numerals.{add-one}
 use native.Mathlib.Omega.{arith}
 use lib.ListN.{length, drop, length-drop, drop-of-length-le}
-use Rattle.text.specs.Lines.{Split, lines, split, before}
+use Rattle.text.specs.Lines.{lines, split, before}
 use Rattle.text.specs.declared.Cursor.{Cursor}
-use Rattle.text.proofs.Lines.{split-none, split-found}
-use Rattle.text.proofs.NextLines.{front, back, LineAt}
+use Rattle.text.proofs.NextLines.{front, back, of-tail, of-line, LineAt}
 use Rattle.model.specs.Fields.{Numbered, tableLine, viewLine, partitionLine}
 use Rattle.policy_text.specs.Text.{nothing, refused, accepted, faulty, entered, Block, tables, views, partitions, unless, entry, enter, tableFault, viewFault, partitionFault, isNext, nextBlock, policyEnds, goOn, loadFrom}
 use Rattle.policy_text.specs.Declared.{Declared}
@@ -30,15 +29,14 @@ behind b started d k text = loadFrom b started d k (lines text .ended) (lines te
 
 behind-line : (b : Block) (started : Bool) (d : Declared) (k : ℕ) (text : List ℕ) → before 10 text < length text
     → behind b started d k text ≡ loadFrom b started d k (front text ∷ lines (back text) .ended) (lines (back text) .rest)
-unfolding lines
-behind-line b started d k text h = ap (λ (s : Split). loadFrom b started d k (s .ended) (s .rest)) (split-found 10 text h)
+behind-line b started d k text h = of-line (loadFrom b started d k) text h
 
 -- the text stops in a line
 behind-tail : (b : Block) (started : Bool) (d : Declared) (k : ℕ) (text : List ℕ) → before 10 text ≡ length text → 0 < length text
     → behind b started d k text ≡ refused 1 k
-unfolding lines loadFrom policyEnds
+unfolding loadFrom policyEnds
 behind-tail b started d k [] e h = absurd (not-suc-le-zero h)
-behind-tail b started d k (x ∷ text) e h = ap (λ (s : Split). loadFrom b started d k (s .ended) (s .rest)) (split-none 10 (x ∷ text) e)
+behind-tail b started d k (x ∷ text) e h = of-tail (loadFrom b started d k) (x ∷ text) e
 
 -- ---- one line
 

@@ -8,10 +8,9 @@ use native.Mathlib.Omega.{arith}
 use lib.Bits.{bitOr}
 use lib.ListN.{length, drop, set, length-append, length-map, length-drop, drop-of-length-le}
 use Rattle.theory.specs.Query.{Line}
-use Rattle.text.specs.Lines.{Split, lines, before}
-use Rattle.text.proofs.Lines.{split-none, split-found}
+use Rattle.text.specs.Lines.{lines, before}
 use Rattle.text.specs.declared.Cursor.{Cursor}
-use Rattle.text.proofs.NextLines.{front, back, LineAt}
+use Rattle.text.proofs.NextLines.{front, back, of-tail, of-line, LineAt}
 use Rattle.model.specs.Limits.{mostLines}
 use Rattle.model.specs.Fields.{queryLine}
 use Rattle.model.specs.Value.{pad, unusedLine, lineValue, queryValue, tablesValue}
@@ -35,9 +34,9 @@ behind widths earlier k text = readFrom widths earlier k (lines text .ended) (li
 -- a tail that lacks its end
 behind-tail : (widths : List ℕ) (earlier : List Line) (k : ℕ) (text : List ℕ) → before 10 text ≡ length text → 0 < length text
     → behind widths earlier k text ≡ refused 1 k
-unfolding lines readFrom queryEnds
+unfolding readFrom queryEnds
 behind-tail widths earlier k [] e h = absurd (omega arith)
-behind-tail widths earlier k (b ∷ tail) e h = rw (split-none 10 (b ∷ tail) e)
+behind-tail widths earlier k (b ∷ tail) e h = of-tail (readFrom widths earlier k) (b ∷ tail) e
 
 -- the end of the text
 behind-end : (widths : List ℕ) (earlier : List Line) (k : ℕ) → behind widths earlier k [] ≡ queryEnds earlier k []
@@ -47,8 +46,8 @@ behind-end widths earlier k = refl
 -- a line, and what follows it
 behind-line : (widths : List ℕ) (earlier : List Line) (k : ℕ) (text : List ℕ) → before 10 text < length text
     → behind widths earlier k text ≡ step (queryLine (front text)) k (fault widths earlier) (λ A. behind widths (earlier ++ A ∷ []) (suc k) (back text))
-unfolding lines readFrom
-behind-line widths earlier k text h = ap (λ (s : Split). readFrom widths earlier k (s .ended) (s .rest)) (split-found 10 text h)
+unfolding readFrom
+behind-line widths earlier k text h = of-line (readFrom widths earlier k) text h
 
 -- a line more in the query
 abbrev pub with-line : QueryValue → Parsed → QueryValue

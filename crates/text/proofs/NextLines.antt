@@ -21,17 +21,28 @@ front text = take (before 10 text) text
 abbrev pub back : List ℕ → List ℕ
 back text = drop (suc (before 10 text)) text
 
+-- what is read of all lines and the tail: of a text that stops in its first line, and of one that goes on behind it
+module _ {X : Type 0} (read : List (List ℕ) → List ℕ → X) (text : List ℕ) where
+  pub of-tail : before 10 text ≡ length text → read (lines text .ended) (lines text .rest) ≡ read [] text
+  unfolding lines
+  of-tail e = ap (λ (s : Split). read (s .ended) (s .rest)) (split-none 10 text e)
+
+  pub of-line : before 10 text < length text
+      → read (lines text .ended) (lines text .rest) ≡ read (front text ∷ lines (back text) .ended) (lines (back text) .rest)
+  unfolding lines
+  of-line h = ap (λ (s : Split). read (s .ended) (s .rest)) (split-found 10 text h)
+
 module _ {text : List ℕ} {k : ℕ} {c : Cursor} (n : NextLine text k c) where
-  pub no-end : length text < c .at → before 10 text ≡ length text
+  no-end : length text < c .at → before 10 text ≡ length text
   no-end h = omega (arith, n .place, before-le 10 text)
 
-  pub has-end : c .at ≤ length text → before 10 text < length text
+  has-end : c .at ≤ length text → before 10 text < length text
   has-end h = omega (arith, n .place)
 
-  pub line-bytes : take (c .at - 1) text ≡ front text
+  line-bytes : take (c .at - 1) text ≡ front text
   line-bytes = let e : c .at - 1 ≡ before 10 text = omega (arith, n .place) in ap (λ (m : ℕ). take m text) e
 
-  pub bytes-behind : drop (c .at) text ≡ back text
+  bytes-behind : drop (c .at) text ≡ back text
   bytes-behind = let e : c .at ≡ suc (before 10 text) = omega (arith, n .place) in ap (λ (m : ℕ). drop m text) e
 
 -- ---- the line that starts at a place of a text
@@ -40,7 +51,7 @@ module _ {text : List ℕ} {k : ℕ} {c : Cursor} (n : NextLine text k c) where
 abbrev pub restFrom : List ℕ → ℕ → List ℕ
 restFrom text at = take (length text - at) (drop at text)
 
--- a line that ends starts at the place, the next one at c
+-- a line that ends starts at the place, and c says where behind it the next one starts
 pub record LineAt (text : List ℕ) (at : ℕ) (c : Cursor) : Type 0 where
   pub ended : before 10 (drop at text) < length (drop at text)
   pub place : c .at ≡ suc (before 10 (drop at text))
@@ -70,12 +81,12 @@ module _ (text : List ℕ) (at : ℕ) {k : ℕ} {c : Cursor} (n : NextLine (rest
 
 module _ (names text : List ℕ) where
   stops-first : before 10 text ≡ length text → startsWith names (lines text .ended) ≡ false
-  unfolding startsWith lines
-  stops-first e = ap (λ (s : Split). startsWith names (s .ended)) (split-none 10 text e)
+  unfolding startsWith
+  stops-first e = of-tail (λ ls tail. startsWith names ls) text e
 
   first-is : before 10 text < length text → startsWith names (lines text .ended) ≡ sameBytes (front text) names
-  unfolding startsWith lines
-  first-is h = ap (λ (s : Split). startsWith names (s .ended)) (split-found 10 text h)
+  unfolding startsWith
+  first-is h = of-line (λ ls tail. startsWith names ls) text h
 
   other-line : startsWith names (lines text .ended) ≡ false → AfterNames names text (record { at = 0; line = 1 })
   other-line e = (λ t. absurd (true≢false (sym t ∙ e)), λ f. refl)
@@ -130,11 +141,9 @@ module _ {X : Type 0} (read : List (List ℕ) → List ℕ → X) (values : ℕ 
 
   pub named : (c .at ≡ 0 → ⊥)
       → values (c .line) (lines (restFrom text (c .at)) .ended) (lines (restFrom text (c .at)) .rest) ≡ read (lines text .ended) (lines text .rest)
-  unfolding lines
   named f =
       let n = behind-names names text a f in
       let h = ends-first names text a f in
-      let whole = ap (λ (s : Split). read (s .ended) (s .rest)) (split-found 10 text h)
-      ∙ some (front text) (lines (back text) .ended) (lines (back text) .rest) in
+      let whole = of-line read text h ∙ some (front text) (lines (back text) .ended) (lines (back text) .rest) in
       let same = sym (first-is names text h) ∙ starts names text a f in
       rw (to-end (c .at) text, bytes-behind n, n .number) (sym (rw same at whole))

@@ -17,7 +17,7 @@ unfolding sameBytes
 startsWith names [] = false
 startsWith names (l ∷ ls) = sameBytes l names
 
--- behind the names line, where the text starts with it; else a place that no line ends before
+-- behind the names line, where the text starts with it; else place 0, that no line ends before
 abbrev pub AfterNames : List ℕ → List ℕ → Cursor → Type 0
 AfterNames names text c =
     (startsWith names (lines text .ended) ≡ true → NextLine text 1 c) × (startsWith names (lines text .ended) ≡ false → c .at ≡ 0)

@@ -76,7 +76,7 @@ pub fn same<'a>(a: &'a [u8], b: &'a [u8]) -> bool
     true
 }
 
-// A reader's work, on its two parts: where the line behind the next one starts.
+// A reader's work, on its two parts.
 fn behind_line(rest: &[u8], line: u64) -> Cursor
     requires { ⌜ line + 1 < 2 ^ 64 ⌝ }
     ensures { λ c. ⌜ NextLine (now (rest .entry)) line c ⌝ }
@@ -88,7 +88,7 @@ fn behind_line(rest: &[u8], line: u64) -> Cursor
     }
 }
 
-// The next line of a reader ends at the byte before this place, and lacks its end where the place is past the text.
+// Where the line behind a reader's next one starts, and its number. The next line lacks its end where that is past the text.
 pub fn next<'a>(r: Reader<'a>) -> Cursor
     requires { ⌜ r .line + 1 < 2 ^ 64 ⌝ }
     ensures { λ c. ⌜ NextLine (now (r .entry .rest)) (r .entry .line) c ⌝ }
