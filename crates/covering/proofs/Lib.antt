@@ -6,6 +6,6 @@ pub mod Columns
 -- Labels.
 pub mod Views
 pub mod Masks
-pub mod Laid
+pub mod Prepared
 -- The order of labels.
 pub mod Halves

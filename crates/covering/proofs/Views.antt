@@ -17,15 +17,20 @@ use Rattle.theory.specs.Executable.Cover.{covers}
 use Rattle.theory.specs.Executable.Label.{viewBits, label}
 use Rattle.theory.proofs.Lists.{none≢some, at-place, place-below}
 use Rattle.theory.proofs.Executable.Cover.{covers-iff}
-use Rattle.theory.proofs.Executable.Label.{viewBits-bit, viewBits-below}
+use Rattle.theory.proofs.Executable.Label.{viewBits-bit}
+use Rattle.model.specs.Limits.{mostViews}
 use Rattle.model.specs.Value.{pad, unusedLine, lineValue}
 use Rattle.model.specs.Rows.{laidTable, LaidAt}
 use Rattle.model.specs.declared.Line.{Line}
 use Rattle.model.specs.declared.Policy.{Policy}
-use Rattle.covering.specs.Labelled.{Holds, OfTable, Labelled}
+use Rattle.covering.specs.Views.{Holds, OfTable}
+use Rattle.covering.specs.Prepared.{tableWord, grantWord}
+use Rattle.covering.specs.Labelled.{Labelled, Reached}
 use Rattle.words.proofs.Answers.{true-holds, holds-true}
 use Rattle.words.proofs.Marks.{upto-set, Picked, picked-all}
 use Rattle.words.proofs.Bits.{same-bits}
+use Rattle.words.proofs.TestBits.{tests-below}
+use Rattle.words.proofs.Unions.{Union}
 
 -- what the code reads behind the views' end
 abbrev pub noLine : Line
@@ -56,15 +61,15 @@ view-there (v ∷ views) n (suc k) table first e = view-there views n k table fi
 module _ {p : Policy} {views : List TheLine} (h : Holds p views) where
   pub view-value : (k : ℕ) (v : TheLine) → getElem? views k ≡ some v → getD (p .views) k noLine ≡ lineValue v
   unfolding pad
-  view-value k v e = ap (λ l. getD l k noLine) (h .is) ∙ held-view views (32 - length (map lineValue views)) k v e
+  view-value k v e = ap (λ l. getD l k noLine) (h .is) ∙ held-view views (mostViews - length (map lineValue views)) k v e
 
   -- the views of a table, once each place was looked at
-  pub table-done : (table word k : ℕ) → 1 ≤ table → 32 ≤ k
+  pub table-done : (table word k : ℕ) → 1 ≤ table → mostViews ≤ k
       → Upto (λ j. getD (p .views) j noLine .table ≡ table) k word → OfTable views table word
   unfolding pad lineValue
   table-done table word k first all built j = (
     λ e.
-        view-there views (32 - length (map lineValue views)) j table first
+        view-there views (mostViews - length (map lineValue views)) j table first
         (sym (ap (λ l. getD l j noLine .table) (h .is)) ∙ upto-set built j e),
     λ r.
         built .below j (omega (arith, place-below views j (r .1), h .few)) .1
@@ -77,40 +82,41 @@ module _ {p : Policy} {views : List TheLine} (h : Holds p views) where
 abbrev pub Covering : List TheLine → TheLine → ℕ → Type 0
 Covering views A k = (v : TheLine) × (getElem? views k ≡ some v) × Covers v A
 
-module _ {rows : List ℕ} {mask width : ℕ} {lines : List ℕ} {a : ℕ} {views : List TheLine} {A : TheLine}
-    (l : Labelled rows mask width lines a views A) where
-  -- what the test of covering says at a place of the mask
+module _ {r : List ℕ} {width : ℕ} {lines : List ℕ} {a : ℕ} {views : List TheLine} {A : TheLine} (l : Labelled r width lines a views A) where
+  abbrev mask : ℕ
+  mask = tableWord r (A .table)
+
+  -- what the test of covering says at a place of the table's word
   pub answered : (k : ℕ) (b : Bool) → bit mask k ≡ 1
-      → ((view line : TheLine) → LaidAt rows k (lineValue view) → LaidAt lines a (lineValue line)
+      → ((view line : TheLine) → LaidAt r k (lineValue view) → LaidAt lines a (lineValue line)
       → view .table ≡ line .table → length (view .columns) ≡ width → length (line .columns) ≡ width → b ≡ covers view line)
       → (b ≡ true) ↔ Covering views A k
   answered k b e test =
-      let r = l .bits k .0 e in
-      let v = r .0 in
-      let same : b ≡ covers v A =
-      test v A (l .laid .row k v (r .1)) (l .line) (r .2) (l .viewWidths v (at-place views k (r .1)) (r .2)) (l .lineWidth)
-      in (
-        λ t. (v, r .1, covers-iff v A .0 (true-holds (sym same ∙ t))),
+      let (v, at, t) = l .bits k .0 e in
+      let same : b ≡ covers v A = test v A (l .laid .row k v at) (l .line) t (l .viewWidths v (at-place views k at) t) (l .lineWidth) in (
+        λ h. (v, at, covers-iff v A .0 (true-holds (sym same ∙ h))),
         λ s.
-            same
-            ∙ sym
-            (holds-true (covers v A)
-            (covers-iff v A .1
-            (subst (λ (w : TheLine). Covers w A) (Option·some-injective (s .0) v (sym (s .1) ∙ r .1)) (s .2)))),
+            let here = subst (λ (w : TheLine). Covers w A) (Option·some-injective (s .0) v (sym (s .1) ∙ at)) (s .2) in
+            same ∙ sym (holds-true (covers v A) (covers-iff v A .1 here)),
       )
 
-  views-word : (left word : ℕ) → left ≡ 0 → word < 2 ^ 32 → Picked (Covering views A) mask left word → word ≡ viewBits views A
-  views-word left word none small w =
-      let seen = picked-all (subst (λ (k : ℕ). Picked (Covering views A) mask k word) none w) in
-      let covered : (k : ℕ) → (bit word k ≡ 1) ↔ Covering views A k =
-      λ k. (λ e. seen k .0 e .1, λ r. seen k .1 (l .bits k .1 (r .0, r .1, r .2 .table), r)) in
-      same-bits 32 word (viewBits views A) small
-      (lt-of-lt-of-le (viewBits-below views A) (pow-mono (l .few)))
-      (λ k.
-      let v = viewBits-bit views A k in (λ e. v .1 (covered k .0 e), λ e. covered k .1 (v .0 e)))
+  -- once the whole word was gone through, the word made has the views that cover the line
+  module _ {word : ℕ} (w : Picked (Covering views A) mask 0 word) where
+    covered : (k : ℕ) → (bit word k ≡ 1) ↔ Covering views A k
+    covered k = let s = picked-all w k in (λ e. s .0 e .1, λ c. s .1 (l .bits k .1 (c .0, c .1, c .2 .table), c))
 
-  pub labelled : (table left word : ℕ) → table ≡ laidTable lines a → left ≡ 0 → word < 2 ^ 32
-      → Picked (Covering views A) mask left word → table + 2 ^ 32 * word ≡ label views A
-  unfolding label lineValue
-  labelled table left word e none small w =
-      ap₂ (λ t x. t + 2 ^ 32 * x) (e ∙ l .line .table) (views-word left word none small w)
+    views-word : word < 2 ^ mostViews → word ≡ viewBits views A
+    views-word small =
+        same-bits mostViews word (viewBits views A) small
+        (lt-of-lt-of-le (tests-below (λ v. covers v A) views) (pow-mono (l .few)))
+        (λ k. let v = viewBits-bit views A k in (λ e. v .1 (covered k .0 e), λ e. covered k .1 (v .0 e)))
+
+    pub labelled : (table : ℕ) → table ≡ laidTable lines a → word < 2 ^ mostViews → table + 2 ^ 32 * word ≡ label views A
+    unfolding label lineValue
+    labelled table e small = ap₂ (λ t x. t + 2 ^ 32 * x) (e ∙ l .line .table) (views-word small)
+
+    pub reached : {grants : ℕ} → Union (grantWord r) word grants → Reached r views A grants
+    reached u i = (
+      λ e. let (k, b, g) = u .bits i .0 e in let (v, at, c) = covered k .0 b in (k, v, at, c, g),
+      λ s. u .bits i .1 (s .0, covered (s .0) .1 (s .1, s .2, s .3), s .4),
+    )

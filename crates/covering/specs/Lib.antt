@@ -1,2 +1,4 @@
 pub mod Order
+pub mod Views
+pub mod Prepared
 pub mod Labelled

@@ -1,5 +1,7 @@
 // Which views cover a line, the line's label, and the order of labels.
 
+mod preparing;
+
 ghost use mathlib.Core.Path.{_≡_};
 ghost use mathlib.Core.Bool.{not, _||_};
 ghost use mathlib.Core.List.{List};
@@ -9,16 +11,22 @@ ghost use Rattle.theory.specs.Query.{Term as TheTerm, Line as TheLine};
 ghost use Rattle.theory.specs.Executable.Cover.{obeys as obeysRules, covers as coversLine};
 ghost use Rattle.theory.specs.Executable.Label.{label};
 ghost use Rattle.model.specs.Value.{termValue, lineValue};
-ghost use Rattle.model.specs.Rows.{HasRow, laidTable, LaidAt};
-ghost use Rattle.covering.specs.Labelled.{TableMasks, ViewsLaid, Labelled};
+ghost use Rattle.model.specs.Limits.{mostTables, mostColumns, mostViews, mostLines};
+ghost use Rattle.model.specs.Rows.{queryRowsLong, HasRow, laidTable, LaidAt};
+ghost use Rattle.covering.specs.Prepared.{preparedLong, tableWord};
+ghost use Rattle.covering.specs.Labelled.{Labelled, Reached};
 ghost use Rattle.covering.specs.Order.{atOrBelow};
 use model::CONSTANT;
 use model::HIDDEN;
-use model::MOST_TABLES;
-use model::Policy;
+use model::QueryRows;
 use model::SHOWN;
 use model::Term;
 use model::same_term;
+use preparing::GRANT_WORDS;
+pub use preparing::Prepared;
+use preparing::TABLE_WORDS;
+pub use preparing::every_partition;
+pub use preparing::prepare;
 
 // ---- covering
 
@@ -48,7 +56,7 @@ fn obeys(v: Term, w: Term, a: Term, b: Term) -> bool
 // Whether a view covers a line of its table, which has `width` columns: the view in row `v`, the line in row `a` of other rows.
 // The first broken rule ends the comparison.
 pub fn covers(width: usize, views: &[u64], v: usize, lines: &[u64], a: usize) -> bool
-    requires { ⌜ (width ≤ 8) × HasRow (now views) v × HasRow (now lines) a ⌝ }
+    requires { ⌜ (width ≤ mostColumns) × HasRow (now views) v × HasRow (now lines) a ⌝ }
     ensures { λ r. ⌜ ((view line : TheLine) → LaidAt (now (views .entry)) v (lineValue view) → LaidAt (now (lines .entry)) a (lineValue line) → view .table ≡ line .table → length (view .columns) ≡ width → length (line .columns) ≡ width → r ≡ coversLine view line) ⌝ }
 {
     let mut ok = true;
@@ -73,54 +81,34 @@ pub fn covers(width: usize, views: &[u64], v: usize, lines: &[u64], a: usize) ->
 
 // ---- labels
 
-// The views of each table, view n at bit n - 1. Unused views have table 0.
-pub fn table_views(p: Policy) -> [u64; 17]
-    ensures { λ r. ⌜ TableMasks p r ⌝ }
-{
-    let mut masks = [0; 17];
-    let mut k = 0;
-    while k < 32 {
-        let v = p.views[k];
-        let table = v.table;
-        if table <= MOST_TABLES {
-            let at = table as usize;
-            let m = masks[at];
-            masks[at] = words::set_bit(m, k as u64);
-        }
-        k += 1;
-    }
-    masks
+// The label of a line, and the partitions that grant a view which covers it, partition n at bit n - 1.
+pub struct LineLabel {
+    pub label: u64,
+    pub grants: u64,
 }
 
-// The views laid out as numbers, view n in row n - 1.
-pub fn view_rows(p: Policy) -> [u64; 544]
-    ensures { λ r. ⌜ ViewsLaid p r ⌝ }
+// The label of the line in row `a`, of a table of `width` columns.
+pub fn label_line(r: &Prepared, width: usize, lines: &QueryRows, a: usize) -> LineLabel
+    requires { ⌜ (length (now r) ≡ preparedLong) × (length (now lines) ≡ queryRowsLong) × (width ≤ mostColumns) × (a < mostLines) ⌝ }
+    requires { ⌜ (laidTable (now lines) a ≤ mostTables) × (tableWord (now r) (laidTable (now lines) a) < 2 ^ mostViews) ⌝ }
+    ensures { λ l. ⌜ ((vs : List TheLine) (line : TheLine) → Labelled (now (r .entry)) width (now (lines .entry)) a vs line → (l .label ≡ label vs line) × Reached (now (r .entry)) vs line (l .grants)) ⌝ }
 {
-    let mut views = [0; 544];
-    let mut k = 0;
-    while k < 32 {
-        let v = p.views[k];
-        model::lay_line(v, k, &mut views);
-        k += 1;
-    }
-    views
-}
-
-// The label of the line in row `a`, of a table of `width` columns; `mask` has the views of its table.
-pub fn label_line(views: &[u64; 544], mask: u64, width: usize, lines: &[u64; 136], a: usize) -> u64
-    requires { ⌜ (length (now views) ≡ 544) × (length (now lines) ≡ 136) × (mask < 2 ^ 32) × (width ≤ 8) × (a < 8) × (laidTable (now lines) a < 2 ^ 32) ⌝ }
-    ensures { λ r. ⌜ ((vs : List TheLine) (line : TheLine) → Labelled (now (views .entry)) mask width (now (lines .entry)) a vs line → r ≡ label vs line) ⌝ }
-{
+    let table = model::table_at(lines, a);
     let mut word = 0;
-    let mut left = mask;
+    let mut grants = 0;
+    let mut left = r[TABLE_WORDS + table as usize];
     while left != 0 {
         let k = words::least(left);
-        let on = covers(width, views, k as usize, lines, a);
-        word = words::set_bit_if(word, k, on);
+        if covers(width, r, k as usize, lines, a) {
+            word = words::set_bit(word, k);
+            grants = grants | r[GRANT_WORDS + k as usize];
+        }
         left = words::drop_least(left);
     }
-    let table = model::table_at(lines, a);
-    words::join(table, word)
+    LineLabel {
+        label: words::join(table, word),
+        grants,
+    }
 }
 
 // ---- the order of labels

@@ -7,12 +7,13 @@ use native.Mathlib.Omega.{arith}
 use lib.Pow.{pow-mono}
 use Rattle.theory.specs.Query.{Query, _∈_}
 use Rattle.theory.specs.Archive.{AllFit}
+use Rattle.theory.specs.Executable.Cover.{covers}
 use Rattle.theory.specs.Executable.Label.{viewBits, label, labels}
 use Rattle.theory.specs.Executable.Reduce.{reduce}
 use Rattle.theory.specs.Executable.Show.{show}
-use Rattle.theory.proofs.Executable.Label.{viewBits-below}
 use Rattle.words.proofs.Parts.{high-part}
-use Rattle.model.specs.Limits.{mostTables, mostViews}
+use Rattle.words.proofs.TestBits.{tests-below}
+use Rattle.model.specs.Limits.{mostLines}
 use Rattle.model.specs.declared.Outcome.the-variants.{Refused}
 use Rattle.model.specs.declared.Policy.{Policy}
 use Rattle.query_text.specs.Text.{refused, accepted, read}
@@ -20,9 +21,11 @@ use Rattle.query_text.proofs.Accepted.{accepted-well-read}
 use Rattle.policy_text.specs.Declared.{Declared}
 use Rattle.policy_text.specs.WellFormed.{WellFormed}
 use Rattle.validity.specs.Loadable.{Loadable}
-use Rattle.labelling.specs.Posed.{labelsValue}
+use Rattle.labelling.specs.Posed.{wordsValue, labelsValue}
+use Rattle.labelling.specs.Settled.{settling}
 use Rattle.labelling.specs.Text.{LoadedTo, askedValue}
 use Rattle.labelling.specs.declared.Asked.{Asked}
+use Rattle.labelling.specs.declared.Words.{Words}
 use Rattle.labelling.specs.declared.Labels.{Labels}
 use Rattle.labelling.proofs.Lines.{shown-fits}
 use Rattle.labelling.proofs.Posing.{few-labels}
@@ -32,9 +35,9 @@ use Rattle.desk.specs.HoldsLabels.{HoldsLabels}
 
 -- ---- how many labels there are, and how large
 
-pub labels-held : {l : Labels} {ws : List ℕ} → HoldsLabels l ws → l .count ≤ 8
-unfolding labelsValue
-labels-held h = omega (arith, ap (λ (x : Labels). x .count) (h .is), h .few)
+pub labels-held : {l : Words} {ws : List ℕ} → HoldsLabels l ws → l .count ≤ mostLines
+unfolding wordsValue
+labels-held h = omega (arith, ap (λ (x : Words). x .count) (h .is), h .few)
 
 -- the views of a label, of which a policy has at most 32
 labels-narrow : (d : Declared) → WellFormed d → (Q : Query) → AllFit (d .widths) Q → (w : ℕ) → w ∈ labels (d .views) Q → w / 2 ^ 32 < 2 ^ 32
@@ -44,34 +47,37 @@ labels-narrow d good Q fits w m =
     let f = shown-fits (d .widths) Q fits A a in
     let small : A .table < 2 ^ 32 = omega (arith, f .last, good .tables .few) in
     subst (λ (x : ℕ). x / 2 ^ 32 < 2 ^ 32) e
-    (rw (high-part 32 (viewBits (d .views) A) small) (lt-of-lt-of-le (viewBits-below (d .views) A) (pow-mono (good .views .few))))
+    (rw (high-part 32 (viewBits (d .views) A) small) (lt-of-lt-of-le (tests-below (λ v. covers v A) (d .views)) (pow-mono (good .views .few))))
 
 -- ---- how the text ended
 
--- the text is a query, and these are its labels
+-- the text is a query, these are its labels, and these partitions settle it
 pub record Labelled (d : Declared) (text : List ℕ) (v : Asked) : Type 0 where
   pub query : Query
   pub reads : read (d .widths) text ≡ accepted query
-  pub held : HoldsLabels (v .labels) (labels (d .views) query)
+  pub held : HoldsLabels (v .labels .words) (labels (d .views) query)
+  pub settles : v .labels .settling ≡ settling d query
 
 -- what labelling the text gives for each loading of the policy
 module _ {p : Policy} (text : List ℕ) (v : Asked)
-    (asked : (d : Declared) → LoadedTo p d → v ≡ askedValue (d .views) (read (d .widths) text)) (l : Loadable p) where
+    (asked : (d : Declared) → LoadedTo p d → v ≡ askedValue d (read (d .widths) text)) (l : Loadable p) where
   pub text-accepted : Tag 0 (v .outcome) → Labelled (l .declared) text v
+  unfolding labelsValue
   text-accepted h =
       let d = l .declared in
-      let (Q, r, w) = asked-accepted (d .views) (read (d .widths) text) v (asked d (loaded-to l)) h in
+      let (Q, r, w) = asked-accepted d (read (d .widths) text) v (asked d (loaded-to l)) h in
       let q = accepted-well-read (d .widths) text Q r in
       record {
         query = Q;
         reads = r;
         held =
             record {
-              is = w;
+              is = ap (λ (x : Labels). x .words) w;
               few = few-labels (d .views) (d .widths) text Q r;
               narrow = labels-narrow d (loaded-to l .good) Q (q .fits);
             };
+        settles = ap (λ (x : Labels). x .settling) w;
       }
 
   pub text-turned : {n k : ℕ} → v .outcome ≡ Refused n k → read (l .declared .widths) text ≡ refused n k
-  text-turned {n} {k} = asked-refused (l .declared .views) (read (l .declared .widths) text) v n k (asked (l .declared) (loaded-to l))
+  text-turned {n} {k} = asked-refused (l .declared) (read (l .declared .widths) text) v n k (asked (l .declared) (loaded-to l))

@@ -2,7 +2,6 @@
 pub mod Loaded
 -- One deciding call.
 pub mod Masks
-pub mod Settled
 pub mod Decides
 pub mod ReplyWords
 pub mod Held

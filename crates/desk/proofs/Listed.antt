@@ -7,13 +7,14 @@ use native.Mathlib.Omega.{arith}
 use borrow.Author.Tests.{lt-ltb, le-ltb}
 use lib.ListN.{length, take, drop}
 use Rattle.theory.specs.Executable.Label.{labels}
+use Rattle.model.specs.Limits.{mostLines}
 use Rattle.model.specs.declared.Policy.{Policy}
 use Rattle.model.proofs.Pad.{pad-take}
 use Rattle.query_text.specs.Text.{refused, read}
 use Rattle.validity.specs.Loadable.{Loadable}
-use Rattle.labelling.specs.Posed.{labelsValue}
+use Rattle.labelling.specs.Posed.{wordsValue}
 use Rattle.labelling.specs.declared.Asked.{Asked}
-use Rattle.labelling.specs.declared.Labels.{Labels}
+use Rattle.labelling.specs.declared.Words.{Words}
 use Rattle.desk.specs.Listing.{saidListing, notListed, given, listed, listReading, Lists, LabelsGiven}
 use Rattle.desk.specs.declared.listing.Listing.{Listing}
 use Rattle.desk.specs.declared.listing.Listing.the-variants.{Given, Refused}
@@ -26,14 +27,14 @@ not-lists before n k = record { reply = refl; buffer = refl }
 
 -- ---- the labels and the buffer
 
-module _ (l : Labels) (ws : List ℕ) (e : l ≡ labelsValue ws) where
+module _ (l : Words) (ws : List ℕ) (e : l ≡ wordsValue ws) where
   count-is : l .count ≡ length ws
-  unfolding labelsValue
-  count-is = ap (λ (x : Labels). x .count) e
+  unfolding wordsValue
+  count-is = ap (λ (x : Words). x .count) e
 
   words-are : take (l .count) (l .words) ≡ ws
-  unfolding labelsValue
-  words-are = ap (λ (x : Labels). take (x .count) (x .words)) e ∙ pad-take 8 0 ws
+  unfolding wordsValue
+  words-are = ap (λ (x : Words). take (x .count) (x .words)) e ∙ pad-take mostLines 0 ws
 
   pub lists-short : {before : List ℕ} → length before < l .count → Lists (Refused 10 0) before (listed before ws)
   unfolding listed
@@ -61,7 +62,7 @@ module _ {p : Policy} {text before : List ℕ} where
   text-refused {n} {k} is h = record { unloaded = λ m. absurd (m is); loaded = λ l. rw (h l) (not-lists before n k) }
 
   pub text-listed : {r : Listing} {after : List ℕ} (v : Asked) → Loadable p → ((l : Loadable p) → Labelled (l .declared) text v)
-      → ((ws : List ℕ) → v .labels ≡ labelsValue ws → Lists r after (listed before ws)) → LabelsGiven p text before r after
+      → ((ws : List ℕ) → v .labels .words ≡ wordsValue ws → Lists r after (listed before ws)) → LabelsGiven p text before r after
   unfolding listReading
   text-listed v is h lists =
       record {

@@ -1,14 +1,17 @@
 -- What a policy value holds that some text loads to.
 use mathlib.Core.Path.{_≡_, ap, _∙_}
-use mathlib.Core.List.{[], map}
+use mathlib.Core.List.{List}
+use mathlib.Core.Option.{some}
 use Prim.Native.Nat.{ℕ, _-_, _^_, _≤_}
 use native.Mathlib.Omega.{arith}
-use lib.ListN.{length, getD, List·getD-map}
-use Rattle.model.specs.Limits.{mostPartitions}
+use lib.ListN.{length, getElem?}
+use Rattle.words.specs.TestBits.{testBits, upFrom}
+use Rattle.model.specs.Limits.{mostViews, mostPartitions}
 use Rattle.model.specs.declared.Policy.{Policy}
-use Rattle.model.proofs.Pad.{pad-get}
 use Rattle.policy_text.specs.Declared.{Declared}
-use Rattle.policy_text.specs.Policy.{viewsAfter, policyValue}
+use Rattle.policy_text.specs.Policy.{viewsWord, policyValue}
+use Rattle.policy_text.specs.Abstract.{grantedAt}
+use Rattle.policy_text.proofs.Grants.{word-back}
 use Rattle.policy_text.proofs.Loaded.{loaded-well-formed}
 use Rattle.validity.specs.Loadable.{Loadable}
 use Rattle.labelling.specs.Text.{LoadedTo}
@@ -22,7 +25,7 @@ module _ {p : Policy} {d : Declared} (l : LoadedTo p d) where
   unfolding policyValue
   partition-count = ap (λ (x : Policy). x .«partition_count») (l .policy)
 
-  pub few-partitions : p .«partition_count» ≤ 32
+  pub few-partitions : p .«partition_count» ≤ mostPartitions
   few-partitions = omega (arith, partition-count, l .good .partitions .few)
 
   -- the session with a bit for each partition
@@ -30,10 +33,9 @@ module _ {p : Policy} {d : Declared} (l : LoadedTo p d) where
   unfolding allOpen
   opens-all e = ap (λ (m : ℕ). record { mask = m }) (e ∙ ap (λ (n : ℕ). 2 ^ n - 1) partition-count)
 
-  -- the word of a partition
-  pub partition-word : (i : ℕ) → getD (p .partitions) i 0 ≡ viewsAfter 0 (getD (d .partitions) i [])
-  unfolding policyValue viewsAfter
-  partition-word i =
-      ap (λ (x : Policy). getD (x .partitions) i 0) (l .policy)
-      ∙ pad-get 32 0 (map (viewsAfter 0) (d .partitions)) i
-      ∙ List·getD-map (viewsAfter 0) (d .partitions) i []
+  -- the views that a partition grants, gathered from the words of all views
+  pub partition-word : (i : ℕ) (ns : List ℕ) → getElem? (d .partitions) i ≡ some ns
+      → testBits (grantedAt (p .grants) i) (upFrom 0 mostViews) ≡ viewsWord ns
+  unfolding policyValue
+  partition-word i ns at =
+      ap (λ (x : Policy). testBits (grantedAt (x .grants) i) (upFrom 0 mostViews)) (l .policy) ∙ word-back (d .partitions) i ns at

@@ -4,14 +4,19 @@ use mathlib.Core.Logic.{_↔_, ⊎-elim}
 use mathlib.Core.Bool.{Bool, true, false, cond}
 use mathlib.Core.List.{List, [], _∷_}
 use Prim.Native.Nat.{ℕ, zero, suc, _+_, _-_, _*_, _/_, _%_, _^_, _≤_, _<_, suc-le-suc, zero-le}
-use native.Mathlib.Nat.{not-suc-le-zero, le-of-suc-le-suc, le-refl, le-step, zero-add, suc-add, pow-suc, lt-of-lt-of-le}
+use native.Mathlib.Nat.{not-suc-le-zero, le-of-suc-le-suc, le-refl, le-step, zero-add, suc-add, pow-suc, lt-of-lt-of-le, lt-of-le-of-lt}
 use native.Mathlib.Omega.{arith}
+use lib.Bits.{bitAnd, and-le-r}
 use lib.Dec.{T}
 use lib.ListN.{length, getD}
 use lib.Pow.{pow-mono}
+use Rattle.theory.proofs.Lists.{place-below, below-place, there}
 use Rattle.theory.specs.Count.{Counts, none-below, one-more, no-more}
 use Rattle.words.specs.Bits.{bit, onesBelow}
-use Rattle.words.proofs.Bits.{bit-zero, bit-cases, bit-half, bit-lowest, bit-beyond}
+use Rattle.words.proofs.Bits.{bit-zero, bit-cases, bit-half, bit-lowest, bit-beyond, same-bits}
+use Rattle.words.specs.TestBits.{testBits}
+use Rattle.words.proofs.Masks.{bit-and-iff}
+use Rattle.words.proofs.TestBits.{tests-bit, tests-below}
 use Rattle.desk.specs.Session.{openCount}
 use Rattle.desk.specs.Deciding.{passing}
 
@@ -59,6 +64,23 @@ module _ (f : List ℕ → Bool) where
   unfolding passing
   passing-below [] mask = omega arith
   passing-below (vs ∷ ps) mask = omega (arith, low-below (f vs) (mask % 2), passing-below ps (mask / 2), pow-suc 2 (length ps))
+
+  -- the open partitions that pass are those of both words
+  pub passing-and : (ps : List (List ℕ)) (mask : ℕ) → bitAnd mask (testBits f ps) ≡ passing f ps mask
+  passing-and ps mask =
+      same-bits (length ps) (bitAnd mask (testBits f ps)) (passing f ps mask)
+      (lt-of-le-of-lt (and-le-r mask (testBits f ps)) (tests-below f ps)) (passing-below ps mask) (λ i.
+      let both = bit-and-iff mask (testBits f ps) i in
+      let k = passing-iff ps mask i in (
+        λ e.
+            let (m, t) = both .0 e in
+            let (vs, at, p) = tests-bit f ps i .0 t in
+            k .1 (place-below ps i at, subst (λ (x : List ℕ). T (f x)) (sym (there ps i [] at)) p, m),
+        λ e.
+            let (l, t, m) = k .0 e in
+            let (vs, at) = below-place ps i l in
+            both .1 (m, tests-bit f ps i .1 (vs, at, subst (λ (x : List ℕ). T (f x)) (there ps i [] at) t)),
+      ))
 
 -- ---- how many
 

@@ -19,7 +19,7 @@ use Rattle.model.proofs.FirstFault.{found-in}
 use Rattle.query_text.specs.Text.{Reading, refused, accepted, read}
 use Rattle.query_text.proofs.Numbers.{read-refuses}
 use Rattle.policy_text.specs.Declared.{Declared}
-use Rattle.policy_text.specs.Policy.{viewsAfter}
+use Rattle.policy_text.specs.Policy.{viewsWord}
 use Rattle.policy_text.specs.Text.{policyNumbers, load}
 use Rattle.policy_text.specs.Text.{Loading as TheLoading, refused as notLoaded, accepted as loadedAs}
 use Rattle.policy_text.proofs.Numbers.{load-refuses}
@@ -127,7 +127,7 @@ under-explaining d n text before =
     by-reading (refused m k) q =
         λ e. List·Memᴰ·tail (List·Memᴰ·tail (Memᴰ·append-left (10 ∷ []) (read-refuses (d .widths) text m k q)))
     by-reading (accepted Q) q =
-        let granted = viewsAfter 0 (getD (d .partitions) (n - 1) []) in
+        let granted = viewsWord (getD (d .partitions) (n - 1) []) in
         either (λ (o : Explained). ExplainingNumber (o .says)) (tooShort before (explained granted (labels (d .views) Q)))
         (λ e. found-in explainingNumbers 10 tt) (λ e. absurd (false≢true (sym e)))
 

@@ -14,7 +14,7 @@ use Rattle.model.proofs.Limits.{up-to-iff}
 use Rattle.query_text.specs.Text.{read, accepted}
 use Rattle.query_text.proofs.Accepted.{accepted-well-read}
 use Rattle.policy_text.specs.Declared.{Declared}
-use Rattle.policy_text.specs.Policy.{viewsAfter}
+use Rattle.policy_text.specs.Policy.{viewsWord}
 use Rattle.labelling.specs.Settled.{settled}
 use Rattle.labelling.proofs.Partitions.{settled-iff-partition}
 use Rattle.explain.specs.Explanation.{explained}
@@ -25,7 +25,7 @@ use Rattle.desk.proofs.Loaded.{loaded-to}
 
 module _ (d : Declared) (n : ℕ) (text before : List ℕ) (Q : Query) (reads : read (d .widths) text ≡ accepted Q) where
   abbrev is-settled : Bool
-  is-settled = settled (viewsAfter 0 (getD (d .partitions) (n - 1) [])) (labels (d .views) Q)
+  is-settled = settled (viewsWord (getD (d .partitions) (n - 1) [])) (labels (d .views) Q)
 
   -- where an explanation is given the partition is one of the policy's, and the reply says whether it settles the query
   abbrev Tells : Explained → Type 0
@@ -38,7 +38,7 @@ module _ (d : Declared) (n : ℕ) (text before : List ℕ) (Q : Query) (reads : 
       go : (b : Bool) → upTo (length (d .partitions)) n ≡ b
           → Tells (cond b (explainReading d n before (accepted Q)) (notExplained before 4 0))
       go true e =
-          either Tells (tooShort before (explained (viewsAfter 0 (getD (d .partitions) (n - 1) [])) (labels (d .views) Q)))
+          either Tells (tooShort before (explained (viewsWord (getD (d .partitions) (n - 1) [])) (labels (d .views) Q)))
           (λ g. absurd (false≢true g)) (λ g. (e, refl))
       go false e = λ g. absurd (false≢true g)
 
@@ -51,8 +51,8 @@ settled-exactly p l n text before r after x given Q reads =
     let u = up-to-iff (length (d .partitions)) n .0 (true-holds there?) in
     let (vs, at) = below-place (d .partitions) (n - 1) (omega (arith, u .0, u .1)) in
     let s = settled-iff-partition d (loaded-to l .good) (n - 1) vs at Q (w .clear) (w .fits) in
-    let same : saidExplaining r .settles ≡ settled (viewsAfter 0 vs) (labels (d .views) Q) =
+    let same : saidExplaining r .settles ≡ settled (viewsWord vs) (labels (d .views) Q) =
     ap (λ (t : SaidExplaining). t .settles) (k .reply)
     ∙ says
-    ∙ ap (λ (l : List ℕ). settled (viewsAfter 0 l) (labels (d .views) Q)) (there (d .partitions) (n - 1) [] at) in
+    ∙ ap (λ (l : List ℕ). settled (viewsWord l) (labels (d .views) Q)) (there (d .partitions) (n - 1) [] at) in
     (λ e. s .0 (true-holds (sym same ∙ e)), λ h. same ∙ sym (holds-true _ (s .1 h)))

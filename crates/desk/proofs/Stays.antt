@@ -14,7 +14,7 @@ use Rattle.model.specs.Limits.{upTo}
 use Rattle.model.specs.declared.Policy.{Policy}
 use Rattle.query_text.specs.Text.{Reading, refused, accepted, read}
 use Rattle.policy_text.specs.Declared.{Declared}
-use Rattle.policy_text.specs.Policy.{viewsAfter}
+use Rattle.policy_text.specs.Policy.{viewsWord}
 use Rattle.validity.specs.Loadable.{Loadable}
 use Rattle.explain.specs.Explanation.{explained}
 use Rattle.desk.specs.declared.opening.Session.{Session}
@@ -97,7 +97,7 @@ under-left d n text before = either (Left before) (upTo (length (d .partitions))
     by-reading : (v : Reading) → Left before (explainReading d n before v)
     by-reading (refused m k) = λ e. refl
     by-reading (accepted Q) =
-        let granted = viewsAfter 0 (getD (d .partitions) (n - 1) []) in
+        let granted = viewsWord (getD (d .partitions) (n - 1) []) in
         either (Left before) (tooShort before (explained granted (labels (d .views) Q))) (λ e. refl) (λ e. absurd (false≢true (sym e)))
 
 pub explaining-buffer-stays : (p : Policy) (n : ℕ) (text before : List ℕ) (r : Explaining) (after : List ℕ)

@@ -9,7 +9,7 @@ use Rattle.model.specs.Limits.{upTo}
 use Rattle.model.specs.declared.Policy.{Policy}
 use Rattle.query_text.specs.Text.{Reading, refused, accepted, read}
 use Rattle.policy_text.specs.Declared.{Declared}
-use Rattle.policy_text.specs.Policy.{viewsAfter}
+use Rattle.policy_text.specs.Policy.{viewsWord}
 use Rattle.validity.specs.Loadable.{Loadable}
 use Rattle.labelling.specs.Settled.{settled}
 use Rattle.explain.specs.Explanation.{explained}
@@ -49,10 +49,10 @@ explainedBy buffer settles ws =
 
 -- the explanation of the text's query for partition n
 unfoldable pub explainReading : Declared → ℕ → List ℕ → Reading → Explained
-unfolding notExplained explainedBy settled explained labels viewsAfter
+unfolding notExplained explainedBy settled explained labels viewsWord
 explainReading d n buffer (refused k line) = notExplained buffer k line
 explainReading d n buffer (accepted Q) =
-    let views = viewsAfter 0 (getD (d .partitions) (n - 1) []) in
+    let views = viewsWord (getD (d .partitions) (n - 1) []) in
     let ws = labels (d .views) Q in explainedBy buffer (settled views ws) (explained views ws)
 
 -- "Then 4 at line 0: no such partition. Then the text"

@@ -4,14 +4,12 @@ use mathlib.Core.List.{List}
 use Prim.Native.Nat.{ℕ, _/_, _^_, _≤_, _<_}
 use lib.ListN.{length}
 use Rattle.theory.specs.Query.{_∈_}
-use Rattle.labelling.specs.Posed.{labelsValue}
-use Rattle.labelling.specs.declared.Labels.{Labels}
+use Rattle.model.specs.Limits.{mostLines}
+use Rattle.labelling.specs.Posed.{wordsValue}
+use Rattle.labelling.specs.declared.Words.{Words}
 
 -- at most eight labels, each with its views in 32 bits
-pub record HoldsLabels (l : Labels) (ws : List ℕ) : Type 0 where
-  pub is : l ≡ labelsValue ws
-  pub few : length ws ≤ 8
+pub record HoldsLabels (l : Words) (ws : List ℕ) : Type 0 where
+  pub is : l ≡ wordsValue ws
+  pub few : length ws ≤ mostLines
   pub narrow : (w : ℕ) → w ∈ ws → w / 2 ^ 32 < 2 ^ 32
-
-abbrev pub SomeLabels : Labels → Type 0
-SomeLabels l = (ws : List ℕ) × HoldsLabels l ws

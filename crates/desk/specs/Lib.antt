@@ -1,7 +1,6 @@
 pub mod Reply
 pub mod Session
 pub mod Opening
-pub mod Settling
 pub mod Deciding
 pub mod Calls
 pub mod Buffer

@@ -4,12 +4,16 @@ ghost use mathlib.Core.Path.{_≡_};
 ghost use mathlib.Core.List.{List, _++_};
 ghost use Prim.Native.Nat.{ℕ, _^_, _≤_, _<_};
 ghost use lib.ListN.{length, getD, take, drop};
-ghost use Rattle.model.specs.Limits.{upTo};
+ghost use Rattle.words.specs.TestBits.{testBits, upFrom};
+ghost use Rattle.model.specs.Limits.{mostViews, mostPartitions, mostLines, upTo};
+ghost use Rattle.policy_text.specs.Abstract.{grantedAt};
 ghost use Rattle.labelling.specs.Settled.{settled};
 ghost use Rattle.explain.specs.Explanation.{explained};
-ghost use Rattle.desk.specs.HoldsLabels.{HoldsLabels, SomeLabels};
+ghost use Rattle.desk.specs.HoldsLabels.{HoldsLabels};
 ghost use Rattle.desk.specs.Explaining.{ExplanationGiven, Explains, explainedBy};
-use labelling::Labels;
+use labelling::Words;
+use model::MOST_LINES;
+use model::MOST_VIEWS;
 use model::Outcome;
 use model::Policy;
 
@@ -30,13 +34,16 @@ pub fn explain(p: Policy, n: u64, text: &[u8], out: &mut [u32]) -> Explaining
     if !is_among(n, p.partition_count as u64) {
         return Explaining::Refused { number: 4, line: 0 };
     }
-    let granted = p.partitions[n as usize - 1];
     let a = labelling::ask(p, text);
     let outcome = a.outcome;
     match outcome {
         Outcome::Accepted => {
             let l = a.labels;
-            give_words(l, granted, out)
+            let w = l.words;
+            let grants = p.grants;
+            let granted = granted_views(grants, n - 1);
+            let is_settled = words::has_bit(l.settling, n - 1);
+            give_words(w, granted, is_settled, out)
         }
         Outcome::Refused { number, line } => Explaining::Refused { number, line },
     }
@@ -49,12 +56,26 @@ fn is_among(n: u64, count: u64) -> bool
     1 <= n && n <= count
 }
 
-// The words for a partition with these granted views at the head of the buffer, or 10.
-fn give_words(l: Labels, granted: u64, out: &mut [u32]) -> Explaining
-    requires { ⌜ SomeLabels l ⌝ }
-    ensures { λ r. ⌜ ((ws : List ℕ) → HoldsLabels l ws → Explains r (now (out .exit)) (explainedBy (now (out .entry)) (settled granted ws) (explained granted ws))) ⌝ }
+// The views that partition i, counted from 0, grants: view n at bit n - 1.
+fn granted_views(grants: [u64; MOST_VIEWS], i: u64) -> u64
+    requires { ⌜ i < mostPartitions ⌝ }
+    ensures { λ r. ⌜ r ≡ testBits (grantedAt grants i) (upFrom 0 mostViews) ⌝ }
 {
-    let is_settled = labelling::settles(l, granted);
+    let mut word = 0;
+    let mut k = 0;
+    while k < MOST_VIEWS {
+        let on = words::has_bit(grants[k], i);
+        word = words::set_bit_if(word, k as u64, on);
+        k += 1;
+    }
+    word
+}
+
+// The words for a partition with these granted views, which settles the query or not, at the head of the buffer, or 10.
+fn give_words(l: Words, granted: u64, is_settled: bool, out: &mut [u32]) -> Explaining
+    requires { ⌜ ((ws : List ℕ) × HoldsLabels l ws × («is_settled» ≡ settled granted ws)) ⌝ }
+    ensures { λ r. ⌜ ((ws : List ℕ) → HoldsLabels l ws → «is_settled» ≡ settled granted ws → Explains r (now (out .exit)) (explainedBy (now (out .entry)) (settled granted ws) (explained granted ws))) ⌝ }
+{
     let w = explain::words_of(l, granted, is_settled);
     let count = w.count;
     if out.len() < count {
@@ -76,8 +97,8 @@ fn give_words(l: Labels, granted: u64, out: &mut [u32]) -> Explaining
 }
 
 // The first words, each of 32 bits, at the head of the buffer; numbers past them stay.
-fn write_words(words: [u64; 8], count: usize, out: &mut [u32])
-    requires { ⌜ (count ≤ 8) × (count ≤ length (now out)) × ((i : ℕ) → getD words i 0 < 2 ^ 32) ⌝ }
+fn write_words(words: [u64; MOST_LINES], count: usize, out: &mut [u32])
+    requires { ⌜ (count ≤ mostLines) × (count ≤ length (now out)) × ((i : ℕ) → getD words i 0 < 2 ^ 32) ⌝ }
     ensures { λ _. ⌜ now (out .exit) ≡ take count words ++ drop count (now (out .entry)) ⌝ }
 {
     let mut i = 0;

@@ -18,4 +18,5 @@ pub use listing::Listing;
 pub use listing::labels;
 pub use opening::Opening;
 pub use opening::Session;
+pub use opening::open_loaded;
 pub use opening::open_session;

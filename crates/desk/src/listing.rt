@@ -4,9 +4,11 @@ ghost use mathlib.Core.Path.{_≡_};
 ghost use mathlib.Core.List.{List, _++_};
 ghost use Prim.Native.Nat.{ℕ, _≤_};
 ghost use lib.ListN.{length, take, drop};
-ghost use Rattle.labelling.specs.Posed.{labelsValue};
+ghost use Rattle.model.specs.Limits.{mostLines};
+ghost use Rattle.labelling.specs.Posed.{wordsValue};
 ghost use Rattle.desk.specs.Listing.{LabelsGiven, Lists, listed};
-use labelling::Labels;
+use labelling::Words;
+use model::MOST_LINES;
 use model::Outcome;
 use model::Policy;
 
@@ -28,16 +30,17 @@ pub fn labels(p: Policy, text: &[u8], out: &mut [u64]) -> Listing
     match outcome {
         Outcome::Accepted => {
             let l = a.labels;
-            give_labels(l, out)
+            let w = l.words;
+            give_labels(w, out)
         }
         Outcome::Refused { number, line } => Listing::Refused { number, line },
     }
 }
 
 // The labels at the head of the buffer, or 10.
-fn give_labels(l: Labels, out: &mut [u64]) -> Listing
-    requires { ⌜ l .count ≤ 8 ⌝ }
-    ensures { λ r. ⌜ ((ws : List ℕ) → l ≡ labelsValue ws → Lists r (now (out .exit)) (listed (now (out .entry)) ws)) ⌝ }
+fn give_labels(l: Words, out: &mut [u64]) -> Listing
+    requires { ⌜ l .count ≤ mostLines ⌝ }
+    ensures { λ r. ⌜ ((ws : List ℕ) → l ≡ wordsValue ws → Lists r (now (out .exit)) (listed (now (out .entry)) ws)) ⌝ }
 {
     let count = l.count;
     if out.len() < count {
@@ -54,8 +57,8 @@ fn give_labels(l: Labels, out: &mut [u64]) -> Listing
 }
 
 // The first words at the head of the buffer; numbers past them stay.
-fn copy_words(words: [u64; 8], count: usize, out: &mut [u64])
-    requires { ⌜ (count ≤ 8) × (count ≤ length (now out)) ⌝ }
+fn copy_words(words: [u64; MOST_LINES], count: usize, out: &mut [u64])
+    requires { ⌜ (count ≤ mostLines) × (count ≤ length (now out)) ⌝ }
     ensures { λ _. ⌜ now (out .exit) ≡ take count words ++ drop count (now (out .entry)) ⌝ }
 {
     let mut i = 0;

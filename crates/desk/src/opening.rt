@@ -1,6 +1,13 @@
 // Opening a session.
 
-ghost use Rattle.desk.specs.Opening.{Opened};
+ghost use mathlib.Core.Path.{_≡_};
+ghost use lib.ListN.{length};
+ghost use Rattle.model.specs.declared.Tables.{Tables};
+ghost use Rattle.policy_text.specs.Declared.{Declared};
+ghost use Rattle.covering.specs.Prepared.{preparedLong};
+ghost use Rattle.labelling.specs.Posed.{Ready};
+ghost use Rattle.desk.specs.Opening.{allOpen, Opened};
+use covering::Prepared;
 use model::Outcome;
 use model::Policy;
 
@@ -29,4 +36,14 @@ pub fn open_session(p: Policy) -> Opening
         mask: words::low_bits(p.partition_count as u64),
     };
     Opening { outcome, session }
+}
+
+// The session that opening gives under a policy that is known to be loaded, by what is prepared of it.
+pub fn open_loaded(r: &Prepared) -> Session
+    requires { ⌜ length (now r) ≡ preparedLong ⌝ }
+    ensures { λ s. ⌜ ((d : Declared) (tables : Tables) → Ready d tables (now (r .entry)) → s ≡ allOpen d) ⌝ }
+{
+    Session {
+        mask: covering::every_partition(r),
+    }
 }

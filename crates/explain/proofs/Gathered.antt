@@ -9,14 +9,14 @@ use lib.Dec.{eqb}
 use lib.ListN.{length, getD, drop, drop-of-length-le}
 use Rattle.theory.specs.Executable.Test.{any}
 use Rattle.words.specs.Sets.{meet}
-use Rattle.labelling.specs.Posed.{labelsValue}
+use Rattle.labelling.specs.Posed.{wordsValue}
+use Rattle.labelling.specs.declared.Words.{Words}
 use Rattle.labelling.specs.Settled.{holdsOne}
-use Rattle.labelling.specs.declared.Labels.{Labels}
 use Rattle.explain.specs.Explanation.{viewsOf, keep, insert, ascending, distinct, exceeds, least, lacking}
 use Rattle.explain.proofs.Distinct.{distinct-more}
 use Rattle.explain.proofs.Lacking.{passes, keep-lacking}
 use Rattle.explain.proofs.Search.{from-place}
-use Rattle.explain.proofs.Value.{labels-count, label-is}
+use Rattle.explain.proofs.Value.{count-is, word-is}
 
 module _ (granted : ℕ) (ws : List ℕ) where
   -- of the labels from place i on, the granted views
@@ -51,11 +51,11 @@ before-place ws i some h =
     let back : i - 1 + 1 ≡ i = omega arith in
     from-place ws (i - 1) 0 (omega arith) ∙ ap (λ (k : ℕ). getD ws (i - 1) 0 ∷ drop k ws) back
 
-module _ (granted : ℕ) (l : Labels) (ws : List ℕ) (e : l ≡ labelsValue ws) where
+module _ (granted : ℕ) (l : Words) (ws : List ℕ) (e : l ≡ wordsValue ws) where
   -- ---- past the last label
 
   none-left : drop (l .count) ws ≡ []
-  none-left = drop-of-length-le ws {i = l .count} (omega (arith, labels-count l ws e))
+  none-left = drop-of-length-le ws {i = l .count} (omega (arith, count-is l ws e))
 
   pub granted-none : grantedFrom granted ws (l .count) ≡ []
   unfolding grantedFrom
@@ -71,15 +71,15 @@ module _ (granted : ℕ) (l : Labels) (ws : List ℕ) (e : l ≡ labelsValue ws)
       → passes granted f (getD ws i 0) ≡ (not (meet 64 views granted) && f views)
   unfolding holdsOne viewsOf
   label-passes f i views v =
-      sym (ap (λ (x : ℕ). not (meet 64 x granted) && f x) (v ∙ ap (λ (w : ℕ). w / 2 ^ 32) (label-is l ws e i)))
+      sym (ap (λ (x : ℕ). not (meet 64 x granted) && f x) (v ∙ ap (λ (w : ℕ). w / 2 ^ 32) (word-is l ws e i)))
 
   module _ (i views : ℕ) (some : 0 < i) (h : i ≤ l .count) (v : views ≡ getD (l .words) (i - 1) 0 / 2 ^ 32) where
     views-are : viewsOf (getD ws (i - 1) 0) ≡ views
     unfolding viewsOf
-    views-are = sym (v ∙ ap (λ (w : ℕ). w / 2 ^ 32) (label-is l ws e (i - 1)))
+    views-are = sym (v ∙ ap (λ (w : ℕ). w / 2 ^ 32) (word-is l ws e (i - 1)))
 
     one-more : drop (i - 1) ws ≡ getD ws (i - 1) 0 ∷ drop i ws
-    one-more = before-place ws i some (omega (arith, labels-count l ws e))
+    one-more = before-place ws i some (omega (arith, count-is l ws e))
 
     pub granted-more : grantedFrom granted ws (i - 1) ≡ insert (bitAnd views granted) (grantedFrom granted ws i)
     unfolding grantedFrom

@@ -6,7 +6,7 @@ use Rattle.theory.specs.Query.{constant, shown, hidden, Line, Query}
 use Rattle.theory.specs.Executable.Label.{labels}
 use Rattle.theory.specs.Printed.{view2, view4, query1, query4, query6}
 use Rattle.theory.specs.Printed.{views as exampleViews}
-use Rattle.policy_text.specs.Policy.{viewsAfter}
+use Rattle.policy_text.specs.Policy.{viewsWord}
 use Rattle.labelling.specs.Settled.{settled}
 use Rattle.explain.specs.Explanation.{explained}
 
@@ -17,9 +17,9 @@ pub record Explanation : Type 0 where
 
 -- "For a query and a partition", which is the numbers of its views
 unfoldable pub explanation : List Line → List ℕ → Query → Explanation
-unfolding labels viewsAfter settled explained
+unfolding labels viewsWord settled explained
 explanation views partition Q =
-    let granted = viewsAfter 0 partition in
+    let granted = viewsWord partition in
     let ws = labels views Q in record { settles = settled granted ws; words = explained granted ws }
 
 -- a query and a partition of these views, and what the explanation should be

@@ -1,7 +1,7 @@
--- The labels of a query, one by one, and the test of a partition.
+-- The labels of a query, one by one, and the partitions that settle it.
 pub mod Lines
+pub mod Written
 pub mod Posing
 pub mod Readings
-pub mod Words
--- What the test means.
+-- What settling means.
 pub mod Partitions

@@ -1,46 +1,56 @@
--- Labelling the lines left of a query one by one.
+-- A line of a query in its row: its table and width, the partitions that answer it, and the rows of a query shown.
 use mathlib.Core.Path.{_≡_, refl, sym, ap, _∙_, subst}
-use mathlib.Core.Bool.{true, false}
-use mathlib.Core.List.{List, [], map, map-map, map-append, append-nil, Memᴰ·of-map}
+use mathlib.Core.Logic.{_↔_}
+use mathlib.Core.Bool.{true}
+use mathlib.Core.List.{List, [], Memᴰ·map, Memᴰ·of-map}
+use mathlib.Core.Option.{some, Option·some-injective}
 use Prim.Native.Nat.{ℕ, _+_, _-_, _≤_, _<_}
 use native.Mathlib.Omega.{arith}
-use lib.ListN.{length, take, getD, set, length-map, length-append}
-use lib.Seq.{take-all}
+use lib.Dec.{T}
+use lib.ListN.{length, getD, getElem?}
 use borrow.Author.Tests.{eqb-true}
-use Rattle.theory.specs.Query.{Term, Line, Query, Fits, over}
+use Rattle.theory.specs.Query.{Term, Line, Query, Fits, over, _∈_}
+use Rattle.theory.specs.Cover.{Covers}
+use Rattle.theory.specs.Executable.Cover.{covers}
 use Rattle.theory.specs.Archive.{AllFit}
-use Rattle.theory.specs.Executable.Label.{label}
 use Rattle.theory.specs.Executable.Reduce.{reduce}
 use Rattle.theory.specs.Executable.Show.{showTerm, show}
+use Rattle.theory.proofs.Lists.{at-place, place-below, below-place, there}
+use Rattle.theory.proofs.Executable.Test.{any-iff}
+use Rattle.theory.proofs.Executable.Cover.{covers-iff}
 use Rattle.theory.proofs.Reduce.{reduced-subset}
 use Rattle.theory.proofs.Executable.Reduce.{reduce-reduces}
 use Rattle.theory.proofs.Tuples.{getD-mem, fits-over}
-use Rattle.words.specs.Bits.{isSet}
-use Rattle.model.specs.Limits.{mostTables, mostViews}
+use Rattle.words.specs.Bits.{bit, isSet}
+use Rattle.model.specs.Limits.{mostTables, mostColumns, mostViews}
 use Rattle.model.specs.Checks.{wide}
 use Rattle.model.specs.Rows.{laidTable, LaidAt}
-use Rattle.model.specs.Value.{pad, lineValue}
+use Rattle.model.specs.Value.{lineValue}
 use Rattle.model.specs.declared.Tables.{Tables}
 use Rattle.model.specs.declared.Query.{Query as QueryValue}
-use Rattle.model.proofs.Pad.{pad-more}
 use Rattle.policy_text.specs.Declared.{Declared}
 use Rattle.model.proofs.Limits.{up-to-iff}
-use Rattle.covering.specs.Labelled.{Labelled}
+use Rattle.policy_text.proofs.Grants.{grants-bit, good-below}
+use Rattle.covering.specs.Labelled.{Labelled, Reached}
 use Rattle.reduce.specs.Agree.{lineAt}
-use Rattle.reduce.specs.Left.{pick, linesAt}
+use Rattle.reduce.specs.Left.{linesAt}
 use Rattle.reduce.specs.Laid.{Laid}
 use Rattle.reduce.specs.Showing.{SharedWord, showValue, showLine, ShownRows}
 use Rattle.reduce.proofs.Left.{in-lines, lines-subset}
-use Rattle.reduce.proofs.Lines.{laid-few, left-more}
+use Rattle.reduce.proofs.Lines.{laid-few}
 use Rattle.reduce.proofs.Shown.{shownBy, line-value, line-shown}
 use Rattle.reduce.proofs.ShownTerms.{shown-term}
-use Rattle.labelling.specs.Posed.{Ready, LineOf, Posed, Rows, labelsValue}
-use Rattle.labelling.specs.declared.Labels.{Labels}
+use Rattle.labelling.specs.Posed.{Ready, LineOf, Posed, Rows}
+use Rattle.labelling.specs.Settled.{granted, answers, Answering}
 
 -- ---- a line
 
+pub line-there : (views : List Line) (k : ℕ) {v : Line} → getElem? views k ≡ some v → lineAt views k ≡ v
+unfolding lineAt
+line-there views k e = there views k _ e
+
 -- its table, as it was read from its row
-module _ {d : Declared} {tables : Tables} {masks views : List ℕ} (ready : Ready d tables masks views) {lines : List ℕ} {i : ℕ} {A : Line}
+module _ {d : Declared} {tables : Tables} {r : List ℕ} (ready : Ready d tables r) {lines : List ℕ} {i : ℕ} {A : Line}
     (l : LineOf d lines i A) {table : ℕ} (read : table ≡ laidTable lines i) where
   table-is : table ≡ A .table
   unfolding lineValue
@@ -49,19 +59,18 @@ module _ {d : Declared} {tables : Tables} {masks views : List ℕ} (ready : Read
   pub first-table : 1 ≤ table
   first-table = rw table-is (l .fits .first)
 
-  pub last-table : table ≤ 16
+  pub last-table : table ≤ mostTables
   last-table = rw table-is (omega (arith, l .fits .last, ready .good .tables .few))
 
   width-is : getD (d .widths) (table - 1) 0 ≡ length (A .columns)
   width-is = ap (λ (t : ℕ). getD (d .widths) (t - 1) 0) table-is ∙ sym (l .fits .width)
 
-  pub narrow : getD (d .widths) (table - 1) 0 ≤ 8
+  pub narrow : getD (d .widths) (table - 1) 0 ≤ mostColumns
   narrow =
       let m = getD-mem (d .widths) (table - 1) 0 (omega (arith, first-table, table-is, l .fits .last)) in
-      up-to-iff 8 _ .0 (ready .good .tables .each _ m) .1
+      up-to-iff mostColumns _ .0 (ready .good .tables .each _ m) .1
 
-  pub line-labelled : (width : ℕ) → width ≡ getD (d .widths) (table - 1) 0
-      → Labelled views (getD masks table 0) width lines i (d .views) A
+  pub line-labelled : (width : ℕ) → width ≡ getD (d .widths) (table - 1) 0 → Labelled r width lines i (d .views) A
   unfolding wide
   line-labelled width w =
       record {
@@ -73,6 +82,45 @@ module _ {d : Declared} {tables : Tables} {masks views : List ℕ} (ready : Read
         viewWidths = λ v m e.
             ready .good .views .each v m .fits .width ∙ ap (λ (t : ℕ). getD (d .widths) (t - 1) 0) (e ∙ sym table-is) ∙ sym w;
       }
+
+-- a partition grants a view that covers the line exactly when one of its views does
+pub answering : {d : Declared} {tables : Tables} {r : List ℕ} {A : Line} {w : ℕ} → Ready d tables r → Reached r (d .views) A w → Answering d A w
+unfolding granted
+answering {d} {r = r} {A} {w} ready reached = record { bits = each } where
+  covered : (ns : List ℕ) (k : ℕ) (v : Line) → getElem? (d .views) k ≡ some v → Covers v A → k + 1 ∈ ns → T (answers (d .views) A ns)
+  covered ns k v at c m =
+      let back : k + 1 - 1 ≡ k = omega arith in
+      let here : lineAt (d .views) (k + 1 - 1) ≡ v = rw back (line-there (d .views) k at) in
+      any-iff (λ v. covers v A) (granted (d .views) ns) .1 (
+        lineAt (d .views) (k + 1 - 1),
+        Memᴰ·map (λ n. lineAt (d .views) (n - 1)) m,
+        covers-iff _ A .1 (subst (λ (u : Line). Covers u A) (sym here) c),
+      )
+
+  each : (i : ℕ) (ns : List ℕ) → getElem? (d .partitions) i ≡ some ns → (bit w i ≡ 1) ↔ T (answers (d .views) A ns)
+  each i ns at = (
+    λ e.
+        let (k, v, there, c, g) = reached i .0 e in
+        let b = place-below (d .views) k there in
+        let word = ready .grant k (omega (arith, b, ready .good .views .few)) in
+        let (ms, same, m) = grants-bit (d .partitions) (k + 1) i .0 (ap (λ (x : ℕ). bit x i) (sym word) ∙ g) in
+        covered ns k v there c (subst (λ (l : List ℕ). k + 1 ∈ l) (Option·some-injective ms ns (sym same ∙ at)) m),
+    λ t.
+        let (v, m, c) = any-iff (λ v. covers v A) (granted (d .views) ns) .0 t in
+        let (n, j, e) = Memᴰ·of-map (λ n. lineAt (d .views) (n - 1)) ns m in
+        let (from, to) = good-below (length (d .views)) ns (ready .good .partitions .each ns (at-place (d .partitions) i at)) n j in
+        let (u, there) = below-place (d .views) (n - 1) (omega (arith, from, to)) in
+        let next : n - 1 + 1 ≡ n = omega (arith, from) in
+        let word = ready .grant (n - 1) (omega (arith, from, to, ready .good .views .few)) in
+        let granted = grants-bit (d .partitions) (n - 1 + 1) i .1 (ns, at, rw next j) in
+        reached i .1 (
+          n - 1,
+          u,
+          there,
+          subst (λ (x : Line). Covers x A) (sym e ∙ line-there (d .views) (n - 1) there) (covers-iff v A .0 c),
+          ap (λ (x : ℕ). bit x i) word ∙ granted,
+        ),
+  )
 
 -- ---- the lines of a query, shown
 
@@ -94,7 +142,7 @@ module _ {d : Declared} {Q : Query} {w : ℕ} {lines : List ℕ} (r : Rows d Q w
     fits = fits-over f (lineAt Q i) (r .fits (lineAt Q i) (getD-mem Q i _ h));
   }
 
-  few : length (lineAt Q i .columns) ≤ 8
+  few : length (lineAt Q i .columns) ≤ mostColumns
   unfolding lineAt
   few = r .columns (lineAt Q i) (getD-mem Q i (record { table = 0; columns = [] }) h)
 
@@ -128,41 +176,3 @@ rows-shown {Q = Q} n w e g laid s = record {
             ∙ sym (shown-term w (lineAt Q i) (laid-few laid i h) p b);
       };
 }
-
--- ---- the words, one by one
-
--- the words of the lines R, and how many they are
-pub record Written (f : Line → ℕ) (R : Query) (words : List ℕ) (count : ℕ) : Type 0 where
-  pub are : words ≡ pad 8 0 (map f R)
-  pub many : count ≡ length R
-
-pub written-none : (f : Line → ℕ) → Written f [] (pad 8 0 []) 0
-written-none f = record { are = refl; many = refl }
-
-module _ {f : Line → ℕ} (left : ℕ) (Q : Query) (i : ℕ) {words : List ℕ} {count : ℕ} (w : Written f (pick (isSet left) (take i Q)) words count)
-    (h : i < length Q) where
-  -- the line at the place is left
-  pub written-more : isSet left i ≡ true → count < 8 → Written f (pick (isSet left) (take (i + 1) Q)) (set words count (f (lineAt Q i))) (count + 1)
-  written-more e room =
-      let R = pick (isSet left) (take i Q) in
-      let many : count ≡ length (map f R) = w .many ∙ sym (length-map R f) in
-      rw (left-more left Q i h, e)
-      (record {
-        are = rw (w .are, many, map-append) (pad-more 8 0 (map f R) (f (lineAt Q i)) (omega arith));
-        many = rw (w .many, length-append);
-      })
-
-  -- it is not
-  pub written-same : isSet left i ≡ false → Written f (pick (isSet left) (take (i + 1) Q)) words count
-  written-same e = rw (left-more left Q i h, e, append-nil (pick (isSet left) (take i Q))) w
-
-pub written-all : (views : List Line) (left : ℕ) (Q : Query) (i count : ℕ) (words : List ℕ) → length Q ≤ i
-    → Written (λ A. label views (over (showTerm (linesAt left Q)) A)) (pick (isSet left) (take i Q)) words count
-    → _≡_ {A = Labels} (record { count = count; words = words }) (labelsValue (map (label views) (show (linesAt left Q))))
-unfolding labelsValue show linesAt
-written-all views left Q i count words h w =
-    let R = pick (isSet left) Q in
-    let f : Line → ℕ = λ A. label views (over (showTerm R) A) in
-    let v : Written f R words count = rw (take-all i Q h) at w in
-    let same : map f R ≡ map (label views) (map (over (showTerm R)) R) = sym (map-map (label views) (over (showTerm R)) R) in
-    λ k. record { count = (v .many ∙ sym (length-map R f) ∙ ap length same) k; words = (v .are ∙ ap (pad 8 0) same) k }

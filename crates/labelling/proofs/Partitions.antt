@@ -1,5 +1,5 @@
 -- Known views settle a query, by covering and by its labels, exactly when they determine it; so does a partition of the policy.
-use mathlib.Core.Path.{_≡_, refl, sym, ap, ap₂, subst, _∙_}
+use mathlib.Core.Path.{_≡_, refl, sym, ap, subst, _∙_}
 use mathlib.Core.Logic.{_↔_, Iff·trans}
 use mathlib.Core.Bool.{Bool, _&&_}
 use mathlib.Core.List.{List, [], _∷_, map, List·Memᴰ·head, List·Memᴰ·tail, Memᴰ·map, Memᴰ·of-map}
@@ -17,7 +17,7 @@ use Rattle.theory.specs.Executable.Reduce.{reduce}
 use Rattle.theory.specs.Executable.Show.{show}
 use Rattle.theory.specs.Executable.Label.{viewBits, label, labels, settles}
 use Rattle.theory.proofs.Lists.{at-place, below-place, there}
-use Rattle.theory.proofs.Executable.Test.{same-test, any-iff}
+use Rattle.theory.proofs.Executable.Test.{same-test, any-iff, all-map, all-same}
 use Rattle.theory.proofs.Executable.Cover.{covers-iff}
 use Rattle.theory.proofs.Executable.Label.{viewBits-bit}
 use Rattle.theory.proofs.Determine.{settles-iff-determines, no-view-determines}
@@ -35,19 +35,7 @@ use Rattle.policy_text.proofs.Grants.{word-bit, good-below}
 use Rattle.words.proofs.Answers.{true-holds, holds-true}
 use Rattle.reduce.specs.Agree.{lineAt}
 use Rattle.labelling.specs.Settled.{holdsOne, settled, granted, Known, Numbered}
-use Rattle.labelling.proofs.Lines.{shown-fits}
-
--- ---- tests on lists
-
-all-map : {X Y : Type 0} (f : Y → Bool) (g : X → Y) (l : List X) → all f (map g l) ≡ all (λ x. f (g x)) l
-unfolding all
-all-map f g [] = refl
-all-map f g (x ∷ l) = ap (λ (b : Bool). f (g x) && b) (all-map f g l)
-
-all-same : {X : Type 0} (f g : X → Bool) (l : List X) → ((x : X) → x ∈ l → f x ≡ g x) → all f l ≡ all g l
-unfolding all
-all-same f g [] h = refl
-all-same f g (x ∷ l) h = ap₂ (λ (a b : Bool). a && b) (h x (List·Memᴰ·head refl)) (all-same f g l (λ y m. h y (List·Memᴰ·tail m)))
+use Rattle.labelling.proofs.Lines.{line-there, shown-fits}
 
 -- ---- one label
 
@@ -65,10 +53,6 @@ module _ (views : List Line) (ns : List ℕ) (few : length views ≤ mostViews) 
   unfolding label
   high = high-part 32 (viewBits views A) small
 
-  line-there : (k : ℕ) {v : Line} → getElem? views k ≡ some v → lineAt views k ≡ v
-  unfolding lineAt
-  line-there k e = there views k _ e
-
   holds-granted : meet 64 (label views A / 2 ^ 32) (viewsWord ns) ≡ any (λ v. covers v A) (granted views ns)
   unfolding granted
   holds-granted =
@@ -77,7 +61,7 @@ module _ (views : List Line) (ns : List ℕ) (few : length views ≤ mostViews) 
       let (k, _, x, y) = meet-iff 64 (label views A / 2 ^ 32) (viewsWord ns) .0 (sym (holds-true _ t)) in
       let (v, at, c) = viewBits-bit views A k .0 (sym (ap (λ (w : ℕ). bit w k) high) ∙ x) in
       let m = listed (k + 1) (omega arith) .0 (ap (λ (i : ℕ). bit (viewsWord ns) i) (omega arith) ∙ y) in
-      let e = line-there (k + 1 - 1) (ap (getElem? views) (omega arith) ∙ at) in
+      let e = line-there views (k + 1 - 1) (ap (getElem? views) (omega arith) ∙ at) in
       any-iff (λ v. covers v A) (granted views ns) .1 (
         lineAt views (k + 1 - 1),
         Memᴰ·map (λ v. lineAt views (v - 1)) m,
@@ -88,7 +72,7 @@ module _ (views : List Line) (ns : List ℕ) (few : length views ≤ mostViews) 
       let (n, i, e) = Memᴰ·of-map (λ v. lineAt views (v - 1)) ns m in
       let (from, to) = known n i in
       let (u, at) = below-place views (n - 1) (omega (arith, from, to)) in
-      let covered = subst (λ (w : Line). Covers w A) (sym e ∙ line-there (n - 1) at) (covers-iff v A .0 c) in
+      let covered = subst (λ (w : Line). Covers w A) (sym e ∙ line-there views (n - 1) at) (covers-iff v A .0 c) in
       true-holds (meet-iff 64 (label views A / 2 ^ 32) (viewsWord ns) .1 (
         n - 1,
         omega (arith, to, few),
@@ -189,7 +173,7 @@ module _ (d : Declared) (good : WellFormed d) (n : ℕ) (vs : List ℕ) (at : ge
     pub settles-iff-partition : T (settles (granted (d .views) vs) Q) ↔ PartitionDetermines d n Q
     settles-iff-partition = Iff·trans (settles-iff-numbered (d .views) vs known (d .widths) Q clear fits) (determines-numbered Q)
 
-    pub settled-iff-partition : T (settled (viewsAfter 0 vs) (labels (d .views) Q)) ↔ PartitionDetermines d n Q
+    pub settled-iff-partition : T (settled (viewsWord vs) (labels (d .views) Q)) ↔ PartitionDetermines d n Q
     settled-iff-partition = Iff·trans (settled-iff-numbered d good vs known Q clear fits) (determines-numbered Q)
 
 -- "A partition may list no view": it determines no query

@@ -1,10 +1,10 @@
 -- What a loaded policy and a query text that reading accepts under its tables give to label.
-use mathlib.Core.Path.{_≡_, ap}
+use mathlib.Core.Path.{_≡_, ap, _∙_}
 use mathlib.Core.List.{List, map}
-use Prim.Native.Nat.{ℕ, _≤_}
+use Prim.Native.Nat.{ℕ, _+_, _-_, _^_, _≤_, _<_}
 use native.Mathlib.Omega.{arith}
 use lib.Dec.{leb→le}
-use lib.ListN.{length, length-map}
+use lib.ListN.{length, getD, length-map}
 use native.Mathlib.Nat.{le-refl}
 use Rattle.theory.specs.Query.{Query, hidden, over, _∈_}
 use Rattle.theory.specs.Query.{Line as TheLine}
@@ -16,7 +16,7 @@ use Rattle.theory.specs.Executable.Label.{label, labels}
 use Rattle.theory.proofs.Lists.{length-without}
 use Rattle.theory.proofs.Executable.Reduce.{reduce-reduces}
 use Rattle.theory.proofs.Executable.Test.{and-iff, all-iff}
-use Rattle.model.specs.Limits.{mostTables, mostColumns, mostViews, upTo, termWithin, lineWithin}
+use Rattle.model.specs.Limits.{mostTables, mostColumns, mostViews, mostPartitions, mostLines, lastVariable, upTo, termWithin, lineWithin}
 use Rattle.model.specs.Value.{queryValue, tablesValue}
 use Rattle.model.specs.declared.Policy.{Policy}
 use Rattle.model.specs.declared.Query.{Query as QueryValue}
@@ -26,9 +26,11 @@ use Rattle.query_text.specs.WellRead.{WellRead}
 use Rattle.query_text.proofs.Accepted.{accepted-well-read}
 use Rattle.policy_text.specs.Declared.{Declared}
 use Rattle.policy_text.specs.WellFormed.{WellFormed}
-use Rattle.policy_text.specs.Policy.{policyValue}
+use Rattle.policy_text.specs.Policy.{grantsOf, policyValue}
 use Rattle.model.proofs.Limits.{up-to-iff}
-use Rattle.covering.specs.Labelled.{Holds, TableMasks, ViewsLaid}
+use Rattle.policy_text.proofs.Grants.{grants-at}
+use Rattle.covering.specs.Views.{Holds}
+use Rattle.covering.specs.Prepared.{Prepared}
 use Rattle.reduce.specs.Showing.{Small}
 use Rattle.labelling.specs.Posed.{Ready, Posed}
 use Rattle.labelling.specs.Text.{LoadedTo}
@@ -38,7 +40,7 @@ small-read : {widths : List ℕ} {Q : Query} → WellRead widths Q → Small Q
 unfolding lineWithin termWithin
 small-read w n A i m =
     let t = all-iff termWithin (A .columns) .0 (and-iff (upTo mostTables (A .table)) (all termWithin (A .columns)) .0 (w .within A i) .1) (hidden n) m in
-    omega (arith, leb→le n 63 t)
+    omega (arith, leb→le n lastVariable t)
 
 pub tables-of : {p : Policy} {d : Declared} → LoadedTo p d → p .tables ≡ tablesValue (d .widths)
 unfolding policyValue
@@ -48,26 +50,38 @@ holds : {p : Policy} {d : Declared} → LoadedTo p d → Holds p (d .views)
 unfolding policyValue
 holds l = record { few = l .good .views .few; is = ap (λ (x : Policy). x .views) (l .policy) }
 
+few-partitions : {p : Policy} {d : Declared} → LoadedTo p d → p .«partition_count» ≡ length (d .partitions)
+unfolding policyValue
+few-partitions l = ap (λ (x : Policy). x .«partition_count») (l .policy)
+
+-- a loaded policy has no more partitions than a word has room for
+pub counted : {p : Policy} {d : Declared} → LoadedTo p d → p .«partition_count» ≤ mostPartitions
+counted l = rw (few-partitions l) (l .good .partitions .few)
+
+grants-are : {p : Policy} {d : Declared} → LoadedTo p d → (k : ℕ) → k < mostViews → getD (p .grants) k 0 ≡ grantsOf (d .partitions) (k + 1)
+unfolding policyValue
+grants-are {d = d} l k h = ap (λ (x : Policy). getD (x .grants) k 0) (l .policy) ∙ grants-at (d .partitions) k h
+
 -- what is made of a loaded policy once
-pub ready : {p : Policy} {d : Declared} {masks rows : List ℕ} → LoadedTo p d → TableMasks p masks → ViewsLaid p rows
-    → Ready d (p .tables) masks rows
-ready {d = d} l masks views =
+pub ready : {p : Policy} {d : Declared} {r : List ℕ} → LoadedTo p d → Prepared p r → Ready d (p .tables) r
+ready {d = d} l made =
     let held = holds l in
     record {
       good = l .good;
       tablesAre = tables-of l;
-      masksLong = masks .long;
-      below = λ table h. masks .mask table h .below;
-      bits = λ table first h. masks .mask table h .bits first (d .views) held;
-      rowsLong = views .long;
-      laid = views .laid (d .views) held;
+      long = made .long;
+      laid = made .laid (d .views) held;
+      below = λ t h. made .table t h .below;
+      bits = λ t first h. made .table t h .bits first (d .views) held;
+      grant = λ k h. made .grant k h ∙ grants-are l k h;
+      every = made .every ∙ ap (λ (n : ℕ). 2 ^ n - 1) (few-partitions l);
     }
 
 pub posed : {q : QueryValue} (d : Declared) (text : List ℕ) (Q : Query) → WellFormed d → read (d .widths) text ≡ accepted Q
     → q ≡ queryValue Q → Posed q d Q
 posed d text Q good e holds =
     let w = accepted-well-read (d .widths) text Q e in
-    let narrow : (n : ℕ) → n ∈ d .widths → n ≤ 8 = λ n i. up-to-iff mostColumns n .0 (good .tables .each n i) .1 in
+    let narrow : (n : ℕ) → n ∈ d .widths → n ≤ mostColumns = λ n i. up-to-iff mostColumns n .0 (good .tables .each n i) .1 in
     record {
       query = record { is = holds; lines = w .few; columns = λ A i. few-terms (d .widths) narrow A (w .fits A i) };
       small = small-read w;
@@ -80,7 +94,7 @@ reduced-length : {Q R : Query} → ReducesTo Q R → length R ≤ length Q
 reduced-length (done {Q = P} r) = le-refl (length P)
 reduced-length (take-out {Q = P} i g r) = omega (arith, reduced-length r, length-without i P (g .0))
 
-pub few-labels : (views : List TheLine) (widths text : List ℕ) (Q : Query) → read widths text ≡ accepted Q → length (labels views Q) ≤ 8
+pub few-labels : (views : List TheLine) (widths text : List ℕ) (Q : Query) → read widths text ≡ accepted Q → length (labels views Q) ≤ mostLines
 unfolding labels show
 few-labels views widths text Q e =
     let w = accepted-well-read widths text Q e in

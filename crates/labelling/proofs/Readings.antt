@@ -1,11 +1,11 @@
 -- How a reading ended, by the tag of its outcome.
 use mathlib.Core.Path.{_≡_, refl, sym, ap, subst, _∙_}
-use mathlib.Core.List.{List, [], _∷_}
+use mathlib.Core.List.{[], _∷_}
 use Prim.Native.Nat.{ℕ}
 use native.Mathlib.Omega.{arith}
 use denote.Enum.Declared
 use types.Run.{OneOf}
-use Rattle.theory.specs.Query.{Line, Query}
+use Rattle.theory.specs.Query.{Query}
 use Rattle.theory.specs.Executable.Label.{labels}
 use Rattle.model.specs.Value.{queryValue}
 use Rattle.model.specs.declared.Outcome.{Outcome}
@@ -15,8 +15,10 @@ use Rattle.query_text.specs.Text.{refused, accepted}
 use Rattle.query_text.specs.Text.{Reading as TheReading}
 use Rattle.query_text.specs.Value.{readingValue}
 use Rattle.query_text.specs.declared.Reading.{Reading}
+use Rattle.policy_text.specs.Declared.{Declared as TheDeclared}
 use Rattle.labelling.specs.declared.Asked.{Asked}
 use Rattle.labelling.specs.Posed.{labelsValue}
+use Rattle.labelling.specs.Settled.{settling}
 use Rattle.labelling.specs.Text.{askedValue}
 
 -- the outcome is the variant of this number
@@ -37,11 +39,11 @@ read-refused (accepted Q) v e h = let t : Tag 1 Accepted = subst (λ (w : Readin
 
 -- ---- the same of a text that is labelled
 
-pub asked-accepted : (views : List Line) (r : TheReading) (v : Asked) → v ≡ askedValue views r → Tag 0 (v .outcome)
-    → (Q : Query) × (r ≡ accepted Q) × (v .labels ≡ labelsValue (labels views Q))
+pub asked-accepted : (d : TheDeclared) (r : TheReading) (v : Asked) → v ≡ askedValue d r → Tag 0 (v .outcome)
+    → (Q : Query) × (r ≡ accepted Q) × (v .labels ≡ labelsValue (labels (d .views) Q) (settling d Q))
 unfolding askedValue
-asked-accepted views (refused n k) v e h = let t : Tag 0 (Refused n k) = subst (λ (w : Asked). Tag 0 (w .outcome)) e h in absurd (omega arith)
-asked-accepted views (accepted Q) v e h = (Q, refl, ap (λ (w : Asked). w .labels) e)
+asked-accepted d (refused n k) v e h = let t : Tag 0 (Refused n k) = subst (λ (w : Asked). Tag 0 (w .outcome)) e h in absurd (omega arith)
+asked-accepted d (accepted Q) v e h = (Q, refl, ap (λ (w : Asked). w .labels) e)
 
 -- the number and the line of a refusal
 numberOf : Outcome → ℕ
@@ -56,12 +58,12 @@ isRefused : Outcome → ℕ
 isRefused Accepted = 0
 isRefused (Refused n k) = 1
 
-pub asked-refused : (views : List Line) (r : TheReading) (v : Asked) (n k : ℕ) → v ≡ askedValue views r → v .outcome ≡ Refused n k
+pub asked-refused : (d : TheDeclared) (r : TheReading) (v : Asked) (n k : ℕ) → v ≡ askedValue d r → v .outcome ≡ Refused n k
     → r ≡ refused n k
 unfolding askedValue numberOf lineOf isRefused
-asked-refused views (refused m j) v n k e o =
+asked-refused d (refused m j) v n k e o =
     let same : Refused m j ≡ Refused n k = sym (ap (λ (w : Asked). w .outcome) e) ∙ o in
     λ i. refused (numberOf (same i)) (lineOf (same i))
-asked-refused views (accepted Q) v n k e o =
+asked-refused d (accepted Q) v n k e o =
     let same : Accepted ≡ Refused n k = sym (ap (λ (w : Asked). w .outcome) e) ∙ o in
     absurd (omega (arith, ap isRefused same))

@@ -1,36 +1,41 @@
 -- A query posed under a policy, as the code holds the two, and its labels.
 use mathlib.Core.Path.{_≡_}
 use mathlib.Core.List.{List}
-use Prim.Native.Nat.{ℕ, _^_, _≤_, _<_}
+use Prim.Native.Nat.{ℕ, _+_, _-_, _^_, _≤_, _<_}
 use lib.ListN.{length, getD}
 use Rattle.theory.specs.Query.{Fits, _∈_}
 use Rattle.theory.specs.Query.{Line as TheLine, Query as TheQuery}
 use Rattle.theory.specs.Archive.{AllFit}
+use Rattle.model.specs.Limits.{mostTables, mostColumns, mostViews, mostLines}
 use Rattle.model.specs.Rows.{LaidAt}
 use Rattle.model.specs.Value.{pad, lineValue, tablesValue}
 use Rattle.model.specs.declared.Query.{Query}
 use Rattle.model.specs.declared.Tables.{Tables}
 use Rattle.policy_text.specs.Declared.{Declared}
 use Rattle.policy_text.specs.WellFormed.{WellFormed}
-use Rattle.covering.specs.Labelled.{OfTable, LaidViews}
+use Rattle.policy_text.specs.Policy.{grantsOf}
+use Rattle.covering.specs.Views.{OfTable, LaidViews}
+use Rattle.covering.specs.Prepared.{everyWord, preparedLong, tableWord, grantWord}
 use Rattle.reduce.specs.Agree.{lineAt}
 use Rattle.reduce.specs.Laid.{HoldsQuery}
 use Rattle.reduce.specs.Showing.{Small, showLine}
+use Rattle.labelling.specs.declared.Words.{Words}
 use Rattle.labelling.specs.declared.Labels.{Labels}
 
--- ---- what is made of a policy once: its tables' columns, the views of each table as bits, and the views as rows
+-- ---- what is made of a policy once
 
-pub record Ready (d : Declared) (tables : Tables) (masks rows : List ℕ) : Type 0 where
+pub record Ready (d : Declared) (tables : Tables) (r : List ℕ) : Type 0 where
   pub good : WellFormed d
   pub tablesAre : tables ≡ tablesValue (d .widths)
-  pub masksLong : length masks ≡ 17
-  pub below : (table : ℕ) → table ≤ 16 → getD masks table 0 < 2 ^ 32
-  pub bits : (table : ℕ) → 1 ≤ table → table ≤ 16 → OfTable (d .views) table (getD masks table 0)
-  pub rowsLong : length rows ≡ 544
-  pub laid : LaidViews rows (d .views)
+  pub long : length r ≡ preparedLong
+  pub laid : LaidViews r (d .views)
+  pub below : (t : ℕ) → t ≤ mostTables → tableWord r t < 2 ^ mostViews
+  pub bits : (t : ℕ) → 1 ≤ t → t ≤ mostTables → OfTable (d .views) t (tableWord r t)
+  pub grant : (k : ℕ) → k < mostViews → grantWord r k ≡ grantsOf (d .partitions) (k + 1)
+  pub every : getD r everyWord 0 ≡ 2 ^ length (d .partitions) - 1
 
-abbrev pub SomeReady : Tables → List ℕ → List ℕ → Type 0
-SomeReady tables masks rows = (d : Declared) × Ready d tables masks rows
+abbrev pub SomeReady : Tables → List ℕ → Type 0
+SomeReady tables r = (d : Declared) × Ready d tables r
 
 -- ---- a line, and a query
 
@@ -47,8 +52,8 @@ pub record Posed (q : Query) (d : Declared) (Q : TheQuery) : Type 0 where
 
 -- the rows of such a query, its variables of a word shown
 pub record Rows (d : Declared) (Q : TheQuery) (w : ℕ) (rows : List ℕ) : Type 0 where
-  pub lines : length Q ≤ 8
-  pub columns : (A : TheLine) → A ∈ Q → length (A .columns) ≤ 8
+  pub lines : length Q ≤ mostLines
+  pub columns : (A : TheLine) → A ∈ Q → length (A .columns) ≤ mostColumns
   pub small : Small Q
   pub fits : AllFit (d .widths) Q
   pub row : (i : ℕ) → i < length Q → LaidAt rows i (showLine w (lineValue (lineAt Q i)))
@@ -56,6 +61,11 @@ pub record Rows (d : Declared) (Q : TheQuery) (w : ℕ) (rows : List ℕ) : Type
 -- ---- the labels
 
 -- unused words are 0
-unfoldable pub labelsValue : List ℕ → Labels
+unfoldable pub wordsValue : List ℕ → Words
 unfolding pad
-labelsValue ws = record { count = length ws; words = pad 8 0 ws }
+wordsValue ws = record { count = length ws; words = pad mostLines 0 ws }
+
+-- the labels, and the partitions that settle the query
+unfoldable pub labelsValue : List ℕ → ℕ → Labels
+unfolding wordsValue
+labelsValue ws settling = record { words = wordsValue ws; settling = settling }

@@ -1,7 +1,6 @@
 -- A query text read and labelled under a loaded policy.
 use mathlib.Core.Path.{_≡_}
-use mathlib.Core.List.{List, []}
-use Rattle.theory.specs.Query.{Line}
+use mathlib.Core.List.{[]}
 use Rattle.theory.specs.Executable.Label.{labels}
 use Rattle.model.specs.declared.Policy.{Policy}
 use Rattle.model.specs.declared.Outcome.the-variants.{Accepted, Refused}
@@ -11,6 +10,7 @@ use Rattle.policy_text.specs.WellFormed.{WellFormed}
 use Rattle.policy_text.specs.Policy.{policyValue}
 use Rattle.labelling.specs.declared.Asked.{Asked}
 use Rattle.labelling.specs.Posed.{labelsValue}
+use Rattle.labelling.specs.Settled.{settling}
 
 -- p holds what a policy text declares
 pub record LoadedTo (p : Policy) (d : Declared) : Type 0 where
@@ -21,7 +21,7 @@ abbrev pub SomePolicy : Policy → Type 0
 SomePolicy p = (d : Declared) × LoadedTo p d
 
 -- beside a refusal stands no label
-unfoldable pub askedValue : List Line → Reading → Asked
-unfolding labelsValue labels
-askedValue views (refused n k) = record { outcome = Refused n k; labels = labelsValue [] }
-askedValue views (accepted Q) = record { outcome = Accepted; labels = labelsValue (labels views Q) }
+unfoldable pub askedValue : Declared → Reading → Asked
+unfolding labelsValue labels settling
+askedValue d (refused n k) = record { outcome = Refused n k; labels = labelsValue [] 0 }
+askedValue d (accepted Q) = record { outcome = Accepted; labels = labelsValue (labels (d .views) Q) (settling d Q) }

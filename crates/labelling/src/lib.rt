@@ -1,4 +1,4 @@
-// The labels of a query, and which views settle it.
+// The labels of a query, and which partitions settle it.
 
 ghost use mathlib.Core.Path.{_≡_};
 ghost use mathlib.Core.List.{List, [], map};
@@ -7,23 +7,35 @@ ghost use lib.ListN.{length, getD};
 ghost use Rattle.theory.specs.Query.{Line as TheLine, Query as TheQuery};
 ghost use Rattle.theory.specs.Executable.Label.{label, labels};
 ghost use Rattle.theory.specs.Executable.Show.{show};
+ghost use Rattle.model.specs.Limits.{mostTables, mostLines};
+ghost use Rattle.model.specs.Rows.{queryRowsLong};
 ghost use Rattle.model.specs.Value.{tablesValue};
 ghost use Rattle.query_text.specs.Text.{read};
 ghost use Rattle.policy_text.specs.Declared.{Declared};
 ghost use Rattle.reduce.specs.Left.{linesAt};
 ghost use Rattle.reduce.specs.Showing.{SharedWord};
-ghost use Rattle.labelling.specs.Posed.{Ready, SomeReady, LineOf, Posed, Rows, labelsValue};
+ghost use Rattle.labelling.specs.Posed.{Ready, SomeReady, LineOf, Posed, Rows, wordsValue, labelsValue};
 ghost use Rattle.labelling.specs.Text.{LoadedTo, SomePolicy, askedValue};
-ghost use Rattle.labelling.specs.Settled.{settled};
+ghost use Rattle.labelling.specs.Settled.{settling, settlingLines, Answering};
+use covering::LineLabel;
+use covering::Prepared;
+use model::MOST_LINES;
 use model::Outcome;
 use model::Policy;
 use model::Query;
+use model::QueryRows;
 use model::Tables;
 
-// One word for each line of the reduced query; unused words are 0.
-pub struct Labels {
+// Up to eight words; unused ones are 0.
+pub struct Words {
     pub count: usize,
-    pub words: [u64; 8],
+    pub words: [u64; MOST_LINES],
+}
+
+// One word for each line of the reduced query, and the partitions that settle it, partition n at bit n - 1.
+pub struct Labels {
+    pub words: Words,
+    pub settling: u64,
 }
 
 // What turns a query text back, or nothing, and the labels of its query.
@@ -34,87 +46,84 @@ pub struct Asked {
 
 // The columns of a table.
 fn width_of(tables: Tables, table: u64) -> usize
-    requires { ⌜ (1 ≤ table) × (table ≤ 16) ⌝ }
-    ensures { λ r. ⌜ ((widths : List ℕ) → tables ≡ tablesValue widths → r ≡ getD widths (table - 1) 0) ⌝ }
+    requires { ⌜ (1 ≤ table) × (table ≤ mostTables) ⌝ }
+    ensures { λ w. ⌜ ((widths : List ℕ) → tables ≡ tablesValue widths → w ≡ getD widths (table - 1) 0) ⌝ }
 {
     tables.columns[table as usize - 1] as usize
 }
 
-// The label of the line in row `i`, of a table of the policy; `masks` has the views of each table.
-fn label_of(
-    tables: Tables,
-    masks: &[u64; 17],
-    views: &[u64; 544],
-    lines: &[u64; 136],
-    i: usize,
-) -> u64
-    requires { ⌜ ((d : Declared) × (A : TheLine) × Ready d tables (now masks) (now views) × LineOf d (now lines) i A) × (length (now lines) ≡ 136) × (i < 8) ⌝ }
-    ensures { λ r. ⌜ ((d : Declared) (A : TheLine) → Ready d tables (now (masks .entry)) (now (views .entry)) → LineOf d (now (lines .entry)) i A → r ≡ label (d .views) A) ⌝ }
+// The label of the line in row `i`, of a table of the policy.
+fn label_of(tables: Tables, r: &Prepared, lines: &QueryRows, i: usize) -> LineLabel
+    requires { ⌜ ((d : Declared) × (A : TheLine) × Ready d tables (now r) × LineOf d (now lines) i A) × (length (now lines) ≡ queryRowsLong) × (i < mostLines) ⌝ }
+    ensures { λ l. ⌜ ((d : Declared) (A : TheLine) → Ready d tables (now (r .entry)) → LineOf d (now (lines .entry)) i A → (l .label ≡ label (d .views) A) × Answering d A (l .grants)) ⌝ }
 {
     let table = model::table_at(lines, i);
     let width = width_of(tables, table);
-    let mask = masks[table as usize];
-    covering::label_line(views, mask, width, lines, i)
+    covering::label_line(r, width, lines, i)
 }
 
 // The labels of the lines left of n lines, whose shared variables are shown.
-fn label_lines(
-    tables: Tables,
-    masks: &[u64; 17],
-    views: &[u64; 544],
-    n: usize,
-    lines: &[u64; 136],
-    left: u64,
-) -> Labels
-    requires { ⌜ ((d : Declared) × (Q : TheQuery) × (w : ℕ) × Ready d tables (now masks) (now views) × (length Q ≡ n) × Rows d Q w (now lines)) × (length (now lines) ≡ 136) ⌝ }
-    ensures { λ r. ⌜ ((d : Declared) (Q : TheQuery) (w : ℕ) → Ready d tables (now (masks .entry)) (now (views .entry)) → length Q ≡ n → Rows d Q w (now (lines .entry)) → SharedWord (linesAt left Q) w → r ≡ labelsValue (map (label (d .views)) (show (linesAt left Q)))) ⌝ }
+fn label_lines(tables: Tables, r: &Prepared, n: usize, lines: &QueryRows, left: u64) -> Labels
+    requires { ⌜ ((d : Declared) × (Q : TheQuery) × (w : ℕ) × Ready d tables (now r) × (length Q ≡ n) × Rows d Q w (now lines)) × (length (now lines) ≡ queryRowsLong) ⌝ }
+    ensures { λ l. ⌜ ((d : Declared) (Q : TheQuery) (w : ℕ) → Ready d tables (now (r .entry)) → length Q ≡ n → Rows d Q w (now (lines .entry)) → SharedWord (linesAt left Q) w → let R = show (linesAt left Q) in l ≡ labelsValue (map (label (d .views)) R) (settlingLines d R)) ⌝ }
 {
-    let mut words = [0; 8];
+    let mut words = [0; MOST_LINES];
     let mut count = 0;
+    let mut settling = covering::every_partition(r);
     let mut i = 0;
     while i < n {
         if words::has_bit(left, i as u64) {
-            words[count] = label_of(tables, masks, views, lines, i);
+            let l = label_of(tables, r, lines, i);
+            words[count] = l.label;
+            settling = settling & l.grants;
             count += 1;
         }
         i += 1;
     }
-    Labels { count, words }
+    let words = Words { count, words };
+    Labels { words, settling }
 }
 
 // The labels of a query.
-pub fn label_query(tables: Tables, masks: &[u64; 17], views: &[u64; 544], q: Query) -> Labels
-    requires { ⌜ ((d : Declared) × (Q : TheQuery) × Ready d tables (now masks) (now views) × Posed q d Q) ⌝ }
-    ensures { λ r. ⌜ ((d : Declared) (Q : TheQuery) → Ready d tables (now (masks .entry)) (now (views .entry)) → Posed q d Q → r ≡ labelsValue (labels (d .views) Q)) ⌝ }
+pub fn label_query(tables: Tables, r: &Prepared, q: Query) -> Labels
+    requires { ⌜ ((d : Declared) × (Q : TheQuery) × Ready d tables (now r) × Posed q d Q) ⌝ }
+    ensures { λ l. ⌜ ((d : Declared) (Q : TheQuery) → Ready d tables (now (r .entry)) → Posed q d Q → l ≡ labelsValue (labels (d .views) Q) (settling d Q)) ⌝ }
 {
     let n = q.count;
     let mut lines = reduce::query_rows(q);
     let left = reduce::lines_left(n, &lines);
     let shared = reduce::shared(n, &lines, left);
     reduce::show(n, &mut lines, shared);
-    label_lines(tables, masks, views, n, &lines, left)
+    label_lines(tables, r, n, &lines, left)
 }
 
-fn no_labels() -> Labels
-    ensures { λ r. ⌜ r ≡ labelsValue [] ⌝ }
+pub fn no_words() -> Words
+    ensures { λ w. ⌜ w ≡ wordsValue [] ⌝ }
 {
-    Labels {
+    Words {
         count: 0,
-        words: [0; 8],
+        words: [0; MOST_LINES],
     }
 }
 
-// The labels of a query text, or what turns it back.
-pub fn label_text(tables: Tables, masks: &[u64; 17], views: &[u64; 544], text: &[u8]) -> Asked
-    requires { ⌜ SomeReady tables (now masks) (now views) ⌝ }
-    ensures { λ r. ⌜ ((d : Declared) → Ready d tables (now (masks .entry)) (now (views .entry)) → r ≡ askedValue (d .views) (read (d .widths) (now (text .entry)))) ⌝ }
+fn no_labels() -> Labels
+    ensures { λ l. ⌜ l ≡ labelsValue [] 0 ⌝ }
 {
-    let r = query_text::read_query(tables, text);
-    let outcome = r.outcome;
+    let words = no_words();
+    Labels { words, settling: 0 }
+}
+
+// The labels of a query text, or what turns it back.
+pub fn label_text(tables: Tables, r: &Prepared, text: &[u8]) -> Asked
+    requires { ⌜ SomeReady tables (now r) ⌝ }
+    ensures { λ a. ⌜ ((d : Declared) → Ready d tables (now (r .entry)) → a ≡ askedValue d (read (d .widths) (now (text .entry)))) ⌝ }
+{
+    let reading = query_text::read_query(tables, text);
+    let outcome = reading.outcome;
     match outcome {
         Outcome::Accepted => {
-            let q = r.query;
-            let labels = label_query(tables, masks, views, q);
+            let q = reading.query;
+            let labels = label_query(tables, r, q);
             Asked { outcome, labels }
         }
         Outcome::Refused { .. } => {
@@ -127,27 +136,9 @@ pub fn label_text(tables: Tables, masks: &[u64; 17], views: &[u64; 544], text: &
 // The same under a loaded policy, of which nothing is made yet.
 pub fn ask(p: Policy, text: &[u8]) -> Asked
     requires { ⌜ SomePolicy p ⌝ }
-    ensures { λ r. ⌜ ((d : Declared) → LoadedTo p d → r ≡ askedValue (d .views) (read (d .widths) (now (text .entry)))) ⌝ }
+    ensures { λ a. ⌜ ((d : Declared) → LoadedTo p d → a ≡ askedValue d (read (d .widths) (now (text .entry)))) ⌝ }
 {
-    let masks = covering::table_views(p);
-    let views = covering::view_rows(p);
+    let r = covering::prepare(p);
     let tables = p.tables;
-    label_text(tables, &masks, &views, text)
-}
-
-// Whether each label holds one of the views of a partition, view n at bit n - 1.
-pub fn settles(l: Labels, partition: u64) -> bool
-    requires { ⌜ l .count ≤ 8 ⌝ }
-    ensures { λ r. ⌜ ((ws : List ℕ) → l ≡ labelsValue ws → r ≡ settled partition ws) ⌝ }
-{
-    let n = l.count;
-    let mut i = 0;
-    while i < n {
-        let views = words::high_half(l.words[i]);
-        if !words::meets(views, partition) {
-            return false;
-        }
-        i += 1;
-    }
-    true
+    label_text(tables, &r, text)
 }

@@ -1,10 +1,12 @@
 // A query text decided again and again, each time in the session that opening gives.
 
-ghost use Rattle.covering.specs.Labelled.{TableMasks, ViewsLaid};
+ghost use Rattle.labelling.specs.Posed.{SomeReady};
 ghost use Rattle.labelling.specs.Text.{SomePolicy};
+use covering::Prepared;
 use desk::Reply;
 use model::Outcome;
 use model::Policy;
+use model::Tables;
 use std::num::wrapping_add_u64;
 
 // A number for each reply: its count for a yes, 100 and its count for a no, and for a refusal 1,000 and its number.
@@ -16,15 +18,14 @@ fn number_of(r: Reply) -> u64 {
     }
 }
 
-fn decide_again(p: Policy, masks: &[u64; 17], views: &[u64; 544], text: &[u8], times: u64) -> u64
-    requires { ⌜ SomePolicy p × TableMasks p (now masks) × ViewsLaid p (now views) ⌝ }
+fn decide_again(tables: Tables, r: &Prepared, text: &[u8], times: u64) -> u64
+    requires { ⌜ SomeReady tables (now r) ⌝ }
 {
-    let o = desk::open_session(p);
-    let s = o.session;
+    let s = desk::open_loaded(r);
     let mut sum = 0;
     let mut i = 0;
     while i < times {
-        let d = desk::decide_loaded(p, masks, views, s, text);
+        let d = desk::decide_loaded(tables, r, s, text);
         let reply = d.reply;
         sum = wrapping_add_u64(sum, number_of(reply));
         i += 1;
@@ -35,9 +36,9 @@ fn decide_again(p: Policy, masks: &[u64; 17], views: &[u64; 544], text: &[u8], t
 fn prepare_and_decide(p: Policy, text: &[u8], times: u64) -> u64
     requires { ⌜ SomePolicy p ⌝ }
 {
-    let masks = covering::table_views(p);
-    let views = covering::view_rows(p);
-    decide_again(p, &masks, &views, text, times)
+    let r = covering::prepare(p);
+    let tables = p.tables;
+    decide_again(tables, &r, text, times)
 }
 
 // The text decided so many times under the policy of a text, as a run over a file does: the policy is known to be loaded.

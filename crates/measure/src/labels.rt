@@ -4,7 +4,9 @@ ghost use Rattle.theory.specs.Query.{Query as TheQuery};
 ghost use Rattle.policy_text.specs.Declared.{Declared};
 ghost use Rattle.labelling.specs.Posed.{Ready, Posed};
 ghost use Rattle.labelling.specs.Text.{SomePolicy};
+use covering::Prepared;
 use labelling::Labels;
+use model::MOST_LINES;
 use model::Outcome;
 use model::Policy;
 use model::Query;
@@ -12,22 +14,23 @@ use model::Tables;
 use std::num::wrapping_add_u64;
 
 fn sum_of(l: Labels) -> u64 {
+    let w = l.words;
     let mut sum = 0;
     let mut i = 0;
-    while i < 8 {
-        sum = wrapping_add_u64(sum, l.words[i]);
+    while i < MOST_LINES {
+        sum = wrapping_add_u64(sum, w.words[i]);
         i += 1;
     }
     sum
 }
 
-fn label_again(tables: Tables, masks: &[u64; 17], views: &[u64; 544], q: Query, times: u64) -> u64
-    requires { ⌜ ((d : Declared) × (Q : TheQuery) × Ready d tables (now masks) (now views) × Posed q d Q) ⌝ }
+fn label_again(tables: Tables, r: &Prepared, q: Query, times: u64) -> u64
+    requires { ⌜ ((d : Declared) × (Q : TheQuery) × Ready d tables (now r) × Posed q d Q) ⌝ }
 {
     let mut sum = 0;
     let mut i = 0;
     while i < times {
-        let l = labelling::label_query(tables, masks, views, q);
+        let l = labelling::label_query(tables, r, q);
         sum = wrapping_add_u64(sum, sum_of(l));
         i += 1;
     }
@@ -37,15 +40,14 @@ fn label_again(tables: Tables, masks: &[u64; 17], views: &[u64; 544], q: Query, 
 fn read_and_label(p: Policy, query: &[u8], times: u64) -> u64
     requires { ⌜ SomePolicy p ⌝ }
 {
-    let masks = covering::table_views(p);
-    let views = covering::view_rows(p);
+    let made = covering::prepare(p);
     let tables = p.tables;
     let r = query_text::read_query(tables, query);
     let outcome = r.outcome;
     match outcome {
         Outcome::Accepted => {
             let q = r.query;
-            label_again(tables, &masks, &views, q, times)
+            label_again(tables, &made, q, times)
         }
         Outcome::Refused { .. } => 0,
     }

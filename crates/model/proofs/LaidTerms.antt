@@ -19,12 +19,11 @@ pub same-term : (rows rows′ : List ℕ) (k p : ℕ) → getD rows′ (markPlac
 unfolding laidTerm
 same-term rows rows′ k p e f = λ i. record { mark = e i; number = f i }
 
-pub row-stays : {a b : Line} {j k : ℕ} {rows rows′ : List ℕ} → j < k → LaidInto b k rows rows′ → LaidAt rows j a → LaidAt rows′ j a
-row-stays {j = j} {rows = rows} {rows′} h l r = record {
-  table = l .before (j * rowLong) (omega arith) ∙ r .table;
-  term = λ p b.
-      same-term rows rows′ j p (l .before (markPlace j p) (omega arith)) (l .before (markPlace j p + 1) (omega arith))
-      ∙ r .term p b;
+pub row-kept : {a : Line} {j : ℕ} {rows rows′ : List ℕ} → ((i : ℕ) → i < j * rowLong + rowLong → getD rows′ i 0 ≡ getD rows i 0)
+    → LaidAt rows j a → LaidAt rows′ j a
+row-kept {j = j} {rows} {rows′} same r = record {
+  table = same (j * rowLong) (omega arith) ∙ r .table;
+  term = λ p b. same-term rows rows′ j p (same (markPlace j p) (omega arith)) (same (markPlace j p + 1) (omega arith)) ∙ r .term p b;
 }
 
 -- ---- a term written
@@ -115,10 +114,11 @@ RowsTo f k rows = (j : ℕ) → j < k → LaidAt rows j (f j)
 pub rows-none : (f : ℕ → Line) (rows : List ℕ) → RowsTo f 0 rows
 rows-none f rows j h = absurd (omega arith)
 
-pub rows-more : (f : ℕ → Line) {k : ℕ} {rows rows′ : List ℕ} {a : Line} → RowsTo f k rows → a ≡ f k → LaidInto a k rows rows′
-    → RowsTo f (k + 1) rows′
-rows-more f {k} {rows} {rows′} r e l j h = go (ℕ-discrete j k)
+-- one row more, the rows before it as they were
+pub rows-more : (f : ℕ → Line) {k : ℕ} {rows rows′ : List ℕ} {a : Line} → RowsTo f k rows → a ≡ f k
+    → ((i : ℕ) → i < k * rowLong → getD rows′ i 0 ≡ getD rows i 0) → LaidAt rows′ k a → RowsTo f (k + 1) rows′
+rows-more f {k} {rows} {rows′} r e before row j h = go (ℕ-discrete j k)
   where
     go : Dec (j ≡ k) → LaidAt rows′ j (f j)
-    go (yes x) = rw x (subst (LaidAt rows′ k) e (l .row))
-    go (no n) = row-stays (omega arith) l (r j (omega arith))
+    go (yes x) = rw x (subst (LaidAt rows′ k) e row)
+    go (no n) = row-kept (λ i b. before i (omega arith)) (r j (omega arith))

@@ -32,13 +32,11 @@ pub const MOST_TABLES: usize = 16;
 
 pub const MOST_COLUMNS: usize = 8;
 
+pub const MOST_LINES: usize = 8;
+
 pub const MOST_VIEWS: usize = 32;
 
 pub const MOST_PARTITIONS: usize = 32;
-
-pub const MOST_COLUMNS: usize = 8;
-
-pub const MOST_LINES: usize = 8;
 
 pub const LAST_VARIABLE: u64 = 63;
 
@@ -54,7 +52,7 @@ pub struct Term {
 // A line of a query, or a view: a table and its terms, unused ones behind them.
 pub struct Line {
     pub table: u64,
-    pub terms: [Term; 8],
+    pub terms: [Term; MOST_COLUMNS],
 }
 
 // The columns of each table, 0 behind the last.
@@ -76,7 +74,7 @@ pub struct Policy {
 // The lines behind the last are all unused.
 pub struct Query {
     pub count: usize,
-    pub lines: [Line; 8],
+    pub lines: [Line; MOST_LINES],
 }
 
 // How reading a text ends.
@@ -101,7 +99,7 @@ pub struct Parsed {
     pub table: u64,
     // how many terms there are; the first eight are kept
     pub count: usize,
-    pub terms: [Term; 8],
+    pub terms: [Term; MOST_COLUMNS],
     // the numbers of the shown and of the hidden variables, as bits
     pub shown: u64,
     pub hidden: u64,

@@ -14,9 +14,9 @@ use Rattle.theory.specs.Query.{_∈_}
 use Rattle.theory.proofs.Lists.{place-below}
 use Rattle.theory.proofs.Executable.Test.{any-iff}
 use Rattle.words.specs.Bits.{bit, isSet}
-use Rattle.words.specs.TestBits.{upFrom}
+use Rattle.words.specs.TestBits.{testBits, upFrom}
 use Rattle.words.proofs.Answers.{true-holds, holds-true, same-answer}
-use Rattle.words.proofs.Bits.{is-set}
+use Rattle.words.proofs.Bits.{is-set, same-bits}
 use Rattle.words.proofs.TestBits.{tests-bit, tests-below, up-from-length, from-at, at-from, from-get}
 use Rattle.model.specs.Limits.{mostViews}
 use Rattle.model.proofs.Limits.{up-to-iff}
@@ -144,3 +144,32 @@ partition-back ps i n vs at g =
           let e = grants-bit ps v i .1 (vs, at, m) in
           views-in granted mostViews v a b (true-holds (is-set _ i (ap (λ (w : ℕ). bit w i) (word v a b) ∙ e))),
     )
+
+-- the views that a partition lists, gathered from the words of all views
+pub word-back : (ps : List (List ℕ)) (i : ℕ) (ns : List ℕ) → getElem? ps i ≡ some ns
+    → testBits (grantedAt (map (grantsOf ps) (upFrom 1 mostViews)) i) (upFrom 0 mostViews) ≡ viewsWord ns
+unfolding grantedAt
+word-back ps i ns at =
+    same-bits mostViews (testBits granted (upFrom 0 mostViews)) (viewsWord ns)
+    (subst (λ (n : ℕ). testBits granted (upFrom 0 mostViews) < 2 ^ n) (up-from-length 0 mostViews) (tests-below granted (upFrom 0 mostViews)))
+    (word-below ns) same
+  where
+    granted : ℕ → Bool
+    granted k = isSet (getD (map (grantsOf ps) (upFrom 1 mostViews)) k 0) i
+
+    same : (k : ℕ) → (bit (testBits granted (upFrom 0 mostViews)) k ≡ 1) ↔ (bit (viewsWord ns) k ≡ 1)
+    same k =
+        let t = tests-bit granted (upFrom 0 mostViews) k in (
+          λ h.
+              let (j, e, b) = t .0 h in
+              let l : k < mostViews = rw up-from-length at (place-below (upFrom 0 mostViews) k e) in
+              let here : j ≡ k = from-at 0 mostViews k j e ∙ omega arith in
+              let set = eqb-true _ _ (sym (holds-true _ (subst (λ (x : ℕ). T (granted x)) here b))) in
+              let (ms, there, m) = grants-bit ps (k + 1) i .0 (ap (λ (w : ℕ). bit w i) (sym (grants-at ps k l)) ∙ set) in
+              word-bit ns k .1 (l, subst (λ (ws : List ℕ). k + 1 ∈ ws) (Option·some-injective ms ns (sym there ∙ at)) m),
+          λ h.
+              let (l, m) = word-bit ns k .0 h in
+              let e = grants-bit ps (k + 1) i .1 (ns, at, m) in
+              let here : getElem? (upFrom 0 mostViews) k ≡ some k = at-from 0 mostViews k l ∙ ap some (omega arith) in
+              t .1 (k, here, true-holds (is-set _ i (ap (λ (w : ℕ). bit w i) (grants-at ps k l) ∙ e))),
+        )

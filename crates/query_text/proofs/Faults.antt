@@ -11,7 +11,7 @@ use borrow.Author.Tests.{le-leb, lt-leb, not-true, not-false}
 use Rattle.theory.specs.Query.{Line}
 use Rattle.theory.specs.Executable.Test.{all}
 use Rattle.theory.proofs.Executable.Test.{and-iff}
-use Rattle.model.specs.Limits.{mostTables, upTo, termWithin, lineWithin}
+use Rattle.model.specs.Limits.{mostTables, mostLines, upTo, termWithin, lineWithin}
 use Rattle.model.specs.Checks.{firstFault, misfit}
 use Rattle.model.specs.Parsed.{blankValue, goodValue, parsedLine}
 use Rattle.model.specs.declared.Parsed.{Parsed}

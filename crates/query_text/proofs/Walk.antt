@@ -145,7 +145,7 @@ module _ {tables : Tables} {text : List ℕ} {start : ℕ} {q : QueryValue} {s h
 
       module _ (p : Parsed) (good : p ≡ goodValue (A .table) (A .columns)) (room : length (w .earlier) < mostLines) where
         held-more : with-line q p ≡ queryValue (w .earlier ++ A ∷ [])
-        unfolding queryValue lineValue goodValue mostLines
+        unfolding queryValue lineValue goodValue
         held-more =
             let counts : q .count + 1 ≡ length (w .earlier ++ A ∷ []) = simp length-append (omega (arith, counted)) in
             let kept : with-line q p .lines ≡ pad mostLines unusedLine (map lineValue (w .earlier ++ A ∷ []))

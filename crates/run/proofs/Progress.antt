@@ -2,16 +2,16 @@
 use mathlib.Core.Path.{_≡_, refl, sym, ap, _∙_}
 use mathlib.Core.Logic.{by-cases}
 use mathlib.Core.List.{List, [], _∷_, _++_, append-assoc, append-nil}
-use Prim.Native.Nat.{ℕ, _+_, _*_, _≤_, _<_, zero-le}
+use Prim.Native.Nat.{ℕ, _+_, _-_, _*_, _≤_, _<_, zero-le}
 use native.Mathlib.Decide.{decLt}
 use native.Mathlib.Numerals.{add-one}
 use native.Mathlib.Omega.{arith}
 use lib.ListN.{length, take, drop, length-drop, drop-of-length-le}
 use lib.Seq.{drop-drop}
 use Rattle.words.specs.Bits.{onesBelow}
-use Rattle.model.specs.declared.Policy.{Policy}
+use Rattle.model.specs.declared.Tables.{Tables}
 use Rattle.policy_text.specs.Declared.{Declared}
-use Rattle.labelling.specs.Text.{LoadedTo}
+use Rattle.labelling.specs.Posed.{Ready}
 use Rattle.desk.specs.declared.opening.Session.{Session}
 use Rattle.desk.specs.declared.deciding.Decision.{Decision}
 use Rattle.desk.specs.Deciding.{Verdict, decideUnder, Gives}
@@ -20,26 +20,27 @@ use Rattle.writing.proofs.Wrote.{wrote-as, wrote-none, wrote-more}
 use Rattle.cutting.specs.Cut.{cut}
 use Rattle.cutting.specs.NextCut.{Starts, NextCut}
 use Rattle.cutting.proofs.Walk.{cut-none}
+use Rattle.run.specs.Sizes.{leastQuery, lineLong}
 use Rattle.run.specs.Run.{lineOf, linesFrom}
 use Rattle.run.proofs.Line.{replyLine}
 
 -- the query of this number starts at the place `at` and finds the session s, and its line goes to the place `to`; a query but the
--- first has 12 bytes at least, a line 92 at most
-pub record Progress (p : Policy) (queries was : List ℕ) (start : ℕ) (opened : Session) (is : List ℕ) (s : Session)
+-- first has the bytes of its names line at least, and a line of the output has its most bytes
+pub record Progress (tables : Tables) (made queries was : List ℕ) (start : ℕ) (opened : Session) (is : List ℕ) (s : Session)
     (query at to : ℕ) : Type 0 where
   pub within : at ≤ length queries
   pub some : 1 ≤ query
-  pub few : query * 12 ≤ at + 23
-  pub room : to + 92 ≤ start + query * 92
+  pub few : query * leastQuery ≤ at + (2 * leastQuery - 1)
+  pub room : to + lineLong ≤ start + query * lineLong
   pub starts : 1 < query → at < length queries → Starts (drop at queries)
   pub so-far : List ℕ
   pub wrote : Wrote was start so-far is to
-  pub to-come : (d : Declared) → LoadedTo p d
+  pub to-come : (d : Declared) → Ready d tables made
       → so-far ++ linesFrom d s query (cut (drop at queries)) ≡ linesFrom d opened 1 (cut queries)
 
-pub progress-none : (p : Policy) (queries was : List ℕ) (start : ℕ) (opened : Session)
-    → Progress p queries was start opened was opened 1 0 start
-progress-none p queries was start opened =
+pub progress-none : (tables : Tables) (made queries was : List ℕ) (start : ℕ) (opened : Session)
+    → Progress tables made queries was start opened was opened 1 0 start
+progress-none tables made queries was start opened =
     record {
       within = zero-le;
       some = omega arith;
@@ -64,10 +65,10 @@ unfolding linesFrom
 lines-more d s query text texts r left g e =
     rw (line-of query left r (decideUnder d s text) g e, g .session, add-one query)
 
-module _ {p : Policy} {queries was : List ℕ} {start : ℕ} {opened : Session} {is : List ℕ} {s : Session} {query at to : ℕ}
-    (w : Progress p queries was start opened is s query at to) where
+module _ {tables : Tables} {made queries was : List ℕ} {start : ℕ} {opened : Session} {is : List ℕ} {s : Session} {query at to : ℕ}
+    (w : Progress tables made queries was start opened is s query at to) where
   -- every query has its line
-  pub progress-all : length queries ≤ at → (d : Declared) → LoadedTo p d → Wrote was start (linesFrom d opened 1 (cut queries)) is to
+  pub progress-all : length queries ≤ at → (d : Declared) → Ready d tables made → Wrote was start (linesFrom d opened 1 (cut queries)) is to
   unfolding linesFrom
   progress-all h d l =
       wrote-as
@@ -77,8 +78,8 @@ module _ {p : Policy} {queries was : List ℕ} {start : ℕ} {opened : Session} 
       (w .wrote)
 
   module _ (n : ℕ) (c : NextCut (drop at queries) n) (more : at < length queries) where
-    -- a query more, with at least 12 bytes where it is not the first
-    few-more : (query + 1) * 12 ≤ at + n + 23
+    -- a query more, with at least a names line where it is not the first
+    few-more : (query + 1) * leastQuery ≤ at + n + (2 * leastQuery - 1)
     few-more =
         by-cases (decLt 1 query)
         (λ h. let t = w .starts h more in omega (arith, w .few, c .line (omega (arith, t .line, t .ended)), t .line))
@@ -88,10 +89,10 @@ module _ {p : Policy} {queries was : List ℕ} {start : ℕ} {opened : Session} 
     starts-more h = rw drop-drop at (c .starts (omega (arith, length-drop at queries)))
 
     pub progress-more : (r : Decision) (left to' : ℕ) (is' : List ℕ)
-        → ((d : Declared) → LoadedTo p d → Gives r (decideUnder d s (take n (drop at queries))))
+        → ((d : Declared) → Ready d tables made → Gives r (decideUnder d s (take n (drop at queries))))
         → left ≡ onesBelow 64 (r .session .mask)
-        → Wrote is to (replyLine query (r .reply) left) is' to' → to' ≤ to + 92
-        → Progress p queries was start opened is' (r .session) (query + 1) (at + n) to'
+        → Wrote is to (replyLine query (r .reply) left) is' to' → to' ≤ to + lineLong
+        → Progress tables made queries was start opened is' (r .session) (query + 1) (at + n) to'
     progress-more r left to' is' g e v b =
         let line = replyLine query (r .reply) left in
         record {

@@ -1,3 +1,4 @@
+pub mod Sizes
 pub mod Output
 pub mod Run
 pub mod Program

@@ -8,6 +8,7 @@ pub mod Lowest
 pub mod Tests
 pub mod Counts
 pub mod TestBits
+pub mod Unions
 -- Words built bit by bit by tests, and what a test's answer says.
 pub mod Answers
 pub mod Marks

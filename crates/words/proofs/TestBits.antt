@@ -5,16 +5,20 @@ use mathlib.Core.Logic.{_↔_, ⊎-elim}
 use mathlib.Core.Bool.{Bool, true, false, cond, _&&_}
 use mathlib.Core.Option.{Option, none, some, Option·some-injective}
 use mathlib.Core.List.{List, [], _∷_, _++_, map}
-use Prim.Native.Nat.{ℕ, zero, suc, _+_, _*_, _^_, _/_, _%_, _≤_, _<_, suc-le-suc}
-use native.Mathlib.Nat.{le-of-suc-le-suc, not-suc-le-zero, pow-suc, mul-assoc}
+use Prim.Native.Nat.{ℕ, zero, suc, _+_, _*_, _^_, _/_, _%_, _-_, _≤_, _<_, suc-le-suc}
+use native.Mathlib.Nat.{lt-of-le-of-lt, le-of-suc-le-suc, not-suc-le-zero, pow-suc, mul-assoc}
 use native.Mathlib.Omega.{arith}
-use lib.Bits.{bitAnd, and-lt}
+use lib.Bits.{bitAnd, and-le-l}
+use lib.Pow.{pow-pos}
+use borrow.Author.Tests.{eqb-true}
 use lib.Dec.{T}
+use mir.Facts.{and-yes, yes-and}
 use lib.ListN.{length, getD, getElem?}
 use Rattle.words.specs.Bits.{bit, isSet}
 use Rattle.words.specs.Sets.{setBit}
 use Rattle.words.specs.TestBits.{testBits, upFrom}
 use Rattle.words.proofs.Bits.{bit-zero, bit-lowest, bit-half, bit-within, bit-cases, same-bits, bit-beyond, is-set, is-clear}
+use Rattle.words.proofs.Answers.{true-holds, holds-true, same-answer}
 use Rattle.words.proofs.SetBits.{set-bit-adds}
 use Rattle.words.proofs.Masks.{bit-and-iff}
 
@@ -30,10 +34,6 @@ digit-iff false = (λ e. absurd (omega (arith, e)), λ h. absurd h)
 digit-small : (b : Bool) → cond b 1 0 < 2
 digit-small true = omega arith
 digit-small false = omega arith
-
-both-iff : (a b : Bool) → T (a && b) ↔ (T a × T b)
-both-iff true b = (λ h. (tt, h), λ h. h .1)
-both-iff false b = (λ h. absurd h, λ h. h .0)
 
 tests-step : (y t m x p q : ℕ) → t ≡ m + x * p → q ≡ p * 2 → y + 2 * t ≡ y + 2 * m + x * q
 tests-step y t m x p q e f =
@@ -58,6 +58,15 @@ module _ {X : Type 0} (f : X → Bool) where
       let e : bit w (suc k) ≡ bit (testBits f l) k = sym (bit-half w k) ∙ ap (λ (y : ℕ). bit y k) half in
       (λ h. tests-bit l k .0 (sym e ∙ h), λ r. e ∙ tests-bit l k .1 r)
 
+  -- the test of a bit is the test of the element
+  pub tests-say : (l : List X) (k : ℕ) (x : X) → getElem? l k ≡ some x → isSet (testBits f l) k ≡ f x
+  tests-say l k x e =
+      same-answer (isSet (testBits f l) k) (f x)
+      (λ s.
+      let (y, h, t) = tests-bit l k .0 (eqb-true _ _ s) in
+      sym (holds-true (f x) (subst (λ (z : X). T (f z)) (Option·some-injective y x (sym h ∙ e)) t)))
+      (λ t. is-set (testBits f l) k (tests-bit l k .1 (x, e, true-holds t)))
+
   pub tests-below : (l : List X) → testBits f l < 2 ^ length l
   unfolding testBits
   tests-below [] = omega arith
@@ -78,6 +87,12 @@ module _ {X : Type 0} (f : X → Bool) where
     go true e = e ∙ omega arith ∙ sym (set-bit-adds (testBits f l) (length l) (bit-beyond (length l) (tests-below l)))
     go false e = e ∙ omega arith
 
+  -- every element passes
+  pub tests-all : (l : List X) → ((x : X) → f x ≡ true) → testBits f l ≡ 2 ^ length l - 1
+  unfolding testBits
+  tests-all [] h = omega arith
+  tests-all (x ∷ l) h = rw (h x, tests-all l h) (omega (arith, pow-suc 2 (length l), pow-pos (length l)))
+
   -- a word of the length's bits is the word of tests when each bit says whether the element there passes
   pub tests-are : (l : List X) (w : ℕ) → w < 2 ^ length l
       → ((k : ℕ) → (bit w k ≡ 1) ↔ ((x : X) × (getElem? l k ≡ some x) × T (f x))) → w ≡ testBits f l
@@ -96,18 +111,20 @@ module _ {X : Type 0} (f g : X → Bool) (l : List X) where
       let (y, h, u) = tests-bit g l k .0 b in
       (x, e, t, subst (λ (z : X). T (g z)) (Option·some-injective y x (sym h ∙ e)) u)
 
-  -- the elements that pass both are the word that both words have
-  pub and-tests : bitAnd (testBits f l) (testBits g l) ≡ testBits (λ x. f x && g x) l
-  and-tests =
-      let both : X → Bool = λ x. f x && g x in
-      let meets = bit-and-iff (testBits f l) (testBits g l) in
-      let small : bitAnd (testBits f l) (testBits g l) < 2 ^ length l =
-      and-lt (length l) (testBits f l) (testBits g l) (tests-below f l) (tests-below g l) in
-      tests-are both l (bitAnd (testBits f l) (testBits g l)) small (λ k. (
-        λ h. let (a, b) = meets k .0 h in let (x, e, t, u) = both-there k a b in (x, e, both-iff (f x) (g x) .1 (t, u)),
-        λ r. let (t, u) = both-iff (f (r .0)) (g (r .0)) .0 (r .2) in
-            meets k .1 (tests-bit f l k .1 (r .0, r .1, t), tests-bit g l k .1 (r .0, r .1, u)),
-      ))
+-- a word that says of each element whether it passes a second test: the elements that pass both are the bits that both words have
+pub and-tests : {X : Type 0} (f g : X → Bool) (l : List X) (w : ℕ)
+    → ((i : ℕ) (x : X) → getElem? l i ≡ some x → (bit w i ≡ 1) ↔ T (g x)) → bitAnd (testBits f l) w ≡ testBits (λ x. f x && g x) l
+and-tests f g l w each =
+    let meets = bit-and-iff (testBits f l) w in
+    let small = lt-of-le-of-lt (and-le-l (testBits f l) w) (tests-below f l) in
+    tests-are (λ x. f x && g x) l (bitAnd (testBits f l) w) small (λ k. (
+      λ h.
+          let (a, b) = meets k .0 h in
+          let (x, e, t) = tests-bit f l k .0 a in (x, e, yes-and (f x) (g x) t (each k x e .0 b)),
+      λ r.
+          let (t, u) = and-yes (f (r .0)) (g (r .0)) (r .2) in
+          meets k .1 (tests-bit f l k .1 (r .0, r .1, t), each k (r .0) (r .1) .1 u),
+    ))
 
 -- ---- the numbers from m on
 
@@ -133,6 +150,15 @@ unfolding upFrom
 up-from-more m zero = ap (λ (x : ℕ). x ∷ []) (omega arith)
 up-from-more m (suc n) =
     ap (λ (l : List ℕ). m ∷ l) (up-from-more (suc m) n ∙ ap (λ (x : ℕ). upFrom (suc m) n ++ x ∷ []) (omega arith))
+
+-- the tests of the numbers below k, and of k: the step of a loop that builds such a word
+pub next-test : (f : ℕ → Bool) (k : ℕ) {on : Bool} {word word′ : ℕ} → on ≡ f k → word ≡ testBits f (upFrom 0 k)
+    → word′ ≡ cond on (setBit word k) word → word′ ≡ testBits f (upFrom 0 (k + 1))
+next-test f k {on} {word} e is made =
+    let one : k + 1 ≡ suc k = omega arith in
+    let last : upFrom 0 (k + 1) ≡ upFrom 0 k ++ k ∷ [] =
+    ap (upFrom 0) one ∙ up-from-more 0 k ∙ ap (λ (x : ℕ). upFrom 0 k ++ x ∷ []) (omega arith) in
+    made ∙ rw (e, is, last, tests-more f (upFrom 0 k) k, up-from-length)
 
 -- what is made of each number, at a place
 pub made-at : {X : Type 0} (f : ℕ → X) (m n k : ℕ) (x : X) → getElem? (map f (upFrom m n)) k ≡ some x → (k < n) × (x ≡ f (m + k))

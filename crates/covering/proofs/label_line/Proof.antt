@@ -1,43 +1,84 @@
--- `label::label_line`: the word has the covering views among those taken from the mask.
-use mathlib.Core.Path.{_∙_}
+-- `label_line`: the word has the covering views among those taken from the word of the table, and the partitions are those of its views.
+use mathlib.Core.Path.{_≡_, sym, ap, subst, _∙_}
+use mathlib.Core.Logic.{⊎-elim}
 use mathlib.Core.List.{List}
-use Prim.Native.Nat.{_^_, _<_}
+use Prim.Native.Nat.{ℕ, _^_, _≤_, _<_}
 use native.Mathlib.Omega.{arith}
 use Rattle.theory.specs.Query.{Line as TheLine}
-use Rattle.covering.specs.Labelled.{Labelled}
 use Rattle.words.proofs.Answers.{true-iff}
-use Rattle.words.proofs.Marks.{Picked, picked-none, picked-more}
 use Rattle.words.proofs.Bits.{bit-within}
-use Rattle.covering.proofs.Words.{set-where-below}
-use Rattle.covering.proofs.Views.{Covering, answered, labelled}
+use Rattle.words.proofs.SetBits.{set-bit-below}
+use Rattle.words.proofs.Marks.{Picked, picked-none, picked-more}
+use Rattle.words.proofs.Unions.{Union, union-none, union-more}
+use Rattle.model.specs.Limits.{mostTables, mostViews}
+use Rattle.model.specs.Value.{lineValue}
+use Rattle.covering.specs.Prepared.{tableWord, grantWord}
+use Rattle.covering.specs.Labelled.{Labelled}
+use Rattle.covering.proofs.Views.{Covering, answered, labelled, reached}
 use Rattle.covering.proofs.label_line.Statement.{statement}
 use Rattle.covering.proofs.label_line.Tie as tie
 
 abbrev Inv-loop : tie.InvT-loop
-Inv-loop views mask width lines a word₀ left₀ word left =
-    (left < 2 ^ 32)
-    × (word < 2 ^ 32)
-    × ((vs : List TheLine) (A : TheLine) → Labelled views mask width lines a vs A → Picked (Covering vs A) mask left word)
+Inv-loop r width lines a table word₀ grants₀ left₀ word grants left =
+    (left < 2 ^ mostViews)
+    × (word < 2 ^ mostViews)
+    × Union (grantWord r) word grants
+    × ((vs : List TheLine) (A : TheLine) → Labelled r width lines a vs A → Picked (Covering vs A) (tableWord r (A .table)) left word)
 
 abbrev μ-loop : tie.MeasureT-loop
-μ-loop views mask width lines a word₀ left₀ word left = left
+μ-loop r width lines a table word₀ grants₀ left₀ word grants left = left
+
+table-at-requires : tie.Need-table-at-requires Inv-loop μ-loop
+table-at-requires c κs = let (_, long, _, a) = c .before .pre .0 in omega (arith, long, a)
+
+-- the line's table is one of the tables
+last : (c : tie.After-table-at Inv-loop μ-loop) → c .table-at .result ≤ mostTables
+last c = rw (c .table-at .ensures) (c .before .before .pre .1 .0)
+
+add-left : tie.Need-add-left Inv-loop μ-loop
+add-left c = omega (arith, last c)
+
+mul-left : tie.Need-mul-left Inv-loop μ-loop
+mul-left c = omega (arith, last c)
+
+element-copy-out-left : tie.Need-element-copy-out-left Inv-loop μ-loop
+element-copy-out-left c = omega (arith, last c)
 
 loop-holds : tie.Need-loop-holds Inv-loop μ-loop
-loop-holds c = (c .pre .2, omega arith, λ vs A l. picked-none)
+unfolding lineValue
+loop-holds c =
+    let r = c .before .before .before .args .r .now in
+    let table = c .before .table-at .ensures in (
+      rw table (c .before .before .before .pre .1 .1),
+      omega arith,
+      union-none _,
+      λ vs A l.
+          subst (λ (m : ℕ). Picked (Covering vs A) (tableWord r (A .table)) m 0) (sym (ap (tableWord r) (table ∙ l .line .table))) picked-none,
+    )
 
 least-requires : tie.Need-least-requires Inv-loop μ-loop
 least-requires c κs = omega arith
 
--- a bit of the mask is the place of a view
-small : (c : tie.After-least Inv-loop μ-loop) → c .least .result < 32
-small c = bit-within 32 _ (c .before .before .loop .inv .0) (c .least .ensures .set)
+-- a bit of the table's word is the place of a view
+small : (c : tie.After-least Inv-loop μ-loop) → c .least .result < mostViews
+small c = bit-within mostViews _ (c .before .before .loop .inv .0) (c .least .ensures .set)
 
 covers-requires : tie.Need-covers-requires Inv-loop μ-loop
 covers-requires c κs =
-    let k = small (c .before .before) in (c .before .before .before .before .before .pre .3, omega (arith, k), omega arith)
+    let (long, lines, width, a) = c .before .before .before .before .before .before .before .before .pre .0 in
+    let k = small (c .before .before) in (width, omega (arith, k, long), omega (arith, lines, a))
 
-set-bit-if-requires : tie.Need-set-bit-if-requires Inv-loop μ-loop
-set-bit-if-requires c κs = omega (arith, small (c .before .before .before))
+set-bit-requires : tie.Need-set-bit-requires Inv-loop μ-loop
+set-bit-requires c κs = omega (arith, small (c .before .before .before .before))
+
+add-grants : tie.Need-add-grants Inv-loop μ-loop
+add-grants c = omega (arith, small (c .before .before .before .before .before))
+
+mul-grants : tie.Need-mul-grants Inv-loop μ-loop
+mul-grants c = omega (arith, small (c .before .before .before .before .before))
+
+element-copy-out-grants : tie.Need-element-copy-out-grants Inv-loop μ-loop
+element-copy-out-grants c = omega (arith, small (c .before .before .before .before .before))
 
 drop-least-requires : tie.Need-drop-least-requires Inv-loop μ-loop
 drop-least-requires c κs = omega arith
@@ -47,29 +88,32 @@ loop-less c = c .drop-least .ensures .less
 
 loop-again : tie.Need-loop-again Inv-loop μ-loop
 loop-again c =
-    let at = c .before .before .before .before .before .before .before .loop in
-    let found = c .before .before .before .before .before in
+    let s = c .before .before .before .before .before in
+    let at = s .before .before .loop in
+    let k = s .least in
+    let (small-left, small-word, union, picked) = at .inv in
     let answer = c .before .before .covers in (
       omega (arith, c .drop-least .ensures .less),
-      rw (c .before .set-bit-if .ensures) (set-where-below 32 (at .word) _ (answer .result) (at .inv .1) (small found)),
-      λ views A l.
-          let w = at .inv .2 views A l in
-          let k = found .least in
+      ⊎-elim (λ w. rw (w .3, w .1 .ensures) (set-bit-below mostViews (at .word) (k .result) small-word (small s))) (λ w. rw (w .1) small-word)
+          (c .before .if1 .came),
+      ⊎-elim (λ w. rw (w .3, w .4, w .1 .ensures) (union-more _ (k .result) union)) (λ w. rw (w .1, w .2) union) (c .before .if1 .came),
+      λ vs A l.
+          let w = picked vs A l in
           picked-more (answer .result) _ w (k .ensures) (c .drop-least .ensures)
           (true-iff (answered l (k .result) (answer .result) (w .some (k .result) (k .ensures .set)) (answer .ensures)))
-          (c .before .set-bit-if .ensures),
+          (⊎-elim (λ w. rw (w .0 .taken, w .3) (w .1 .ensures)) (λ w. rw (w .0 .left) (w .1)) (c .before .if1 .came)),
     )
 
-table-at-requires : tie.Need-table-at-requires Inv-loop μ-loop
-table-at-requires c κs = omega arith
-
 join-requires : tie.Need-join-requires Inv-loop μ-loop
-join-requires c κs = (rw (c .table-at .ensures) (c .before .before .before .before .pre .5), omega (arith, c .before .before .before .loop .inv .1))
+join-requires c κs = (omega (arith, last (c .before .before .before)), c .before .loop .inv .1)
 
 returns : tie.Need-returns Inv-loop μ-loop
-returns c views A l =
-    let inv = c .before .before .before .before .loop .inv in
-    c .join .ensures ∙ labelled l _ _ _ (c .before .table-at .ensures) (c .before .before .before .loop-test .left) (inv .1) (inv .2 views A l)
+returns c = λ vs A l.
+    let (_, small-word, union, picked) = c .before .before .loop .inv in
+    let r = c .before .before .before .before .before .before .args .r .now in
+    let word = c .before .before .loop .word in
+    let done = subst (λ (m : ℕ). Picked (Covering vs A) (tableWord r (A .table)) m word) (c .before .loop-test .left) (picked vs A l) in
+    (c .join .ensures ∙ labelled l done _ (c .before .before .before .before .table-at .ensures) small-word, reached l done union)
 
 pub label-line-spec : {M : Type 1} → statement M
 label-line-spec =
@@ -77,13 +121,19 @@ label-line-spec =
     (tie.spec
     Inv-loop
     μ-loop
+    table-at-requires
+    add-left
+    mul-left
+    element-copy-out-left
     loop-holds
     least-requires
     covers-requires
-    set-bit-if-requires
+    set-bit-requires
+    add-grants
+    mul-grants
+    element-copy-out-grants
     drop-least-requires
     loop-less
     loop-again
-    table-at-requires
     join-requires
     returns)

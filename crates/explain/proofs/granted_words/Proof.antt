@@ -1,33 +1,39 @@
--- `explain::granted_words`: the words are those of the labels from `i` on.
+-- `granted_words`: the words are those of the labels from `i` on.
 use mathlib.Core.Path.{_≡_, sym, ap, _∙_}
 use mathlib.Core.List.{List}
 use Prim.Native.Nat.{ℕ, _+_, _≤_}
 use native.Mathlib.Omega.{arith}
 use borrow.Author.Needs.{needs}
-use Rattle.labelling.specs.Posed.{labelsValue}
-use Rattle.explain.specs.Value.{wordsValue}
+use Rattle.labelling.specs.Posed.{wordsValue}
+use Rattle.labelling.specs.declared.Words.{Words}
 use Rattle.explain.proofs.Gathered.{grantedFrom, granted-all, granted-none, granted-more}
 use Rattle.explain.proofs.granted_words.Statement.{statement}
 use Rattle.explain.proofs.granted_words.Tie as tie
 
 abbrev Inv-loop : tie.InvT-loop
-Inv-loop granted l r₀ i₀ r i = (r .count + i ≤ l .count) × ((ws : List ℕ) → l ≡ labelsValue ws → r ≡ wordsValue (grantedFrom granted ws i))
+Inv-loop granted l r₀ i₀ r i = (r .count + i ≤ l .count) × ((ws : List ℕ) → l ≡ wordsValue ws → r ≡ wordsValue (grantedFrom granted ws i))
 
 abbrev μ-loop : tie.MeasureT-loop
 μ-loop granted l r₀ i₀ r i = i
 
+no-words-requires : tie.Need-no-words-requires Inv-loop μ-loop
+no-words-requires c κs = search needs
+
 loop-holds : tie.Need-loop-holds Inv-loop μ-loop
 unfolding wordsValue
-loop-holds c = (search needs, λ ws e. ap wordsValue (sym (granted-none _ _ ws e)))
+loop-holds c =
+    let none = c .no-words .ensures in
+    let empty : c .no-words .result .count ≡ 0 = ap (λ (w : Words). w .count) none in
+    (omega (arith, empty), λ ws e. none ∙ ap wordsValue (sym (granted-none _ _ ws e)))
 
 sub-i : tie.Need-sub-i Inv-loop μ-loop
 sub-i c = omega (arith, c .loop-test .taken)
 
 mul-high-half : tie.Need-mul-high-half Inv-loop μ-loop
-mul-high-half c = omega (arith, c .loop-test .taken, c .before .loop .inv .0, c .before .before .pre)
+mul-high-half c = omega (arith, c .loop-test .taken, c .before .loop .inv .0, c .before .before .before .pre)
 
 element-copy-out-high-half : tie.Need-element-copy-out-high-half Inv-loop μ-loop
-element-copy-out-high-half c = omega (arith, c .loop-test .taken, c .before .loop .inv .0, c .before .before .pre)
+element-copy-out-high-half c = omega (arith, c .loop-test .taken, c .before .loop .inv .0, c .before .before .before .pre)
 
 high-half-requires : tie.Need-high-half-requires Inv-loop μ-loop
 high-half-requires c κs = search needs
@@ -35,7 +41,7 @@ high-half-requires c κs = search needs
 insert-word-requires : tie.Need-insert-word-requires Inv-loop μ-loop
 insert-word-requires c κs =
     let at = c .before .before in
-    omega (arith, at .loop-test .taken, at .before .loop .inv .0, at .before .before .pre)
+    omega (arith, at .loop-test .taken, at .before .loop .inv .0, at .before .before .before .pre)
 
 loop-less : tie.Need-loop-less Inv-loop μ-loop
 loop-less c = omega (arith, c .before .before .before .loop-test .taken)
@@ -59,6 +65,7 @@ granted-words-spec =
     (tie.spec
     Inv-loop
     μ-loop
+    no-words-requires
     loop-holds
     sub-i
     mul-high-half

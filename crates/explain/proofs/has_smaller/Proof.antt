@@ -5,17 +5,17 @@ use Prim.Native.Nat.{ℕ, _-_, _≤_, _<_}
 use native.Mathlib.Omega.{arith}
 use borrow.Author.Needs.{needs}
 use lib.ListN.{length, getD}
-use Rattle.labelling.specs.Posed.{labelsValue}
+use Rattle.labelling.specs.Posed.{wordsValue}
 use Rattle.explain.specs.Explanation.{exceeds}
 use Rattle.explain.proofs.Gathered.{label-passes}
 use Rattle.explain.proofs.Lacking.{passes, any-lacking}
 use Rattle.explain.proofs.Search.{NoneBefore, none-more, one-there, none-there}
-use Rattle.explain.proofs.Value.{labels-count}
+use Rattle.explain.proofs.Value.{count-is}
 use Rattle.explain.proofs.has_smaller.Statement.{statement}
 use Rattle.explain.proofs.has_smaller.Tie as tie
 
 abbrev Inv-loop : tie.InvT-loop
-Inv-loop granted v l n i₀ i = (ws : List ℕ) → l ≡ labelsValue ws → NoneBefore (passes granted (exceeds v)) ws i
+Inv-loop granted v l n i₀ i = (ws : List ℕ) → l ≡ wordsValue ws → NoneBefore (passes granted (exceeds v)) ws i
 
 abbrev μ-loop : tie.MeasureT-loop
 μ-loop granted v l n i₀ i = n - i
@@ -35,13 +35,13 @@ high-half-requires c κs = search needs
 exceeds-lacking-requires : tie.Need-exceeds-lacking-requires Inv-loop μ-loop
 exceeds-lacking-requires c κs = search needs
 
-inside : (c : tie.In-loop Inv-loop μ-loop) (ws : List ℕ) → c .before .before .args .t1 ≡ labelsValue ws → c .before .loop .i < length ws
-inside c ws e = omega (arith, c .loop-test .taken, labels-count (c .before .before .args .t1) ws e)
+inside : (c : tie.In-loop Inv-loop μ-loop) (ws : List ℕ) → c .before .before .args .t1 ≡ wordsValue ws → c .before .loop .i < length ws
+inside c ws e = omega (arith, c .loop-test .taken, count-is (c .before .before .args .t1) ws e)
 
 -- what the test says of the label at `i`
 tested : (c : tie.After-exceeds-lacking Inv-loop μ-loop) →
     let at = c .before .before .before .before in
-    (ws : List ℕ) → at .before .args .t1 ≡ labelsValue ws
+    (ws : List ℕ) → at .before .args .t1 ≡ wordsValue ws
     → passes (at .before .args .granted) (exceeds (at .before .args .v)) (getD ws (at .loop .i) 0) ≡ c .exceeds-lacking .result
 tested c ws e = label-passes _ _ ws e (exceeds _) _ _ (c .before .high-half .ensures) ∙ sym (c .exceeds-lacking .ensures)
 
@@ -66,7 +66,7 @@ loop-again c = λ ws e.
 
 returns-2 : tie.Need-returns-2 Inv-loop μ-loop
 returns-2 c = λ ws e.
-    let past : length ws ≤ c .before .loop .i = omega (arith, c .loop-test .left, labels-count (c .before .before .args .t1) ws e) in
+    let past : length ws ≤ c .before .loop .i = omega (arith, c .loop-test .left, count-is (c .before .before .args .t1) ws e) in
     rw any-lacking (none-there (passes _ (exceeds _)) ws (c .before .loop .i) past (c .before .loop .inv ws e))
 
 pub has-smaller-spec : {M : Type 1} → statement M

@@ -7,7 +7,7 @@ use borrow.Author.Needs.{needs}
 use borrow.Author.Tests.{eq-eqb, ne-eqb}
 use lib.Dec.{eqb}
 use lib.ListN.{length}
-use Rattle.explain.specs.Value.{wordsValue}
+use Rattle.labelling.specs.Posed.{wordsValue}
 use Rattle.explain.proofs.Search.{NoneBefore, none-more, one-there, none-there}
 use Rattle.explain.proofs.Value.{count-is, word-is}
 use Rattle.explain.proofs.has_word.Statement.{statement}

@@ -1,44 +1,50 @@
--- `explain::lacking_words`: the words are those of the labels from `i` on.
+-- `lacking_words`: the words are those of the labels from `i` on.
 use mathlib.Core.Path.{_≡_, sym, ap, _∙_}
 use mathlib.Core.List.{List}
 use Prim.Native.Nat.{ℕ, _+_, _≤_}
 use native.Mathlib.Omega.{arith}
 use borrow.Author.Needs.{needs}
-use Rattle.labelling.specs.Posed.{labelsValue}
-use Rattle.explain.specs.Value.{wordsValue}
+use Rattle.labelling.specs.Posed.{wordsValue}
+use Rattle.labelling.specs.declared.Words.{Words}
 use Rattle.explain.proofs.Gathered.{lackingFrom, lacking-all, lacking-none, lacking-told, lacking-untold}
 use Rattle.explain.proofs.lacking_words.Statement.{statement}
 use Rattle.explain.proofs.lacking_words.Tie as tie
 
 abbrev Inv-loop : tie.InvT-loop
-Inv-loop granted l r₀ i₀ r i = (r .count + i ≤ l .count) × ((ws : List ℕ) → l ≡ labelsValue ws → r ≡ wordsValue (lackingFrom granted ws i))
+Inv-loop granted l r₀ i₀ r i = (r .count + i ≤ l .count) × ((ws : List ℕ) → l ≡ wordsValue ws → r ≡ wordsValue (lackingFrom granted ws i))
 
 abbrev μ-loop : tie.MeasureT-loop
 μ-loop granted l r₀ i₀ r i = i
 
+no-words-requires : tie.Need-no-words-requires Inv-loop μ-loop
+no-words-requires c κs = search needs
+
 loop-holds : tie.Need-loop-holds Inv-loop μ-loop
 unfolding wordsValue
-loop-holds c = (search needs, λ ws e. ap wordsValue (sym (lacking-none _ _ ws e)))
+loop-holds c =
+    let none = c .no-words .ensures in
+    let empty : c .no-words .result .count ≡ 0 = ap (λ (w : Words). w .count) none in
+    (omega (arith, empty), λ ws e. none ∙ ap wordsValue (sym (lacking-none _ _ ws e)))
 
 sub-i : tie.Need-sub-i Inv-loop μ-loop
 sub-i c = omega (arith, c .loop-test .taken)
 
 mul-high-half : tie.Need-mul-high-half Inv-loop μ-loop
-mul-high-half c = omega (arith, c .loop-test .taken, c .before .loop .inv .0, c .before .before .pre)
+mul-high-half c = omega (arith, c .loop-test .taken, c .before .loop .inv .0, c .before .before .before .pre)
 
 element-copy-out-high-half : tie.Need-element-copy-out-high-half Inv-loop μ-loop
-element-copy-out-high-half c = omega (arith, c .loop-test .taken, c .before .loop .inv .0, c .before .before .pre)
+element-copy-out-high-half c = omega (arith, c .loop-test .taken, c .before .loop .inv .0, c .before .before .before .pre)
 
 high-half-requires : tie.Need-high-half-requires Inv-loop μ-loop
 high-half-requires c κs = search needs
 
 is-told-requires : tie.Need-is-told-requires Inv-loop μ-loop
-is-told-requires c κs = c .before .before .before .before .pre
+is-told-requires c κs = let at = c .before .before in at .before .before .before .pre
 
 add-word-requires : tie.Need-add-word-requires Inv-loop μ-loop
 add-word-requires c κs =
     let at = c .before .before .before .before in
-    omega (arith, at .loop-test .taken, at .before .loop .inv .0, at .before .before .pre)
+    omega (arith, at .loop-test .taken, at .before .loop .inv .0, at .before .before .before .pre)
 
 loop-less : tie.Need-loop-less Inv-loop μ-loop
 loop-less c = omega (arith, c .before .before .before .before .before .loop-test .taken)
@@ -77,6 +83,7 @@ lacking-words-spec =
     (tie.spec
     Inv-loop
     μ-loop
+    no-words-requires
     loop-holds
     sub-i
     mul-high-half

@@ -1,4 +1,4 @@
--- `labels::label_lines`: the words written are the labels of the shown lines, of those left before `i`.
+-- `label_lines`: the words written are the labels of the shown lines, of those left before `i`, and the partitions have a view for each.
 use mathlib.Core.Path.{_≡_, sym, _∙_}
 use mathlib.Core.Bool.{true}
 use mathlib.Core.Logic.{⊎-elim}
@@ -6,47 +6,52 @@ use Prim.Native.Nat.{ℕ, _-_, _≤_, _<_}
 use native.Mathlib.Omega.{arith}
 use lib.ListN.{length, take}
 use Rattle.theory.specs.Query.{Query, over}
-use Rattle.theory.specs.Executable.Label.{label}
 use Rattle.theory.specs.Executable.Show.{showTerm}
 use Rattle.words.specs.Bits.{isSet}
+use Rattle.model.specs.Limits.{mostLines}
 use Rattle.model.specs.Value.{pad}
 use Rattle.policy_text.specs.Declared.{Declared}
 use Rattle.reduce.specs.Left.{pick, linesAt}
 use Rattle.reduce.specs.Showing.{SharedWord}
 use Rattle.labelling.specs.Posed.{Ready, Rows}
-use Rattle.labelling.proofs.Lines.{some-line, shown-line, Written, written-none, written-more, written-same, written-all}
+use Rattle.labelling.proofs.Lines.{some-line, shown-line}
+use Rattle.labelling.proofs.Written.{Written, written-none, written-more, written-same, written-all}
 use Rattle.labelling.proofs.label_lines.Statement.{statement}
 use Rattle.labelling.proofs.label_lines.Tie as tie
 
 abbrev Inv-loop : tie.InvT-loop
-Inv-loop tables masks views n lines left words₀ count₀ i₀ words count i =
+Inv-loop tables r n lines left words₀ count₀ settling₀ i₀ words count settling i =
     (i ≤ n)
     × (count ≤ i)
-    × ((d : Declared) (Q : Query) (w : ℕ) → Ready d tables masks views → length Q ≡ n
-    → Rows d Q w lines → SharedWord (linesAt left Q) w
-    → Written (λ A. label (d .views) (over (showTerm (linesAt left Q)) A)) (pick (isSet left) (take i Q)) words count)
+    × ((d : Declared) (Q : Query) (w : ℕ) → Ready d tables r → length Q ≡ n → Rows d Q w lines → SharedWord (linesAt left Q) w
+    → Written d (over (showTerm (linesAt left Q))) (pick (isSet left) (take i Q)) words count settling)
 
 abbrev μ-loop : tie.MeasureT-loop
-μ-loop tables masks views n lines left words₀ count₀ i₀ words count i = n - i
+μ-loop tables r n lines left words₀ count₀ settling₀ i₀ words count settling i = n - i
+
+every-partition-requires : tie.Need-every-partition-requires Inv-loop μ-loop
+every-partition-requires c κs = let (d, Q, w, ready, e, rows) = c .pre .0 in ready .long
 
 loop-holds : tie.Need-loop-holds Inv-loop μ-loop
 unfolding pick pad
-loop-holds c = (omega arith, omega arith, λ d Q w ready e rows word. written-none _)
+loop-holds c =
+    (omega arith, omega arith, λ d Q w ready e rows word. written-none _ _ ready (c .every-partition .ensures))
 
 -- the query that was given has at most eight lines
-room : (c : tie.In-loop Inv-loop μ-loop) → c .before .loop .i < 8
-room c = let (d, Q, w, ready, e, rows) = c .before .before .pre .0 in omega (arith, c .loop-test .taken, e, rows .lines)
+room : (c : tie.In-loop Inv-loop μ-loop) → c .before .loop .i < mostLines
+room c =
+    let (d, Q, w, ready, e, rows) = c .before .before .before .pre .0 in omega (arith, c .loop-test .taken, e, rows .lines)
 
 has-bit-requires : tie.Need-has-bit-requires Inv-loop μ-loop
 has-bit-requires c κs = omega (arith, room c)
 
 label-of-requires : tie.Need-label-of-requires Inv-loop μ-loop
 label-of-requires c κs =
-    let at = c .before .before in
-    let s = at .before .before in
-    let (d, Q, w, ready, e, rows) = s .pre .0 in
-    let h : at .before .loop .i < length Q = rw e (at .loop-test .taken) in
-    ((d, _, ready, some-line rows (at .before .loop .i) h), s .pre .1, omega (arith, room at))
+    let s = c .before .before in
+    let start = s .before .before .before in
+    let (d, Q, w, ready, e, rows) = start .pre .0 in
+    let h : s .before .loop .i < length Q = rw e (s .loop-test .taken) in
+    ((d, _, ready, some-line rows (s .before .loop .i) h), start .pre .1, omega (arith, room s))
 
 mul-words : tie.Need-mul-words Inv-loop μ-loop
 mul-words c = omega (arith, room (c .before .before .before))
@@ -55,7 +60,7 @@ array-write-words : tie.Need-array-write-words Inv-loop μ-loop
 array-write-words c = omega (arith, room (c .before .before .before))
 
 add-count : tie.Need-add-count Inv-loop μ-loop
-add-count c = omega (arith, room (c .before .before .before))
+add-count c = omega (arith, room (c .before .before .before .before))
 
 add-i : tie.Need-add-i Inv-loop μ-loop
 add-i c = omega (arith, room (c .before .before))
@@ -65,26 +70,26 @@ loop-less c = omega (arith, c .before .before .loop-test .taken)
 
 loop-again : tie.Need-loop-again Inv-loop μ-loop
 loop-again c =
-    let at = c .before .before .before .loop in
-    let args = c .before .before .before .before .args in (
+    let s = c .before .before in
+    let at = s .before .loop in
+    let args = s .before .before .before .args in
+    let bit = c .before .has-bit .ensures in (
       omega arith,
-      ⊎-elim (λ x. rw (x .3) (omega arith)) (λ x. rw (x .2) (omega arith)) (c .if1 .came),
+      ⊎-elim (λ x. rw (x .4) (omega arith)) (λ x. rw (x .2) (omega arith)) (c .if1 .came),
       λ d Q w ready e rows word.
-          let h : at .i < length Q = rw e (c .before .before .loop-test .taken) in
-          let v = at .inv .2 d Q w ready e rows word in
+          let h : at .i < length Q = rw e (s .loop-test .taken) in
+          let before = at .inv .2 d Q w ready e rows word in
           ⊎-elim
           (λ x.
-          let t : isSet (args .left) (at .i) ≡ true = sym (c .before .has-bit .ensures) ∙ x .0 .taken in
-          let l = shown-line rows (at .i) h (args .left) word t in
-          rw (x .2, x .3, x .1 .ensures d _ ready l) (written-more (args .left) Q (at .i) v h t (omega (arith, room (c .before .before)))))
-          (λ x. rw (x .1, x .2) (written-same (args .left) Q (at .i) v h (sym (c .before .has-bit .ensures) ∙ x .0 .left)))
-          (c .if1 .came),
+          let t : isSet (args .left) (at .i) ≡ true = sym bit ∙ x .0 .taken in
+          let (is, answering) = x .1 .ensures d _ ready (shown-line rows (at .i) h (args .left) word t) in
+          rw (x .3, x .4, x .5) (written-more (args .left) Q (at .i) before h t (omega (arith, room s)) _ is answering))
+          (λ x. rw (x .1, x .2, x .3) (written-same (args .left) Q (at .i) before h (sym bit ∙ x .0 .left))) (c .if1 .came),
     )
 
 returns : tie.Need-returns Inv-loop μ-loop
 returns c = λ d Q w ready e rows word.
-    written-all (d .views) (c .before .before .args .left) Q (c .before .loop .i) _ _ (rw e (c .loop-test .left))
-    (c .before .loop .inv .2 d Q w ready e rows word)
+    written-all d _ Q (c .before .loop .i) _ _ _ (rw e (c .loop-test .left)) (c .before .loop .inv .2 d Q w ready e rows word)
 
 pub label-lines-spec : {M : Type 1} → statement M
 label-lines-spec =
@@ -92,6 +97,7 @@ label-lines-spec =
     (tie.spec
     Inv-loop
     μ-loop
+    every-partition-requires
     loop-holds
     has-bit-requires
     label-of-requires

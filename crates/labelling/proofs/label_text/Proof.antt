@@ -1,3 +1,4 @@
+-- `label_text`: a text that is read is labelled, and one that is turned back has no label.
 use mathlib.Core.Path.{ap, ap₂, sym, _∙_}
 use borrow.Author.Needs.{needs}
 use Rattle.query_text.specs.Text.{read}
@@ -32,14 +33,14 @@ returns c = λ d ready.
     let r = c .before .before .before .before .read-query in
     let (Q, e, o, q) = read-accepted (read (d .widths) _) (r .result) (r .ensures (d .widths) (ready .tablesAre)) (c .before .before .before .match .keys1) in
     ap₂ (λ x y. record { outcome = x; labels = y }) o (c .label-query .ensures d Q ready (posed d _ Q (ready .good) e q))
-    ∙ ap (askedValue (d .views)) (sym e)
+    ∙ ap (askedValue d) (sym e)
 
 returns-2 : tie.Need-returns-2
 unfolding askedValue
 returns-2 c = λ d ready.
     let r = c .before .before .before .read-query in
     let (n, k, e, o) = read-refused (read (d .widths) _) (r .result) (r .ensures (d .widths) (ready .tablesAre)) (c .before .before .match .keys2) in
-    ap₂ (λ x y. record { outcome = x; labels = y }) o (c .no-labels .ensures) ∙ ap (askedValue (d .views)) (sym e)
+    ap₂ (λ x y. record { outcome = x; labels = y }) o (c .no-labels .ensures) ∙ ap (askedValue d) (sym e)
 
 pub label-text-spec : {M : Type 1} → statement M
 label-text-spec =

@@ -7,13 +7,11 @@ use Rattle.query_text.proofs.fault.Statement.{statement}
 use Rattle.query_text.proofs.fault.Tie as tie
 
 returns : tie.Need-returns
-unfolding mostLines
 returns c =
     let a = c .before .args in
     (λ w e A t n m r. ninth w e A (a .count) (a .p) n r (c .if1 .taken), λ z. absurd (omega arith))
 
 returns-2 : tie.Need-returns-2
-unfolding mostLines
 returns-2 c =
     let a = c .before .before .args in
     (λ w e A t n m r. past-limit w e A (a .count) (a .p) n r (c .before .if1 .left) (c .if2 .taken), λ z. absurd (omega arith))
@@ -22,7 +20,6 @@ check-line-requires : tie.Need-check-line-requires
 check-line-requires c κs = c .before .before .pre (c .if2 .left)
 
 returns-3 : tie.Need-returns-3
-unfolding mostLines
 returns-3 c =
     let a = c .before .before .before .args in
     let few = c .before .before .if1 .left in

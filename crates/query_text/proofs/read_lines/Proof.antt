@@ -104,7 +104,6 @@ part-rest-end : tie.Need-part-rest-end Inv-loop μ-loop
 part-rest-end c = search needs
 
 next-line-requires : tie.Need-next-line-requires Inv-loop μ-loop
-unfolding mostLines
 next-line-requires c κs = omega (arith, c .before .before .loop .inv)
 
 refused-requires : tie.Need-refused-requires Inv-loop μ-loop
@@ -154,15 +153,12 @@ returns-3 c =
     ∙ ap readingValue (faulty (start f .loop .inv) (ends (of-fault f)) (a .0) (a .1) (f .fault .result) (c .before .if3 .taken) widths t (fault-is f widths t))
 
 mul-t18 : tie.Need-mul-t18 Inv-loop μ-loop
-unfolding mostLines
 mul-t18 c = omega (arith, faultless (c .before) .0)
 
 element-set-from-q : tie.Need-element-set-from-q Inv-loop μ-loop
-unfolding mostLines
 element-set-from-q c = faultless (c .before) .0
 
 add-q : tie.Need-add-q Inv-loop μ-loop
-unfolding mostLines
 add-q c = omega (arith, faultless (c .before) .0)
 
 add-at : tie.Need-add-at Inv-loop μ-loop

@@ -1,4 +1,4 @@
--- The loop's invariant: the queries so far have their lines, and those to come are the lines of the rest.
+-- `decide_all`. The loop's invariant: the queries so far have their lines, and those to come are the lines of the rest.
 use mathlib.Core.Path.{_≡_, subst}
 use mathlib.Core.List.{List}
 use Prim.Native.Nat.{ℕ, _+_, _-_, _≤_, _<_}
@@ -8,15 +8,16 @@ use lib.ListN.{length, take, drop, length-take, length-drop}
 use Rattle.text.proofs.Parts.{to-end}
 use Rattle.desk.specs.Deciding.{decideUnder, Gives}
 use Rattle.cutting.specs.NextCut.{NextCut}
+use Rattle.run.specs.Sizes.{mostInput, mostQueries, lineLong, linesLong}
 use Rattle.run.proofs.Progress.{Progress, progress-none, progress-more, progress-all}
 use Rattle.run.proofs.decide_all.Statement.{statement}
 use Rattle.run.proofs.decide_all.Tie as tie
 
 abbrev Inv-loop : tie.InvT-loop
-Inv-loop p masks views queries out₀ start s₀ query₀ at₀ to₀ out s query at to = Progress p queries out₀ start s₀ out s query at to
+Inv-loop tables r queries out₀ start s₀ query₀ at₀ to₀ out s query at to = Progress tables r queries out₀ start s₀ out s query at to
 
 abbrev μ-loop : tie.MeasureT-loop
-μ-loop p masks views queries out₀ start s₀ query₀ at₀ to₀ out s query at to = length queries - at
+μ-loop tables r queries out₀ start s₀ query₀ at₀ to₀ out s query at to = length queries - at
 
 -- ---- the query text
 
@@ -36,17 +37,17 @@ ends-within c =
 
 -- ---- the number of queries, and the room for their lines
 
-few : (c : tie.After-next-cut Inv-loop μ-loop) → turn c .loop .query ≤ 5463
+few : (c : tie.After-next-cut Inv-loop μ-loop) → turn c .loop .query ≤ mostQueries
 few c =
     let s = turn c .before .before .before in
     let h : turn c .loop .at < length (text c) = c .before .before .loop-test .taken in
-    let n : length (text c) ≤ 65536 = s .pre .3 in
+    let n : length (text c) ≤ mostInput = s .pre .1 in
     omega (arith, turn c .loop .inv .few)
 
-room : (c : tie.After-next-cut Inv-loop μ-loop) → turn c .loop .to + 92 ≤ length (turn c .loop .out)
+room : (c : tie.After-next-cut Inv-loop μ-loop) → turn c .loop .to + lineLong ≤ length (turn c .loop .out)
 room c =
     let s = turn c .before .before .before in
-    let h : s .args .start + 502596 ≤ length (s .args .out .now) = s .pre .4 in
+    let h : s .args .start + linesLong ≤ length (s .args .out .now) = s .pre .2 in
     let z : length (turn c .loop .out) ≡ length (s .args .out .now) = turn c .loop .inv .wrote .size in
     omega (arith, turn c .loop .inv .room, few c)
 
@@ -56,7 +57,7 @@ abbrev of-line : tie.After-slice-known2 Inv-loop μ-loop → tie.After-next-cut 
 of-line c = c .before .before .before .before .before .before .before .before
 
 loop-holds : tie.Need-loop-holds Inv-loop μ-loop
-loop-holds c = progress-none _ _ _ _ _
+loop-holds c = progress-none _ _ _ _ _ _
 
 sub-rest : tie.Need-sub-rest Inv-loop μ-loop
 sub-rest c = omega arith
@@ -76,7 +77,7 @@ slice-aggregate-decide-loaded c =
     simp (length-take, length-drop) (omega (arith, cut-at d .within, length-drop (turn d .loop .at) (text d)))
 
 decide-loaded-requires : tie.Need-decide-loaded-requires Inv-loop μ-loop
-decide-loaded-requires c κs = let s = turn (c .before) .before .before .before in (s .pre .0, s .pre .1, s .pre .2)
+decide-loaded-requires c κs = let s = turn (c .before) .before .before .before in s .pre .0
 
 ones-requires : tie.Need-ones-requires Inv-loop μ-loop
 ones-requires c κs = search needs
@@ -101,9 +102,9 @@ loop-again c =
     let d = o .before .before .before in
     progress-more (turn e .loop .inv) (e .next-cut .result) (cut-at e) (e .before .before .loop-test .taken)
     (d .decide-loaded .result) (o .ones .result) (r .put-reply .result) _
-    (λ f l.
+    (λ f ready.
     subst (λ (x : List ℕ). Gives (d .decide-loaded .result) (decideUnder f (turn e .loop .s) (take (e .next-cut .result) x)))
-    (to-end (turn e .loop .at) (text e)) (d .decide-loaded .ensures f l))
+    (to-end (turn e .loop .at) (text e)) (d .decide-loaded .ensures f ready))
     (o .ones .ensures) (r .put-reply .ensures .0) (r .put-reply .ensures .1)
 
 same-length : tie.Need-same-length Inv-loop μ-loop
@@ -113,7 +114,7 @@ returns : tie.Need-returns Inv-loop μ-loop
 returns c =
     let inv = c .before .loop .inv in
     let s = c .before .before .before .before in
-    let n : length (s .args .queries .now) ≤ 65536 = s .pre .3 in
+    let n : length (s .args .queries .now) ≤ mostInput = s .pre .1 in
     (progress-all inv (c .loop-test .left), omega (arith, inv .room, inv .few, inv .within))
 
 pub decide-all-spec : {M : Type 1} → statement M

@@ -1,4 +1,4 @@
--- The pieces of the line, one behind the other, within the room of 92 bytes.
+-- `put_line`: the pieces of the line, one behind the other, within its room.
 use borrow.Author.Needs.{needs}
 use Rattle.writing.proofs.Wrote.{wrote-byte}
 use Rattle.run.proofs.Line.{wrote-line}

@@ -1,4 +1,4 @@
--- The names line; then the refusal of the policy, or the lines of the queries.
+-- `run`: the names line; then the refusal of the policy, or the lines of the queries.
 use mathlib.Core.Path.{_≡_, refl}
 use Prim.Native.Nat.{_+_, _≤_}
 use native.Mathlib.Omega.{arith}
@@ -7,7 +7,8 @@ use Rattle.policy_text.specs.Text.{load, accepted}
 use Rattle.policy_text.specs.Declared.{Declared}
 use Rattle.labelling.specs.Text.{LoadedTo}
 use Rattle.desk.specs.Reply.{refused}
-use Rattle.desk.proofs.Loaded.{few-partitions, opens-all}
+use Rattle.labelling.proofs.Posing.{counted, ready}
+use Rattle.run.specs.Sizes.{mostOutput, namesLong, linesLong}
 use Rattle.run.specs.Output.{outputNames, wordBytes}
 use Rattle.run.proofs.Written.{loads-to, loads-not, behind-names, written-refused, written-accepted}
 use borrow.Author.Needs.{needs}
@@ -49,27 +50,23 @@ put-line-requires c κs = search needs
 enum-told : tie.Need-enum-told
 enum-told c = search needs
 
-table-views-requires : tie.Need-table-views-requires
-table-views-requires c κs = search needs
+prepare-requires : tie.Need-prepare-requires
+prepare-requires c κs = counted (loaded (c .before .before) .2)
 
-view-rows-requires : tie.Need-view-rows-requires
-view-rows-requires c κs = search needs
-
-low-bits-requires : tie.Need-low-bits-requires
-low-bits-requires c κs = omega (arith, few-partitions (loaded (c .before .before .before .before) .2))
+open-loaded-requires : tie.Need-open-loaded-requires
+open-loaded-requires c κs = c .before .before .prepare .ensures .long
 
 decide-all-requires : tie.Need-decide-all-requires
 decide-all-requires c κs =
-    let v = c .before .before .before .before in
-    let m = v .before .before .before .before in
+    let made = c .before .before .before .before .before in
+    let m = made .before .before .before in
     let s = start m in
     let (d, e, l) = loaded m in
     let b = named m in
-    let n : b .put-bytes .result ≡ 31 = b .put-bytes .ensures .next in
+    let n : b .put-bytes .result ≡ namesLong = b .put-bytes .ensures .next in
     let z : length (b .put-bytes .last .0) ≡ length (s .args .out .now) = b .put-bytes .ensures .size in
-    let h : 524288 ≤ length (s .args .out .now) = s .pre .1 in
-    let room : b .put-bytes .result + 502596 ≤ length (b .put-bytes .last .0) = omega arith in
-    ((d, l), v .before .table-views .ensures, v .view-rows .ensures, s .pre .0, room)
+    let h : mostOutput ≤ length (s .args .out .now) = s .pre .1 in
+    ((d, ready l (made .prepare .ensures)), s .pre .0, omega (arith, n, z, h))
 
 same-length : tie.Need-same-length
 same-length c = search needs
@@ -82,10 +79,10 @@ returns c =
     let a = o .before .before in
     let b = a .before .before .before in
     let e = loads-not (load _) (a .load .result) _ _ (a .load .ensures) (o .outcome .given .1) in
-    let n : b .put-bytes .result ≡ 31 = b .put-bytes .ensures .next in
+    let n : b .put-bytes .result ≡ namesLong = b .put-bytes .ensures .next in
     let s = b .before .before .before .before .before .before in
     let z : length (b .put-bytes .last .0) ≡ length (s .args .out .now) = b .put-bytes .ensures .size in
-    let h : 524288 ≤ length (s .args .out .now) = s .pre .1 in (
+    let h : mostOutput ≤ length (s .args .out .now) = s .pre .1 in (
       behind-names _ (b .put-bytes .ensures) (r .put-line .ensures .0 refused refl) (written-refused _ _ _ _ e),
       omega (arith, r .put-line .ensures .1 .0, r .put-line .ensures .1 .1, z, h),
     )
@@ -97,15 +94,17 @@ returns-2 : tie.Need-returns-2
 unfolding outputNames
 returns-2 c =
     let r = c .before .before in
-    let b = r .before .before .before .before in
-    let m = b .before .before .before .before .before in
+    let opened = r .before .before .before in
+    let made = opened .before .before .before in
+    let m = made .before .before .before in
     let (d, e, l) = loaded m in
-    let n : named m .put-bytes .result ≡ 31 = named m .put-bytes .ensures .next in
+    let n : named m .put-bytes .result ≡ namesLong = named m .put-bytes .ensures .next in
     let z : length (named m .put-bytes .last .0) ≡ length (start m .args .out .now) = named m .put-bytes .ensures .size in
-    let h : 524288 ≤ length (start m .args .out .now) = start m .pre .1 in
-    let w = r .decide-all .ensures .0 d l in (
-      behind-names _ (named m .put-bytes .ensures) (rw (opens-all l (b .low-bits .ensures)) at w) (written-accepted _ _ d e),
-      omega (arith, w .size, r .decide-all .ensures .1, z, h),
+    let h : mostOutput ≤ length (start m .args .out .now) = start m .pre .1 in
+    let prepared = ready l (made .prepare .ensures) in
+    let w = r .decide-all .ensures .0 d prepared in (
+      behind-names _ (named m .put-bytes .ensures) (rw (opened .open-loaded .ensures d _ prepared) at w) (written-accepted _ _ d e),
+      omega (arith, w .size, r .decide-all .ensures .1, n, z, h),
     )
 
 pub run-spec : {M : Type 1} → statement M
@@ -119,9 +118,8 @@ run-spec =
     slice-aggregate-put-line
     put-line-requires
     enum-told
-    table-views-requires
-    view-rows-requires
-    low-bits-requires
+    prepare-requires
+    open-loaded-requires
     decide-all-requires
     same-length
     returns

@@ -1,8 +1,8 @@
 -- What the tests on lists and terms say.
-use mathlib.Core.Path.{_≡_, refl, sym, ap, subst}
+use mathlib.Core.Path.{_≡_, refl, sym, ap, ap₂, subst}
 use mathlib.Core.Logic.{_↔_, _⊎_, ⊎-elim}
 use mathlib.Core.Bool.{Bool, true, false, not, _&&_, _||_, and-true, and-assoc}
-use mathlib.Core.List.{List, [], _∷_, _++_, List·Memᴰ·head, List·Memᴰ·tail, List·Memᴰ·not-nil, List·Memᴰ·cases-cons}
+use mathlib.Core.List.{List, [], _∷_, _++_, map, List·Memᴰ·head, List·Memᴰ·tail, List·Memᴰ·not-nil, List·Memᴰ·cases-cons}
 use Prim.Native.Nat.{ℕ, zero, suc, _<_}
 use native.Mathlib.Nat.{not-suc-le-zero, le-refl, le-step, le-of-suc-le-suc, eq-or-lt-of-le}
 use lib.Dec.{T, eqb-refl}
@@ -118,3 +118,15 @@ same-to (hidden n) (hidden k) h = ap hidden (eqb-yes h)
 
 pub same-iff : (t u : Term) → T (same t u) ↔ (t ≡ u)
 same-iff t u = (same-to t u, λ e. subst (λ (x : Term). T (same t x)) e (same-self t))
+
+-- ---- every element, of a list that is made of another, and by two tests
+
+pub all-map : {X Y : Type 0} (f : Y → Bool) (g : X → Y) (l : List X) → all f (map g l) ≡ all (λ x. f (g x)) l
+unfolding all
+all-map f g [] = refl
+all-map f g (x ∷ l) = ap (λ (b : Bool). f (g x) && b) (all-map f g l)
+
+pub all-same : {X : Type 0} (f g : X → Bool) (l : List X) → ((x : X) → x ∈ l → f x ≡ g x) → all f l ≡ all g l
+unfolding all
+all-same f g [] h = refl
+all-same f g (x ∷ l) h = ap₂ (λ (a b : Bool). a && b) (h x (List·Memᴰ·head refl)) (all-same f g l (λ y m. h y (List·Memᴰ·tail m)))

@@ -1,11 +1,15 @@
--- `desk::explaining::explain`: 8, 4, what the text is turned back for, or what `give_words` does with its labels.
+-- `explain`: 8, 4, what the text is turned back for, or what `give_words` does with its labels.
+use mathlib.Core.Path.{_≡_}
+use mathlib.Core.Bool.{true}
 use Prim.Native.Nat.{_≤_}
 use native.Mathlib.Omega.{arith}
 use borrow.Author.Needs.{needs}
 use Rattle.words.proofs.Answers.{passes, fails, passing, failing}
+use Rattle.model.specs.Limits.{mostPartitions, upTo}
+use Rattle.validity.specs.Loadable.{Loadable}
 use Rattle.desk.proofs.Loaded.{loaded-to}
 use Rattle.desk.proofs.Asked.{text-accepted, text-turned}
-use Rattle.desk.proofs.Explained.{partition-place, unexplained, no-partition, text-refused, text-explained}
+use Rattle.desk.proofs.Explained.{partition-place, unexplained, no-partition, text-refused, settled-same, text-explained}
 use Rattle.desk.proofs.explaining.explain.Statement.{statement}
 use Rattle.desk.proofs.explaining.explain.Tie as tie
 
@@ -20,38 +24,50 @@ is-among-requires c κs = search needs
 
 returns-2 : tie.Need-returns-2
 returns-2 c =
-    no-partition (passes (c .before .before .before .valid .ensures) (c .before .before .if1 .left)) (failing (c .before .is-among .ensures) (c .if2 .taken))
+    let valid = passes (c .before .before .before .valid .ensures) (c .before .before .if1 .left) in
+    no-partition valid (failing (c .before .is-among .ensures) (c .if2 .taken))
 
-place : (c : tie.Else2) → (1 ≤ c .before .before .before .before .before .before .args .n) × (c .before .before .before .before .before .before .args .n ≤ 32)
-place c =
-    partition-place (passes (c .before .before .before .valid .ensures) (c .before .before .if1 .left)) _
-    (passing (c .before .is-among .ensures) (c .if2 .left))
+-- the policy is loadable, and the partition one of its own
+is-loadable : (c : tie.Else2) → Loadable (c .before .before .before .before .before .before .args .p)
+is-loadable c = passes (c .before .before .before .valid .ensures) (c .before .before .if1 .left)
 
-sub-granted : tie.Need-sub-granted
-sub-granted c = omega (arith, place c)
+among : (c : tie.Else2) →
+    let a = c .before .before .before .before .before .before .args in
+    upTo (a .p .«partition_count») (a .n) ≡ true
+among c = passing (c .before .is-among .ensures) (c .if2 .left)
 
-mul-granted : tie.Need-mul-granted
-mul-granted c = omega (arith, place c)
-
-element-copy-out-granted : tie.Need-element-copy-out-granted
-element-copy-out-granted c = omega (arith, place c)
+place : (c : tie.Else2) →
+    let n = c .before .before .before .before .before .before .args .n in
+    (1 ≤ n) × (n ≤ mostPartitions)
+place c = partition-place (is-loadable c) _ (among c)
 
 ask-requires : tie.Need-ask-requires
-ask-requires c κs =
-    let e = c .before in
-    let l = passes (e .before .before .before .valid .ensures) (e .before .before .if1 .left) in
-    (l .declared, loaded-to l)
+ask-requires c κs = let l = is-loadable c in (l .declared, loaded-to l)
 
 enum-told : tie.Need-enum-told
 enum-told c = search needs
 
+sub-granted-views : tie.Need-sub-granted-views
+sub-granted-views c = place (c .before .before .before .before .before .before) .0
+
+granted-views-requires : tie.Need-granted-views-requires
+granted-views-requires c κs = let (from, to) = place (c .before .before .before .before .before .before) in omega (arith, from, to)
+
+sub-has-bit : tie.Need-sub-has-bit
+sub-has-bit c = place (c .before .before .before .before .before .before .before) .0
+
+has-bit-requires : tie.Need-has-bit-requires
+has-bit-requires c κs = let (from, to) = place (c .before .before .before .before .before .before .before) in omega (arith, from, to)
+
 give-words-requires : tie.Need-give-words-requires
 give-words-requires c κs =
-    let a = c .before .before .before .before in
-    let e = a .before .before in
-    let l = passes (e .before .before .before .valid .ensures) (e .before .before .if1 .left) in
-    let q = text-accepted _ _ (a .ask .ensures) l (c .before .before .before .match .keys1) in
-    (_, q .held)
+    let g = c .before .before in
+    let m = g .before .before .before .before .before in
+    let a = m .before in
+    let e = a .before in
+    let l = is-loadable e in
+    let q = text-accepted _ _ (a .ask .ensures) l (m .match .keys1) in
+    (_, q .held, settled-same (record { among = among e; views = g .granted-views .ensures; says = c .before .has-bit .ensures }) l q)
 
 enum-known-outcome : tie.Need-enum-known-outcome
 enum-known-outcome c = search needs
@@ -61,20 +77,19 @@ same-length c = search needs
 
 returns-3 : tie.Need-returns-3
 returns-3 c =
-    let a = c .before .before .before .before .before .before .before in
-    let e = a .before .before in
-    text-explained (a .ask .result) (passes (e .before .before .before .valid .ensures) (e .before .before .if1 .left))
-    (passing (e .before .is-among .ensures) (e .if2 .left))
-    (λ l. text-accepted _ _ (a .ask .ensures) l (c .before .before .before .before .before .before .match .keys1))
-    (c .before .before .give-words .ensures)
+    let b = c .before .before .before .before in
+    let g = b .before in
+    let m = g .before .before .before .before .before in
+    let a = m .before in
+    let e = a .before in
+    text-explained (is-loadable e) (record { among = among e; views = g .granted-views .ensures; says = b .has-bit .ensures })
+    (λ l. text-accepted _ _ (a .ask .ensures) l (m .match .keys1)) (c .before .before .give-words .ensures)
 
 returns-4 : tie.Need-returns-4
 returns-4 c =
     let a = c .before .before .before in
-    let e = a .before .before in
-    text-refused (passes (e .before .before .before .valid .ensures) (e .before .before .if1 .left))
-    (passing (e .before .is-among .ensures) (e .if2 .left))
-    (λ l. text-turned _ _ (a .ask .ensures) l (c .before .outcome .given .1))
+    let e = a .before in
+    text-refused (is-loadable e) (among e) (λ l. text-turned _ _ (a .ask .ensures) l (c .before .outcome .given .1))
 
 pub explain-spec : {M : Type 1} → statement M
 explain-spec =
@@ -84,11 +99,12 @@ explain-spec =
     returns
     is-among-requires
     returns-2
-    sub-granted
-    mul-granted
-    element-copy-out-granted
     ask-requires
     enum-told
+    sub-granted-views
+    granted-views-requires
+    sub-has-bit
+    has-bit-requires
     give-words-requires
     enum-known-outcome
     same-length

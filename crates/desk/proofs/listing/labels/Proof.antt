@@ -22,7 +22,7 @@ enum-told c = search needs
 
 give-labels-requires : tie.Need-give-labels-requires
 give-labels-requires c κs =
-    let m = c .before .before .before in
+    let m = c .before .before .before .before in
     let a = m .before in
     let l = passes (a .before .before .valid .ensures) (a .before .if1 .left) in
     labels-held (text-accepted _ _ (a .ask .ensures) l (m .match .keys1) .held)
@@ -35,7 +35,7 @@ same-length c = search needs
 
 returns-2 : tie.Need-returns-2
 returns-2 c =
-    let m = c .before .before .before .before .before .before in
+    let m = c .before .before .before .before .before .before .before in
     let a = m .before in
     text-listed (a .ask .result) (passes (a .before .before .valid .ensures) (a .before .if1 .left))
     (λ l. text-accepted _ _ (a .ask .ensures) l (m .match .keys1))

@@ -5,13 +5,13 @@ use Rattle.measure.proofs.deciding.decide_again.Statement.{statement}
 use Rattle.measure.proofs.deciding.decide_again.Tie as tie
 
 abbrev Inv-loop : tie.InvT-loop
-Inv-loop p masks views text times s sum₀ i₀ sum i = i ≤ times
+Inv-loop tables r text times s sum₀ i₀ sum i = i ≤ times
 
 abbrev μ-loop : tie.MeasureT-loop
-μ-loop p masks views text times s sum₀ i₀ sum i = times - i
+μ-loop tables r text times s sum₀ i₀ sum i = times - i
 
-open-session-requires : tie.Need-open-session-requires Inv-loop μ-loop
-open-session-requires c κs = search needs
+open-loaded-requires : tie.Need-open-loaded-requires Inv-loop μ-loop
+open-loaded-requires c κs = let (d, ready) = c .before .pre in ready .long
 
 loop-holds : tie.Need-loop-holds Inv-loop μ-loop
 loop-holds c = search needs
@@ -43,7 +43,7 @@ decide-again-spec =
     (tie.spec
     Inv-loop
     μ-loop
-    open-session-requires
+    open-loaded-requires
     loop-holds
     decide-loaded-requires
     number-of-requires

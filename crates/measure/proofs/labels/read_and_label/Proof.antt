@@ -1,16 +1,13 @@
 -- `measure::read_and_label`: the query that is labelled is one that reading accepted under the policy's tables.
 use borrow.Author.Needs.{needs}
 use Rattle.query_text.specs.Text.{read as read-text}
-use Rattle.labelling.proofs.Posing.{tables-of, ready, posed}
+use Rattle.labelling.proofs.Posing.{tables-of, counted, ready, posed}
 use Rattle.labelling.proofs.Readings.{read-accepted}
 use Rattle.measure.proofs.labels.read_and_label.Statement.{statement}
 use Rattle.measure.proofs.labels.read_and_label.Tie as tie
 
-table-views-requires : tie.Need-table-views-requires
-table-views-requires c κs = search needs
-
-view-rows-requires : tie.Need-view-rows-requires
-view-rows-requires c κs = search needs
+prepare-requires : tie.Need-prepare-requires
+prepare-requires c κs = let (d, l) = c .before .pre in counted l
 
 read-query-requires : tie.Need-read-query-requires
 read-query-requires c κs = search needs
@@ -20,12 +17,12 @@ enum-told c = search needs
 
 label-again-requires : tie.Need-label-again-requires
 label-again-requires c κs =
-    let m = c .before .before .before .before in
+    let m = c .before .before .before in
     let made = m .before .before .before in
     let read = m .before .read-query in
-    let (d, l) = c .before .before .before .before .before .before .before .before .before .before .pre in
+    let (d, l) = made .before .before .pre in
     let (Q, e, o, q) = read-accepted (read-text (d .widths) _) (read .result) (read .ensures (d .widths) (tables-of l)) (m .match .keys1) in
-    (d, Q, ready l (made .before .table-views .ensures) (made .view-rows .ensures), posed d _ Q (l .good) e q)
+    (d, Q, ready l (made .prepare .ensures), posed d _ Q (l .good) e q)
 
 enum-told-2 : tie.Need-enum-told-2
 enum-told-2 c = search needs
@@ -40,8 +37,7 @@ pub read-and-label-spec : {M : Type 1} → statement M
 read-and-label-spec =
     tie.close
     (tie.spec
-    table-views-requires
-    view-rows-requires
+    prepare-requires
     read-query-requires
     enum-told
     label-again-requires

@@ -48,7 +48,7 @@ loop-again c =
       l .long ∙ at .inv .1,
       λ Q held.
           rows-more (valueAt Q) (at .inv .2 Q held)
-          (held-line held (at .i) _ (rw (held-count held) at (c .before .before .before .before .loop-test .taken))) l,
+          (held-line held (at .i) _ (rw (held-count held) at (c .before .before .before .before .loop-test .taken))) (l .before) (l .row),
     )
 
 returns : tie.Need-returns Inv-loop μ-loop

@@ -1,0 +1,127 @@
+-- What is prepared of a policy, view by view: the rows, the words of the tables and the grants of the views before place k.
+use mathlib.Core.Path.{_≡_, refl, sym, ap, subst, _∙_}
+use mathlib.Core.Bool.{cond}
+use mathlib.Core.List.{List, []}
+use Prim.Native.Nat.{ℕ, _+_, _-_, _^_, _≤_, _<_}
+use native.Mathlib.Decide.{ℕ-discrete}
+use native.Mathlib.Omega.{arith}
+use borrow.Author.Tests.{eq-eqb, ne-eqb}
+use lib.Dec.{eqb}
+use lib.ListN.{length, getD, set, length-set}
+use lib.Seq.{getD-set-same, getD-set-other}
+use Rattle.theory.specs.Query.{Line as TheLine}
+use Rattle.theory.proofs.Lists.{place-below}
+use Rattle.words.specs.Sets.{setBit}
+use Rattle.model.specs.Limits.{mostTables, mostViews}
+use Rattle.model.specs.Value.{pad}
+use Rattle.model.specs.Rows.{LaidAt, LaidInto}
+use Rattle.model.specs.declared.Line.{Line}
+use Rattle.model.specs.declared.Policy.{Policy}
+use Rattle.model.proofs.Pad.{pad-length, pad-get}
+use Rattle.model.proofs.LaidTerms.{RowsTo, row-kept, rows-none, rows-more}
+use Rattle.covering.specs.Views.{Holds, LaidViews}
+use Rattle.covering.specs.Prepared.{tableWords, grantWords, everyWord, preparedLong, tableWord, grantWord, Prepared, Entered}
+use Rattle.covering.proofs.Masks.{Mask, mask-none, mask-more, mask-all}
+use Rattle.covering.proofs.Views.{noLine, view-value}
+
+-- the value at a view's place
+abbrev pub valueAt : Policy → ℕ → Line
+valueAt p j = getD (p .views) j noLine
+
+-- ---- one view
+
+module _ (v : Line) (grants k : ℕ) {before laid : List ℕ} (long : length before ≡ preparedLong) (room : k < mostViews)
+    (l : LaidInto v k before laid) where
+  -- the places behind the rows are as they were
+  behind : (i : ℕ) → tableWords ≤ i → getD laid i 0 ≡ getD before i 0
+  behind i h = l .after i (omega arith)
+
+  abbrev granted : List ℕ → List ℕ
+  granted r = set r (grantWords + k) grants
+
+  -- the row laid, a place behind the rows perhaps changed, and the grants
+  entered : (r : List ℕ) → length r ≡ length laid → ((i : ℕ) → i < tableWords → getD r i 0 ≡ getD laid i 0)
+      → ((t : ℕ) → t ≤ mostTables → tableWord r t ≡ cond (eqb t (v .table)) (setBit (tableWord before t) k) (tableWord before t))
+      → ((j : ℕ) → grantWord r j ≡ grantWord laid j) → Entered v grants k before (granted r)
+  entered r same rows table others =
+      let other : (i : ℕ) → (i ≡ grantWords + k → ⊥) → getD (granted r) i 0 ≡ getD r i 0 =
+      λ i n. getD-set-other r (grantWords + k) i grants 0 n in
+      record {
+        long = length-set r (grantWords + k) grants ∙ same ∙ l .long;
+        row = row-kept (λ i h. other i (λ e. omega (arith, e, h, room)) ∙ rows i (omega (arith, h, room))) (l .row);
+        rows = λ i h. other i (λ e. omega (arith, e, h, room)) ∙ rows i (omega (arith, h, room)) ∙ l .before i h;
+        table = λ t h. other (tableWords + t) (λ e. omega (arith, e, h)) ∙ table t h;
+        granted = getD-set-same r (grantWords + k) grants 0 (omega (arith, same, l .long, long, room));
+        others = λ j h. other (grantWords + j) (λ e. omega (arith, e, h)) ∙ others j ∙ behind (grantWords + j) (omega arith);
+      }
+
+  -- the view is of no table
+  pub entered-none : mostTables < v .table → Entered v grants k before (granted laid)
+  entered-none past =
+      entered laid refl (λ i h. refl)
+      (λ t h. rw (ne-eqb t (v .table) (λ e. omega (arith, e, h, past))) (behind (tableWords + t) (omega arith))) (λ j. refl)
+
+  pub entered-table : (m : ℕ) → v .table ≤ mostTables → m ≡ setBit (getD laid (tableWords + v .table) 0) k
+      → Entered v grants k before (granted (set laid (tableWords + v .table) m))
+  entered-table m small e =
+      let at = tableWords + v .table in
+      let other : (i : ℕ) → (i ≡ at → ⊥) → getD (set laid at m) i 0 ≡ getD laid i 0 = λ i n. getD-set-other laid at i m 0 n in
+      entered (set laid at m) (length-set laid at m) (λ i h. other i (λ q. omega (arith, q, h))) (λ t h. go t h (ℕ-discrete t (v .table)))
+      (λ j. other (grantWords + j) (λ q. omega (arith, q, small)))
+    where
+      go : (t : ℕ) → t ≤ mostTables → Dec (t ≡ v .table)
+          → tableWord (set laid (tableWords + v .table) m) t ≡ cond (eqb t (v .table)) (setBit (tableWord before t) k) (tableWord before t)
+      go t h (yes q) =
+          rw (eq-eqb t (v .table) q, q, getD-set-same laid (tableWords + v .table) m 0 (omega (arith, small, l .long, long)))
+          (e ∙ ap (λ (x : ℕ). setBit x k) (behind (tableWords + v .table) (omega arith)))
+      go t h (no n) =
+          rw (ne-eqb t (v .table) n)
+          (getD-set-other laid (tableWords + v .table) (tableWords + t) m 0 (λ q. n (omega (arith, q))) ∙ behind (tableWords + t) (omega arith))
+
+-- ---- all views
+
+pub record Partly (p : Policy) (k : ℕ) (r : List ℕ) : Type 0 where
+  pub long : length r ≡ preparedLong
+  pub row : RowsTo (valueAt p) k r
+  pub table : (t : ℕ) → t ≤ mostTables → Mask p k t (tableWord r t)
+  pub grant : (j : ℕ) → j < k → grantWord r j ≡ getD (p .grants) j 0
+
+module _ (p : Policy) where
+  pub partly-none : Partly p 0 (pad preparedLong 0 [])
+  partly-none = record {
+    long = pad-length preparedLong 0 [] (omega arith);
+    row = rows-none (valueAt p) (pad preparedLong 0 []);
+    table = λ t h. rw (pad-get {X = ℕ} preparedLong 0 [] (tableWords + t)) (mask-none p t);
+    grant = λ j h. absurd (omega arith);
+  }
+
+  module _ {k : ℕ} {r : List ℕ} (l : Partly p k r) where
+    pub partly-more : k < mostViews → {r′ : List ℕ} → Entered (valueAt p k) (getD (p .grants) k 0) k r r′ → Partly p (k + 1) r′
+    partly-more room {r′} e = record {
+      long = e .long ∙ l .long;
+      row = rows-more (valueAt p) (l .row) refl (e .rows) (e .row);
+      table = λ t h. mask-more p (l .table t h) room (e .table t h);
+      grant = λ j h. go j h (ℕ-discrete j k);
+    }
+      where
+        go : (j : ℕ) → j < k + 1 → Dec (j ≡ k) → grantWord r′ j ≡ getD (p .grants) j 0
+        go j h (yes q) = rw q (e .granted)
+        go j h (no n) = e .others j (omega (arith, h, n)) ∙ l .grant j (omega (arith, h, n))
+
+    -- the last word behind the views
+    pub partly-all : mostViews ≤ k → (w : ℕ) → w ≡ 2 ^ p .«partition_count» - 1 → Prepared p (set r everyWord w)
+    partly-all all w e =
+        let other : (i : ℕ) → (i ≡ everyWord → ⊥) → getD (set r everyWord w) i 0 ≡ getD r i 0 =
+        λ i n. getD-set-other r everyWord i w 0 n in
+        record {
+          long = length-set r everyWord w ∙ l .long;
+          laid = λ views held. record {
+            row = λ n v at.
+                let b = place-below views n at in
+                row-kept (λ i h. other i (λ q. omega (arith, q, h, b, held .few)))
+                (subst (LaidAt r n) (view-value held n v at) (l .row n (omega (arith, b, held .few, all))));
+          };
+          table = λ t h. rw (other (tableWords + t) (λ q. omega (arith, q, h))) (mask-all p (l .table t h) all);
+          grant = λ j h. other (grantWords + j) (λ q. omega (arith, q, h)) ∙ l .grant j (omega (arith, h, all));
+          every = getD-set-same r everyWord w 0 (omega (arith, l .long)) ∙ e;
+        }

@@ -1,0 +1,53 @@
+-- What is made of a policy once, as numbers that are lent: the views as rows, view n in row n − 1; behind them the views of each table as
+-- a word; then for each view the partitions that grant it; and at the end the word of every partition.
+use mathlib.Core.Path.{_≡_}
+use mathlib.Core.Bool.{cond}
+use mathlib.Core.List.{List}
+use Prim.Native.Nat.{ℕ, _+_, _-_, _*_, _^_, _≤_, _<_}
+use lib.Dec.{eqb}
+use lib.ListN.{length, getD}
+use Rattle.theory.specs.Query.{Line as TheLine}
+use Rattle.words.specs.Sets.{setBit}
+use Rattle.model.specs.Limits.{mostTables, mostViews}
+use Rattle.model.specs.Rows.{rowLong, LaidAt}
+use Rattle.model.specs.declared.Line.{Line}
+use Rattle.model.specs.declared.Policy.{Policy}
+use Rattle.covering.specs.Views.{Holds, TableViews, LaidViews}
+
+-- where the words of the tables begin, those of the views, and where the last word stands
+abbrev pub tableWords : ℕ
+tableWords = mostViews * rowLong
+
+abbrev pub grantWords : ℕ
+grantWords = tableWords + mostTables + 1
+
+abbrev pub everyWord : ℕ
+everyWord = grantWords + mostViews
+
+abbrev pub preparedLong : ℕ
+preparedLong = everyWord + 1
+
+-- the views of a table, of a table's number
+abbrev pub tableWord : List ℕ → ℕ → ℕ
+tableWord r t = getD r (tableWords + t) 0
+
+-- the partitions that grant the view at place k, counted from 0
+abbrev pub grantWord : List ℕ → ℕ → ℕ
+grantWord r k = getD r (grantWords + k) 0
+
+pub record Prepared (p : Policy) (r : List ℕ) : Type 0 where
+  pub long : length r ≡ preparedLong
+  pub laid : (views : List TheLine) → Holds p views → LaidViews r views
+  pub table : (t : ℕ) → t ≤ mostTables → TableViews p t (tableWord r t)
+  pub grant : (k : ℕ) → k < mostViews → grantWord r k ≡ getD (p .grants) k 0
+  pub every : getD r everyWord 0 ≡ 2 ^ p .«partition_count» - 1
+
+-- the view at place k entered: its row, its bit in the word of its table, and its grants; what stands there of views before it stays
+pub record Entered (v : Line) (grants k : ℕ) (before after : List ℕ) : Type 0 where
+  pub long : length after ≡ length before
+  pub row : LaidAt after k v
+  pub rows : (i : ℕ) → i < k * rowLong → getD after i 0 ≡ getD before i 0
+  pub table : (t : ℕ) → t ≤ mostTables
+      → tableWord after t ≡ cond (eqb t (v .table)) (setBit (tableWord before t) k) (tableWord before t)
+  pub granted : grantWord after k ≡ grants
+  pub others : (j : ℕ) → j < k → grantWord after j ≡ grantWord before j

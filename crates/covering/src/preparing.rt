@@ -1,0 +1,60 @@
+// What is made of a policy once, as numbers that are lent: the views as rows, view n in row n - 1; behind them the views of each
+// table as a word; then for each view the partitions that grant it; and at the end the word of every partition.
+
+ghost use mathlib.Core.Path.{_≡_};
+ghost use Prim.Native.Nat.{_≤_, _<_};
+ghost use lib.ListN.{length, getD};
+ghost use Rattle.model.specs.Limits.{mostViews, mostPartitions};
+ghost use Rattle.covering.specs.Prepared.{everyWord, preparedLong, Prepared as PreparedOf, Entered};
+use model::Line;
+use model::MOST_TABLES;
+use model::MOST_VIEWS;
+use model::Policy;
+use model::ROW;
+
+// Where the words of the tables begin, those of the views, and where the last word stands.
+pub const TABLE_WORDS: usize = MOST_VIEWS * ROW;
+
+pub const GRANT_WORDS: usize = TABLE_WORDS + MOST_TABLES + 1;
+
+const EVERY_WORD: usize = GRANT_WORDS + MOST_VIEWS;
+
+pub type Prepared = [u64; EVERY_WORD + 1];
+
+// The view at place k and the partitions that grant it. An unused view has table 0.
+fn enter_view(v: Line, grants: u64, k: usize, r: &mut [u64])
+    requires { ⌜ (length (now r) ≡ preparedLong) × (k < mostViews) ⌝ }
+    ensures { λ _. ⌜ Entered v grants k (now (r .entry)) (now (r .exit)) ⌝ }
+{
+    model::lay_line(v, k, r);
+    let table = v.table;
+    if table <= MOST_TABLES as u64 {
+        let at = TABLE_WORDS + table as usize;
+        let m = r[at];
+        r[at] = words::set_bit(m, k as u64);
+    }
+    r[GRANT_WORDS + k] = grants;
+}
+
+pub fn prepare(p: Policy) -> Prepared
+    requires { ⌜ p .«partition_count» ≤ mostPartitions ⌝ }
+    ensures { λ r. ⌜ PreparedOf p r ⌝ }
+{
+    let mut r = [0; EVERY_WORD + 1];
+    let mut k = 0;
+    while k < MOST_VIEWS {
+        let v = p.views[k];
+        enter_view(v, p.grants[k], k, &mut r);
+        k += 1;
+    }
+    r[EVERY_WORD] = words::low_bits(p.partition_count as u64);
+    r
+}
+
+// The word of every partition, partition n at bit n - 1.
+pub fn every_partition(r: &Prepared) -> u64
+    requires { ⌜ length (now r) ≡ preparedLong ⌝ }
+    ensures { λ w. ⌜ w ≡ getD (now (r .entry)) everyWord 0 ⌝ }
+{
+    r[EVERY_WORD]
+}
