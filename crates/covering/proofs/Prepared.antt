@@ -1,5 +1,5 @@
 -- What is prepared of a policy, view by view: the rows, the words of the tables and the grants of the views before place k.
-use mathlib.Core.Path.{_≡_, refl, sym, ap, subst, _∙_}
+use mathlib.Core.Path.{_≡_, refl, ap, subst, _∙_}
 use mathlib.Core.Bool.{cond}
 use mathlib.Core.List.{List, []}
 use Prim.Native.Nat.{ℕ, _+_, _-_, _^_, _≤_, _<_}
@@ -9,7 +9,6 @@ use borrow.Author.Tests.{eq-eqb, ne-eqb}
 use lib.Dec.{eqb}
 use lib.ListN.{length, getD, set, length-set}
 use lib.Seq.{getD-set-same, getD-set-other}
-use Rattle.theory.specs.Query.{Line as TheLine}
 use Rattle.theory.proofs.Lists.{place-below}
 use Rattle.words.specs.Sets.{setBit}
 use Rattle.model.specs.Limits.{mostTables, mostViews}
@@ -19,7 +18,6 @@ use Rattle.model.specs.declared.Line.{Line}
 use Rattle.model.specs.declared.Policy.{Policy}
 use Rattle.model.proofs.Pad.{pad-length, pad-get}
 use Rattle.model.proofs.LaidTerms.{RowsTo, row-kept, rows-none, rows-more}
-use Rattle.covering.specs.Views.{Holds, LaidViews}
 use Rattle.covering.specs.Prepared.{tableWords, grantWords, everyWord, preparedLong, tableWord, grantWord, Prepared, Entered}
 use Rattle.covering.proofs.Masks.{Mask, mask-none, mask-more, mask-all}
 use Rattle.covering.proofs.Views.{noLine, view-value}
@@ -76,7 +74,8 @@ module _ (v : Line) (grants k : ℕ) {before laid : List ℕ} (long : length bef
           (e ∙ ap (λ (x : ℕ). setBit x k) (behind (tableWords + v .table) (omega arith)))
       go t h (no n) =
           rw (ne-eqb t (v .table) n)
-          (getD-set-other laid (tableWords + v .table) (tableWords + t) m 0 (λ q. n (omega (arith, q))) ∙ behind (tableWords + t) (omega arith))
+          (getD-set-other laid (tableWords + v .table) (tableWords + t) m 0 (λ q. n (omega (arith, q)))
+          ∙ behind (tableWords + t) (omega arith))
 
 -- ---- all views
 

@@ -8,12 +8,14 @@ use lib.ListN.{length, getElem?}
 use Rattle.theory.specs.Query.{_∈_}
 use Rattle.theory.specs.Query.{Line as TheLine}
 use Rattle.theory.specs.Cover.{Covers}
+use Rattle.theory.specs.Executable.Label.{label}
 use Rattle.words.specs.Bits.{bit}
 use Rattle.model.specs.Limits.{mostViews}
 use Rattle.model.specs.Value.{lineValue}
 use Rattle.model.specs.Rows.{LaidAt}
 use Rattle.covering.specs.Views.{OfTable, LaidViews}
 use Rattle.covering.specs.Prepared.{tableWord, grantWord}
+use Rattle.covering.specs.declared.LineLabel.{LineLabel}
 
 -- what is prepared has the rows of the views and the word of the line's table, and row a of lines has the line; it and the views of its
 -- table have `width` columns
@@ -30,3 +32,8 @@ abbrev pub Reached : List ℕ → List TheLine → TheLine → ℕ → Type 0
 Reached r views A w =
     (i : ℕ) → (bit w i ≡ 1)
     ↔ ((k : ℕ) × (v : TheLine) × (getElem? views k ≡ some v) × Covers v A × (bit (grantWord r k) i ≡ 1))
+
+-- the label of the line in row a, and the partitions that can answer it
+abbrev pub LabelGiven : List ℕ → ℕ → List ℕ → ℕ → LineLabel → Type 0
+LabelGiven r width lines a l =
+    (views : List TheLine) (A : TheLine) → Labelled r width lines a views A → (l .label ≡ label views A) × Reached r views A (l .grants)

@@ -4,17 +4,13 @@ mod preparing;
 
 ghost use mathlib.Core.Path.{_≡_};
 ghost use mathlib.Core.Bool.{not, _||_};
-ghost use mathlib.Core.List.{List};
 ghost use Prim.Native.Nat.{_+_, _^_, _≤_, _<_};
 ghost use lib.ListN.{length};
-ghost use Rattle.theory.specs.Query.{Term as TheTerm, Line as TheLine};
-ghost use Rattle.theory.specs.Executable.Cover.{obeys as obeysRules, covers as coversLine};
-ghost use Rattle.theory.specs.Executable.Label.{label};
-ghost use Rattle.model.specs.Value.{termValue, lineValue};
 ghost use Rattle.model.specs.Limits.{mostTables, mostColumns, mostViews, mostLines};
-ghost use Rattle.model.specs.Rows.{queryRowsLong, HasRow, laidTable, LaidAt};
+ghost use Rattle.model.specs.Rows.{queryRowsLong, HasRow, laidTable};
+ghost use Rattle.covering.specs.Rules.{Obeys, CoversRow};
 ghost use Rattle.covering.specs.Prepared.{preparedLong, tableWord};
-ghost use Rattle.covering.specs.Labelled.{Labelled, Reached};
+ghost use Rattle.covering.specs.Labelled.{LabelGiven};
 ghost use Rattle.covering.specs.Order.{atOrBelow};
 use model::CONSTANT;
 use model::HIDDEN;
@@ -38,7 +34,7 @@ fn implies(x: bool, y: bool) -> bool
 
 // The three rules at columns p and q, where the view has `v` and `w` and the line `a` and `b`.
 fn obeys(v: Term, w: Term, a: Term, b: Term) -> bool
-    ensures { λ r. ⌜ ((t u x y : TheTerm) → v ≡ termValue t → w ≡ termValue u → a ≡ termValue x → b ≡ termValue y → r ≡ obeysRules t u x y) ⌝ }
+    ensures { λ r. ⌜ Obeys v w a b r ⌝ }
 {
     if v.mark == CONSTANT {
         return same_term(a, v);
@@ -57,7 +53,7 @@ fn obeys(v: Term, w: Term, a: Term, b: Term) -> bool
 // The first broken rule ends the comparison.
 pub fn covers(width: usize, views: &[u64], v: usize, lines: &[u64], a: usize) -> bool
     requires { ⌜ (width ≤ mostColumns) × HasRow (now views) v × HasRow (now lines) a ⌝ }
-    ensures { λ r. ⌜ ((view line : TheLine) → LaidAt (now (views .entry)) v (lineValue view) → LaidAt (now (lines .entry)) a (lineValue line) → view .table ≡ line .table → length (view .columns) ≡ width → length (line .columns) ≡ width → r ≡ coversLine view line) ⌝ }
+    ensures { λ r. ⌜ CoversRow width (now (views .entry)) v (now (lines .entry)) a r ⌝ }
 {
     let mut ok = true;
     let mut p = 0;
@@ -88,20 +84,20 @@ pub struct LineLabel {
 }
 
 // The label of the line in row `a`, of a table of `width` columns.
-pub fn label_line(r: &Prepared, width: usize, lines: &QueryRows, a: usize) -> LineLabel
-    requires { ⌜ (length (now r) ≡ preparedLong) × (length (now lines) ≡ queryRowsLong) × (width ≤ mostColumns) × (a < mostLines) ⌝ }
-    requires { ⌜ (laidTable (now lines) a ≤ mostTables) × (tableWord (now r) (laidTable (now lines) a) < 2 ^ mostViews) ⌝ }
-    ensures { λ l. ⌜ ((vs : List TheLine) (line : TheLine) → Labelled (now (r .entry)) width (now (lines .entry)) a vs line → (l .label ≡ label vs line) × Reached (now (r .entry)) vs line (l .grants)) ⌝ }
+pub fn label_line(ready: &Prepared, width: usize, lines: &QueryRows, a: usize) -> LineLabel
+    requires { ⌜ (length (now ready) ≡ preparedLong) × (length (now lines) ≡ queryRowsLong) × (width ≤ mostColumns) × (a < mostLines) ⌝ }
+    requires { ⌜ (laidTable (now lines) a ≤ mostTables) × (tableWord (now ready) (laidTable (now lines) a) < 2 ^ mostViews) ⌝ }
+    ensures { λ l. ⌜ LabelGiven (now (ready .entry)) width (now (lines .entry)) a l ⌝ }
 {
     let table = model::table_at(lines, a);
     let mut word = 0;
     let mut grants = 0;
-    let mut left = r[TABLE_WORDS + table as usize];
+    let mut left = ready[TABLE_WORDS + table as usize];
     while left != 0 {
         let k = words::least(left);
-        if covers(width, r, k as usize, lines, a) {
+        if covers(width, ready, k as usize, lines, a) {
             word = words::set_bit(word, k);
-            grants = grants | r[GRANT_WORDS + k as usize];
+            grants = grants | ready[GRANT_WORDS + k as usize];
         }
         left = words::drop_least(left);
     }

@@ -22,39 +22,39 @@ const EVERY_WORD: usize = GRANT_WORDS + MOST_VIEWS;
 pub type Prepared = [u64; EVERY_WORD + 1];
 
 // The view at place k and the partitions that grant it. An unused view has table 0.
-fn enter_view(v: Line, grants: u64, k: usize, r: &mut [u64])
-    requires { ⌜ (length (now r) ≡ preparedLong) × (k < mostViews) ⌝ }
-    ensures { λ _. ⌜ Entered v grants k (now (r .entry)) (now (r .exit)) ⌝ }
+fn enter_view(v: Line, grants: u64, k: usize, ready: &mut [u64])
+    requires { ⌜ (length (now ready) ≡ preparedLong) × (k < mostViews) ⌝ }
+    ensures { λ _. ⌜ Entered v grants k (now (ready .entry)) (now (ready .exit)) ⌝ }
 {
-    model::lay_line(v, k, r);
+    model::lay_line(v, k, ready);
     let table = v.table;
     if table <= MOST_TABLES as u64 {
         let at = TABLE_WORDS + table as usize;
-        let m = r[at];
-        r[at] = words::set_bit(m, k as u64);
+        let m = ready[at];
+        ready[at] = words::set_bit(m, k as u64);
     }
-    r[GRANT_WORDS + k] = grants;
+    ready[GRANT_WORDS + k] = grants;
 }
 
 pub fn prepare(p: Policy) -> Prepared
     requires { ⌜ p .«partition_count» ≤ mostPartitions ⌝ }
     ensures { λ r. ⌜ PreparedOf p r ⌝ }
 {
-    let mut r = [0; EVERY_WORD + 1];
+    let mut ready = [0; EVERY_WORD + 1];
     let mut k = 0;
     while k < MOST_VIEWS {
         let v = p.views[k];
-        enter_view(v, p.grants[k], k, &mut r);
+        enter_view(v, p.grants[k], k, &mut ready);
         k += 1;
     }
-    r[EVERY_WORD] = words::low_bits(p.partition_count as u64);
-    r
+    ready[EVERY_WORD] = words::low_bits(p.partition_count as u64);
+    ready
 }
 
 // The word of every partition, partition n at bit n - 1.
-pub fn every_partition(r: &Prepared) -> u64
-    requires { ⌜ length (now r) ≡ preparedLong ⌝ }
-    ensures { λ w. ⌜ w ≡ getD (now (r .entry)) everyWord 0 ⌝ }
+pub fn every_partition(ready: &Prepared) -> u64
+    requires { ⌜ length (now ready) ≡ preparedLong ⌝ }
+    ensures { λ w. ⌜ w ≡ getD (now (ready .entry)) everyWord 0 ⌝ }
 {
-    r[EVERY_WORD]
+    ready[EVERY_WORD]
 }

@@ -47,7 +47,8 @@ labels-narrow d good Q fits w m =
     let f = shown-fits (d .widths) Q fits A a in
     let small : A .table < 2 ^ 32 = omega (arith, f .last, good .tables .few) in
     subst (λ (x : ℕ). x / 2 ^ 32 < 2 ^ 32) e
-    (rw (high-part 32 (viewBits (d .views) A) small) (lt-of-lt-of-le (tests-below (λ v. covers v A) (d .views)) (pow-mono (good .views .few))))
+    (rw (high-part 32 (viewBits (d .views) A) small)
+    (lt-of-lt-of-le (tests-below (λ v. covers v A) (d .views)) (pow-mono (good .views .few))))
 
 -- ---- how the text ended
 

@@ -4,7 +4,6 @@ use mathlib.Core.List.{[]}
 use native.Mathlib.Omega.{arith}
 use lib.ListN.{length}
 use Rattle.theory.specs.Executable.Label.{labels}
-use Rattle.model.specs.Limits.{mostPartitions}
 use Rattle.query_text.specs.Text.{Reading}
 use Rattle.query_text.proofs.Accepted.{accepted-well-read}
 use Rattle.query_text.proofs.Printed.{reads-exactly}

@@ -97,7 +97,8 @@ module _ {p : Policy} (l : Loadable p) where
   declared-place n b e = ap (λ (k : ℕ). upTo k n) (sym (partition-count (loaded-to l))) ∙ e
 
   -- the word of the partition's views, and what the word of settling partitions says of it
-  partition-says : (n : ℕ) → upTo (p .«partition_count») n ≡ true → (Q : Query) (text : List ℕ) → read (l .declared .widths) text ≡ accepted Q →
+  partition-says : (n : ℕ) → upTo (p .«partition_count») n ≡ true → (Q : Query) (text : List ℕ)
+      → read (l .declared .widths) text ≡ accepted Q →
       let d = l .declared in
       let views = viewsWord (getD (d .partitions) (n - 1) []) in
       (testBits (grantedAt (p .grants) (n - 1)) (upFrom 0 mostViews) ≡ views)
@@ -112,7 +113,8 @@ module _ {p : Policy} (l : Loadable p) where
       let fits = accepted-well-read (d .widths) text Q reads .fits in
       rw (there (d .partitions) (n - 1) [] at) (
         partition-word to (n - 1) ns at,
-        tests-say (λ vs. settles (granted (d .views) vs) Q) (d .partitions) (n - 1) ns at ∙ sym (settled-settles d (to .good) ns known Q fits),
+        tests-say (λ vs. settles (granted (d .views) vs) Q) (d .partitions) (n - 1) ns at
+            ∙ sym (settled-settles d (to .good) ns known Q fits),
       )
 
 -- the views gathered for partition n, and what the word of settling partitions says of it

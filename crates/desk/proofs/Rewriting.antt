@@ -17,7 +17,6 @@ use Rattle.theory.proofs.Reduce.{reduced-answers, reduced-reduced, reduced-subs
 use Rattle.theory.proofs.Label.{label-says-rewriting}
 use Rattle.theory.proofs.Executable.Reduce.{reduce-reduces}
 use Rattle.theory.proofs.Executable.Label.{label-table, label-below}
-use Rattle.model.specs.Limits.{mostTables}
 use Rattle.policy_text.specs.Declared.{Declared}
 use Rattle.policy_text.specs.WellFormed.{WellFormed}
 use Rattle.desk.specs.Rewriting.{LabelOf, LabelsOfForm, LabelsOf}

@@ -6,7 +6,7 @@ pub mod Calls
 pub mod Buffer
 pub mod Listing
 pub mod Rewriting
-pub mod HoldsLabels
 pub mod Explaining
+pub mod HoldsLabels
 pub mod Outcomes
 pub mod Demands

@@ -61,15 +61,15 @@ fn answer(s: Session, left: u64) -> Decision
 }
 
 // Deciding under a policy that is known to be loaded, by what is prepared of it.
-pub fn decide_loaded(tables: Tables, r: &Prepared, s: Session, text: &[u8]) -> Decision
-    requires { ⌜ SomeReady tables (now r) ⌝ }
-    ensures { λ o. ⌜ ((d : Declared) → Ready d tables (now (r .entry)) → Gives o (decideUnder d s (now (text .entry)))) ⌝ }
+pub fn decide_loaded(tables: Tables, ready: &Prepared, s: Session, text: &[u8]) -> Decision
+    requires { ⌜ SomeReady tables (now ready) ⌝ }
+    ensures { λ o. ⌜ ((d : Declared) → Ready d tables (now (ready .entry)) → Gives o (decideUnder d s (now (text .entry)))) ⌝ }
 {
-    let every = covering::every_partition(r);
+    let every = covering::every_partition(ready);
     if unfit(s.mask, every) {
         return refused(s, 9, 0);
     }
-    let a = labelling::label_text(tables, r, text);
+    let a = labelling::label_text(tables, ready, text);
     let outcome = a.outcome;
     match outcome {
         Outcome::Refused { number, line } => refused(s, number, line),
@@ -87,9 +87,9 @@ pub fn decide_checked(p: Policy, s: Session, text: &[u8]) -> Decision
     if !validity::valid(p) {
         return refused(s, 8, 0);
     }
-    let r = covering::prepare(p);
+    let ready = covering::prepare(p);
     let tables = p.tables;
-    decide_loaded(tables, &r, s, text)
+    decide_loaded(tables, &ready, s, text)
 }
 
 // Deciding a query text in a session, which is lent and altered by a yes alone: yes, no or a refusal.

@@ -1,16 +1,14 @@
 // Why a partition settles a query or not, written to a lent buffer.
 
 ghost use mathlib.Core.Path.{_≡_};
-ghost use mathlib.Core.List.{List, _++_};
+ghost use mathlib.Core.List.{_++_};
 ghost use Prim.Native.Nat.{ℕ, _^_, _≤_, _<_};
 ghost use lib.ListN.{length, getD, take, drop};
 ghost use Rattle.words.specs.TestBits.{testBits, upFrom};
 ghost use Rattle.model.specs.Limits.{mostViews, mostPartitions, mostLines, upTo};
 ghost use Rattle.policy_text.specs.Abstract.{grantedAt};
-ghost use Rattle.labelling.specs.Settled.{settled};
-ghost use Rattle.explain.specs.Explanation.{explained};
-ghost use Rattle.desk.specs.HoldsLabels.{HoldsLabels};
-ghost use Rattle.desk.specs.Explaining.{ExplanationGiven, Explains, explainedBy};
+ghost use Rattle.desk.specs.HoldsLabels.{SomeExplained, WordsGiven};
+ghost use Rattle.desk.specs.Explaining.{ExplanationGiven};
 use labelling::Words;
 use model::MOST_LINES;
 use model::MOST_VIEWS;
@@ -73,8 +71,8 @@ fn granted_views(grants: [u64; MOST_VIEWS], i: u64) -> u64
 
 // The words for a partition with these granted views, which settles the query or not, at the head of the buffer, or 10.
 fn give_words(l: Words, granted: u64, is_settled: bool, out: &mut [u32]) -> Explaining
-    requires { ⌜ ((ws : List ℕ) × HoldsLabels l ws × («is_settled» ≡ settled granted ws)) ⌝ }
-    ensures { λ r. ⌜ ((ws : List ℕ) → HoldsLabels l ws → «is_settled» ≡ settled granted ws → Explains r (now (out .exit)) (explainedBy (now (out .entry)) (settled granted ws) (explained granted ws))) ⌝ }
+    requires { ⌜ SomeExplained l granted «is_settled» ⌝ }
+    ensures { λ r. ⌜ WordsGiven l granted «is_settled» (now (out .entry)) r (now (out .exit)) ⌝ }
 {
     let w = explain::words_of(l, granted, is_settled);
     let count = w.count;

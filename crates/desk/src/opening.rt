@@ -39,11 +39,11 @@ pub fn open_session(p: Policy) -> Opening
 }
 
 // The session that opening gives under a policy that is known to be loaded, by what is prepared of it.
-pub fn open_loaded(r: &Prepared) -> Session
-    requires { ⌜ length (now r) ≡ preparedLong ⌝ }
-    ensures { λ s. ⌜ ((d : Declared) (tables : Tables) → Ready d tables (now (r .entry)) → s ≡ allOpen d) ⌝ }
+pub fn open_loaded(ready: &Prepared) -> Session
+    requires { ⌜ length (now ready) ≡ preparedLong ⌝ }
+    ensures { λ s. ⌜ ((d : Declared) (tables : Tables) → Ready d tables (now (ready .entry)) → s ≡ allOpen d) ⌝ }
 {
     Session {
-        mask: covering::every_partition(r),
+        mask: covering::every_partition(ready),
     }
 }

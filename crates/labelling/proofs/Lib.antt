@@ -1,4 +1,5 @@
 -- The labels of a query, one by one, and the partitions that settle it.
+pub mod Granted
 pub mod Lines
 pub mod Written
 pub mod Posing

@@ -1,8 +1,7 @@
 -- A line of a query in its row: its table and width, the partitions that answer it, and the rows of a query shown.
-use mathlib.Core.Path.{_≡_, refl, sym, ap, _∙_, subst}
-use mathlib.Core.Logic.{_↔_}
+use mathlib.Core.Path.{_≡_, sym, ap, _∙_, subst}
 use mathlib.Core.Bool.{true}
-use mathlib.Core.List.{List, [], Memᴰ·map, Memᴰ·of-map}
+use mathlib.Core.List.{List, [], Memᴰ·of-map}
 use mathlib.Core.Option.{some, Option·some-injective}
 use Prim.Native.Nat.{ℕ, _+_, _-_, _≤_, _<_}
 use native.Mathlib.Omega.{arith}
@@ -10,19 +9,15 @@ use lib.Dec.{T}
 use lib.ListN.{length, getD, getElem?}
 use borrow.Author.Tests.{eqb-true}
 use Rattle.theory.specs.Query.{Term, Line, Query, Fits, over, _∈_}
-use Rattle.theory.specs.Cover.{Covers}
-use Rattle.theory.specs.Executable.Cover.{covers}
 use Rattle.theory.specs.Archive.{AllFit}
 use Rattle.theory.specs.Executable.Reduce.{reduce}
 use Rattle.theory.specs.Executable.Show.{showTerm, show}
-use Rattle.theory.proofs.Lists.{at-place, place-below, below-place, there}
-use Rattle.theory.proofs.Executable.Test.{any-iff}
-use Rattle.theory.proofs.Executable.Cover.{covers-iff}
+use Rattle.theory.proofs.Lists.{at-place, place-below, there}
 use Rattle.theory.proofs.Reduce.{reduced-subset}
 use Rattle.theory.proofs.Executable.Reduce.{reduce-reduces}
 use Rattle.theory.proofs.Tuples.{getD-mem, fits-over}
 use Rattle.words.specs.Bits.{bit, isSet}
-use Rattle.model.specs.Limits.{mostTables, mostColumns, mostViews}
+use Rattle.model.specs.Limits.{mostTables, mostColumns}
 use Rattle.model.specs.Checks.{wide}
 use Rattle.model.specs.Rows.{laidTable, LaidAt}
 use Rattle.model.specs.Value.{lineValue}
@@ -30,7 +25,9 @@ use Rattle.model.specs.declared.Tables.{Tables}
 use Rattle.model.specs.declared.Query.{Query as QueryValue}
 use Rattle.policy_text.specs.Declared.{Declared}
 use Rattle.model.proofs.Limits.{up-to-iff}
+use Rattle.policy_text.specs.Policy.{grantsOf}
 use Rattle.policy_text.proofs.Grants.{grants-bit, good-below}
+use Rattle.covering.specs.Prepared.{grantWord}
 use Rattle.covering.specs.Labelled.{Labelled, Reached}
 use Rattle.reduce.specs.Agree.{lineAt}
 use Rattle.reduce.specs.Left.{linesAt}
@@ -41,13 +38,10 @@ use Rattle.reduce.proofs.Lines.{laid-few}
 use Rattle.reduce.proofs.Shown.{shownBy, line-value, line-shown}
 use Rattle.reduce.proofs.ShownTerms.{shown-term}
 use Rattle.labelling.specs.Posed.{Ready, LineOf, Posed, Rows}
-use Rattle.labelling.specs.Settled.{granted, answers, Answering}
+use Rattle.labelling.specs.Settled.{answers, Answering}
+use Rattle.labelling.proofs.Granted.{covering-answers, answers-covering}
 
 -- ---- a line
-
-pub line-there : (views : List Line) (k : ℕ) {v : Line} → getElem? views k ≡ some v → lineAt views k ≡ v
-unfolding lineAt
-line-there views k e = there views k _ e
 
 -- its table, as it was read from its row
 module _ {d : Declared} {tables : Tables} {r : List ℕ} (ready : Ready d tables r) {lines : List ℕ} {i : ℕ} {A : Line}
@@ -84,43 +78,27 @@ module _ {d : Declared} {tables : Tables} {r : List ℕ} (ready : Ready d tables
       }
 
 -- a partition grants a view that covers the line exactly when one of its views does
-pub answering : {d : Declared} {tables : Tables} {r : List ℕ} {A : Line} {w : ℕ} → Ready d tables r → Reached r (d .views) A w → Answering d A w
-unfolding granted
-answering {d} {r = r} {A} {w} ready reached = record { bits = each } where
-  covered : (ns : List ℕ) (k : ℕ) (v : Line) → getElem? (d .views) k ≡ some v → Covers v A → k + 1 ∈ ns → T (answers (d .views) A ns)
-  covered ns k v at c m =
-      let back : k + 1 - 1 ≡ k = omega arith in
-      let here : lineAt (d .views) (k + 1 - 1) ≡ v = rw back (line-there (d .views) k at) in
-      any-iff (λ v. covers v A) (granted (d .views) ns) .1 (
-        lineAt (d .views) (k + 1 - 1),
-        Memᴰ·map (λ n. lineAt (d .views) (n - 1)) m,
-        covers-iff _ A .1 (subst (λ (u : Line). Covers u A) (sym here) c),
-      )
+pub answering : {d : Declared} {tables : Tables} {r : List ℕ} {A : Line} {w : ℕ} → Ready d tables r → Reached r (d .views) A w
+    → Answering d A w
+answering {d} {r = r} {A} {w} ready reached = record { bits = λ i ns at. (reaches i ns at, reached-by i ns at) }
+  where
+    -- the word of a view, and a partition that lists its number
+    word : (k : ℕ) {v : Line} → getElem? (d .views) k ≡ some v → grantWord r k ≡ grantsOf (d .partitions) (k + 1)
+    word k at = ready .grant k (omega (arith, place-below (d .views) k at, ready .good .views .few))
 
-  each : (i : ℕ) (ns : List ℕ) → getElem? (d .partitions) i ≡ some ns → (bit w i ≡ 1) ↔ T (answers (d .views) A ns)
-  each i ns at = (
-    λ e.
+    reaches : (i : ℕ) (ns : List ℕ) → getElem? (d .partitions) i ≡ some ns → bit w i ≡ 1 → T (answers (d .views) A ns)
+    reaches i ns at e =
         let (k, v, there, c, g) = reached i .0 e in
-        let b = place-below (d .views) k there in
-        let word = ready .grant k (omega (arith, b, ready .good .views .few)) in
-        let (ms, same, m) = grants-bit (d .partitions) (k + 1) i .0 (ap (λ (x : ℕ). bit x i) (sym word) ∙ g) in
-        covered ns k v there c (subst (λ (l : List ℕ). k + 1 ∈ l) (Option·some-injective ms ns (sym same ∙ at)) m),
-    λ t.
-        let (v, m, c) = any-iff (λ v. covers v A) (granted (d .views) ns) .0 t in
-        let (n, j, e) = Memᴰ·of-map (λ n. lineAt (d .views) (n - 1)) ns m in
-        let (from, to) = good-below (length (d .views)) ns (ready .good .partitions .each ns (at-place (d .partitions) i at)) n j in
-        let (u, there) = below-place (d .views) (n - 1) (omega (arith, from, to)) in
-        let next : n - 1 + 1 ≡ n = omega (arith, from) in
-        let word = ready .grant (n - 1) (omega (arith, from, to, ready .good .views .few)) in
-        let granted = grants-bit (d .partitions) (n - 1 + 1) i .1 (ns, at, rw next j) in
-        reached i .1 (
-          n - 1,
-          u,
-          there,
-          subst (λ (x : Line). Covers x A) (sym e ∙ line-there (d .views) (n - 1) there) (covers-iff v A .0 c),
-          ap (λ (x : ℕ). bit x i) word ∙ granted,
-        ),
-  )
+        let (ms, same, m) = grants-bit (d .partitions) (k + 1) i .0 (ap (λ (x : ℕ). bit x i) (sym (word k there)) ∙ g) in
+        let listed = subst (λ (l : List ℕ). k + 1 ∈ l) (Option·some-injective ms ns (sym same ∙ at)) m in
+        covering-answers (d .views) ns A (record { place = k; view = v; at = there; listed = listed; covering = c })
+
+    reached-by : (i : ℕ) (ns : List ℕ) → getElem? (d .partitions) i ≡ some ns → T (answers (d .views) A ns) → bit w i ≡ 1
+    reached-by i ns at t =
+        let known = good-below (length (d .views)) ns (ready .good .partitions .each ns (at-place (d .partitions) i at)) in
+        let c = answers-covering (d .views) ns A known t in
+        let g = grants-bit (d .partitions) (c .place + 1) i .1 (ns, at, c .listed) in
+        reached i .1 (c .place, c .view, c .at, c .covering, ap (λ (x : ℕ). bit x i) (word (c .place) (c .at)) ∙ g)
 
 -- ---- the lines of a query, shown
 

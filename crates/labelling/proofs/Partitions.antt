@@ -1,8 +1,7 @@
 -- Known views settle a query, by covering and by its labels, exactly when they determine it; so does a partition of the policy.
-use mathlib.Core.Path.{_≡_, refl, sym, ap, subst, _∙_}
+use mathlib.Core.Path.{_≡_, sym, ap, subst, _∙_}
 use mathlib.Core.Logic.{_↔_, Iff·trans}
-use mathlib.Core.Bool.{Bool, _&&_}
-use mathlib.Core.List.{List, [], _∷_, map, List·Memᴰ·head, List·Memᴰ·tail, Memᴰ·map, Memᴰ·of-map}
+use mathlib.Core.List.{List, [], Memᴰ·map, Memᴰ·of-map}
 use mathlib.Core.Option.{some, Option·some-injective}
 use Prim.Native.Nat.{ℕ, _+_, _-_, _/_, _^_, _≤_, _<_}
 use native.Mathlib.Omega.{arith}
@@ -10,15 +9,13 @@ use lib.Dec.{T}
 use lib.ListN.{length, getElem?}
 use Rattle.theory.specs.Query.{Line, Query, _∈_, NoClash}
 use Rattle.theory.specs.Archive.{AllFit, Determines, DeterminedBy}
-use Rattle.theory.specs.Cover.{Covers}
-use Rattle.theory.specs.Executable.Test.{all, any}
+use Rattle.theory.specs.Executable.Test.{any}
 use Rattle.theory.specs.Executable.Cover.{covers}
 use Rattle.theory.specs.Executable.Reduce.{reduce}
 use Rattle.theory.specs.Executable.Show.{show}
 use Rattle.theory.specs.Executable.Label.{viewBits, label, labels, settles}
 use Rattle.theory.proofs.Lists.{at-place, below-place, there}
-use Rattle.theory.proofs.Executable.Test.{same-test, any-iff, all-map, all-same}
-use Rattle.theory.proofs.Executable.Cover.{covers-iff}
+use Rattle.theory.proofs.Executable.Test.{same-test, all-map, all-same}
 use Rattle.theory.proofs.Executable.Label.{viewBits-bit}
 use Rattle.theory.proofs.Determine.{settles-iff-determines, no-view-determines}
 use Rattle.words.specs.Bits.{bit}
@@ -34,51 +31,34 @@ use Rattle.policy_text.specs.Policy.{viewsWord}
 use Rattle.policy_text.proofs.Grants.{word-bit, good-below}
 use Rattle.words.proofs.Answers.{true-holds, holds-true}
 use Rattle.reduce.specs.Agree.{lineAt}
-use Rattle.labelling.specs.Settled.{holdsOne, settled, granted, Known, Numbered}
-use Rattle.labelling.proofs.Lines.{line-there, shown-fits}
+use Rattle.labelling.specs.Settled.{holdsOne, settled, granted, answers, Known, Numbered}
+use Rattle.labelling.proofs.Granted.{covering-answers, answers-covering}
+use Rattle.labelling.proofs.Lines.{shown-fits}
 
 -- ---- one label
 
 module _ (views : List Line) (ns : List ℕ) (few : length views ≤ mostViews) (known : Known views ns)
     (A : Line) (small : A .table < 2 ^ 32) where
-  listed : (v : ℕ) → 1 ≤ v → (bit (viewsWord ns) (v - 1) ≡ 1) ↔ (v ∈ ns)
-  listed v h =
-      let b = word-bit ns (v - 1) in
-      let same : v - 1 + 1 ≡ v = omega arith in (
-        λ e. subst (λ (x : ℕ). x ∈ ns) same (b .0 e .1),
-        λ m. b .1 (omega (arith, h, known v m .1, few), subst (λ (x : ℕ). x ∈ ns) (sym same) m),
-      )
-
   high : label views A / 2 ^ 32 ≡ viewBits views A
   unfolding label
   high = high-part 32 (viewBits views A) small
 
-  holds-granted : meet 64 (label views A / 2 ^ 32) (viewsWord ns) ≡ any (λ v. covers v A) (granted views ns)
-  unfolding granted
-  holds-granted =
-      same-test _ _
-      (λ t.
-      let (k, _, x, y) = meet-iff 64 (label views A / 2 ^ 32) (viewsWord ns) .0 (sym (holds-true _ t)) in
-      let (v, at, c) = viewBits-bit views A k .0 (sym (ap (λ (w : ℕ). bit w k) high) ∙ x) in
-      let m = listed (k + 1) (omega arith) .0 (ap (λ (i : ℕ). bit (viewsWord ns) i) (omega arith) ∙ y) in
-      let e = line-there views (k + 1 - 1) (ap (getElem? views) (omega arith) ∙ at) in
-      any-iff (λ v. covers v A) (granted views ns) .1 (
-        lineAt views (k + 1 - 1),
-        Memᴰ·map (λ v. lineAt views (v - 1)) m,
-        covers-iff _ A .1 (subst (λ (u : Line). Covers u A) (sym e) c),
-      ))
-      (λ t.
-      let (v, m, c) = any-iff (λ v. covers v A) (granted views ns) .0 t in
-      let (n, i, e) = Memᴰ·of-map (λ v. lineAt views (v - 1)) ns m in
-      let (from, to) = known n i in
-      let (u, at) = below-place views (n - 1) (omega (arith, from, to)) in
-      let covered = subst (λ (w : Line). Covers w A) (sym e ∙ line-there views (n - 1) at) (covers-iff v A .0 c) in
-      true-holds (meet-iff 64 (label views A / 2 ^ 32) (viewsWord ns) .1 (
-        n - 1,
-        omega (arith, to, few),
-        ap (λ (x : ℕ). bit x (n - 1)) high ∙ viewBits-bit views A (n - 1) .1 (u, at, covered),
-        listed n from .1 i,
-      )))
+  holds-granted : meet 64 (label views A / 2 ^ 32) (viewsWord ns) ≡ answers views A ns
+  holds-granted = same-test _ _ held given
+    where
+      held : T (meet 64 (label views A / 2 ^ 32) (viewsWord ns)) → T (answers views A ns)
+      held t =
+          let (k, _, x, y) = meet-iff 64 (label views A / 2 ^ 32) (viewsWord ns) .0 (sym (holds-true _ t)) in
+          let (v, at, c) = viewBits-bit views A k .0 (sym (ap (λ (w : ℕ). bit w k) high) ∙ x) in
+          covering-answers views ns A (record { place = k; view = v; at = at; listed = word-bit ns k .0 y .1; covering = c })
+
+      given : T (answers views A ns) → T (meet 64 (label views A / 2 ^ 32) (viewsWord ns))
+      given t =
+          let c = answers-covering views ns A known t in
+          let k = c .place in
+          let b : k < mostViews = omega (arith, known (k + 1) (c .listed) .1, few) in
+          let x = ap (λ (w : ℕ). bit w k) high ∙ viewBits-bit views A k .1 (c .view, c .at, c .covering) in
+          true-holds (meet-iff 64 (label views A / 2 ^ 32) (viewsWord ns) .1 (k, omega (arith, b), x, word-bit ns k .1 (b, c .listed)))
 
 -- ---- all labels
 

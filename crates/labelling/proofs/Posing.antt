@@ -39,7 +39,8 @@ use Rattle.labelling.specs.Text.{LoadedTo}
 small-read : {widths : List ℕ} {Q : Query} → WellRead widths Q → Small Q
 unfolding lineWithin termWithin
 small-read w n A i m =
-    let t = all-iff termWithin (A .columns) .0 (and-iff (upTo mostTables (A .table)) (all termWithin (A .columns)) .0 (w .within A i) .1) (hidden n) m in
+    let terms = and-iff (upTo mostTables (A .table)) (all termWithin (A .columns)) .0 (w .within A i) .1 in
+    let t = all-iff termWithin (A .columns) .0 terms (hidden n) m in
     omega (arith, leb→le n lastVariable t)
 
 pub tables-of : {p : Policy} {d : Declared} → LoadedTo p d → p .tables ≡ tablesValue (d .widths)
@@ -94,7 +95,8 @@ reduced-length : {Q R : Query} → ReducesTo Q R → length R ≤ length Q
 reduced-length (done {Q = P} r) = le-refl (length P)
 reduced-length (take-out {Q = P} i g r) = omega (arith, reduced-length r, length-without i P (g .0))
 
-pub few-labels : (views : List TheLine) (widths text : List ℕ) (Q : Query) → read widths text ≡ accepted Q → length (labels views Q) ≤ mostLines
+pub few-labels : (views : List TheLine) (widths text : List ℕ) (Q : Query) → read widths text ≡ accepted Q
+    → length (labels views Q) ≤ mostLines
 unfolding labels show
 few-labels views widths text Q e =
     let w = accepted-well-read widths text Q e in

@@ -35,7 +35,8 @@ pub record Written (d : Declared) (f : Line → Line) (R : Query) (words : List 
   pub many : count ≡ length R
   pub settled : settling ≡ testBits (λ ns. all (λ A. answers (d .views) (f A) ns) R) (d .partitions)
 
-pub written-none : {d : Declared} {tables : Tables} {r : List ℕ} (f : Line → Line) (every : ℕ) → Ready d tables r → every ≡ getD r everyWord 0
+pub written-none : {d : Declared} {tables : Tables} {r : List ℕ} (f : Line → Line) (every : ℕ) → Ready d tables r
+    → every ≡ getD r everyWord 0
     → Written d f [] (pad mostLines 0 []) 0 every
 unfolding all
 written-none {d} f every ready e = record {

@@ -1,3 +1,3 @@
-pub mod Posed
 pub mod Settled
+pub mod Posed
 pub mod Text

@@ -1,11 +1,13 @@
 -- A query posed under a policy, as the code holds the two, and its labels.
 use mathlib.Core.Path.{_≡_}
-use mathlib.Core.List.{List}
+use mathlib.Core.List.{List, map}
 use Prim.Native.Nat.{ℕ, _+_, _-_, _^_, _≤_, _<_}
 use lib.ListN.{length, getD}
 use Rattle.theory.specs.Query.{Fits, _∈_}
 use Rattle.theory.specs.Query.{Line as TheLine, Query as TheQuery}
 use Rattle.theory.specs.Archive.{AllFit}
+use Rattle.theory.specs.Executable.Label.{label, labels}
+use Rattle.theory.specs.Executable.Show.{show}
 use Rattle.model.specs.Limits.{mostTables, mostColumns, mostViews, mostLines}
 use Rattle.model.specs.Rows.{LaidAt}
 use Rattle.model.specs.Value.{pad, lineValue, tablesValue}
@@ -16,9 +18,12 @@ use Rattle.policy_text.specs.WellFormed.{WellFormed}
 use Rattle.policy_text.specs.Policy.{grantsOf}
 use Rattle.covering.specs.Views.{OfTable, LaidViews}
 use Rattle.covering.specs.Prepared.{everyWord, preparedLong, tableWord, grantWord}
+use Rattle.covering.specs.declared.LineLabel.{LineLabel}
 use Rattle.reduce.specs.Agree.{lineAt}
+use Rattle.reduce.specs.Left.{linesAt}
 use Rattle.reduce.specs.Laid.{HoldsQuery}
-use Rattle.reduce.specs.Showing.{Small, showLine}
+use Rattle.reduce.specs.Showing.{Small, SharedWord, showLine}
+use Rattle.labelling.specs.Settled.{Answering, settling, settlingLines}
 use Rattle.labelling.specs.declared.Words.{Words}
 use Rattle.labelling.specs.declared.Labels.{Labels}
 
@@ -69,3 +74,35 @@ wordsValue ws = record { count = length ws; words = pad mostLines 0 ws }
 unfoldable pub labelsValue : List ℕ → ℕ → Labels
 unfolding wordsValue
 labelsValue ws settling = record { words = wordsValue ws; settling = settling }
+
+-- ---- what is asked of labelling, and what it gives
+
+-- a line of one of the policy's tables in row i
+abbrev pub SomeLine : Tables → List ℕ → List ℕ → ℕ → Type 0
+SomeLine tables r lines i = (d : Declared) × (A : TheLine) × Ready d tables r × LineOf d lines i A
+
+-- its label, and which partitions have a view that covers it
+abbrev pub LineGiven : Tables → List ℕ → List ℕ → ℕ → LineLabel → Type 0
+LineGiven tables r lines i l =
+    (d : Declared) (A : TheLine) → Ready d tables r → LineOf d lines i A → (l .label ≡ label (d .views) A) × Answering d A (l .grants)
+
+-- the rows of a query of n lines, its variables of some word shown
+abbrev pub SomeRows : Tables → List ℕ → ℕ → List ℕ → Type 0
+SomeRows tables r n lines =
+    (d : Declared) × (Q : TheQuery) × (w : ℕ) × Ready d tables r × (length Q ≡ n) × Rows d Q w lines
+
+-- the labels of the lines left, where the word is that of their shared variables, and which partitions have a view for each
+abbrev pub RowsGiven : Tables → List ℕ → ℕ → List ℕ → ℕ → Labels → Type 0
+RowsGiven tables r n lines left l =
+    (d : Declared) (Q : TheQuery) (w : ℕ) → Ready d tables r → length Q ≡ n → Rows d Q w lines → SharedWord (linesAt left Q) w →
+    let R = show (linesAt left Q) in
+    l ≡ labelsValue (map (label (d .views)) R) (settlingLines d R)
+
+-- a query on the policy's tables
+abbrev pub SomePosed : Tables → List ℕ → Query → Type 0
+SomePosed tables r q = (d : Declared) × (Q : TheQuery) × Ready d tables r × Posed q d Q
+
+-- its labels, and which partitions settle it
+abbrev pub QueryGiven : Tables → List ℕ → Query → Labels → Type 0
+QueryGiven tables r q l =
+    (d : Declared) (Q : TheQuery) → Ready d tables r → Posed q d Q → l ≡ labelsValue (labels (d .views) Q) (settling d Q)

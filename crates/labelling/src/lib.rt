@@ -1,22 +1,17 @@
 // The labels of a query, and which partitions settle it.
 
 ghost use mathlib.Core.Path.{_≡_};
-ghost use mathlib.Core.List.{List, [], map};
+ghost use mathlib.Core.List.{List, []};
 ghost use Prim.Native.Nat.{ℕ, _-_, _≤_, _<_};
 ghost use lib.ListN.{length, getD};
-ghost use Rattle.theory.specs.Query.{Line as TheLine, Query as TheQuery};
-ghost use Rattle.theory.specs.Executable.Label.{label, labels};
-ghost use Rattle.theory.specs.Executable.Show.{show};
 ghost use Rattle.model.specs.Limits.{mostTables, mostLines};
 ghost use Rattle.model.specs.Rows.{queryRowsLong};
 ghost use Rattle.model.specs.Value.{tablesValue};
 ghost use Rattle.query_text.specs.Text.{read};
 ghost use Rattle.policy_text.specs.Declared.{Declared};
-ghost use Rattle.reduce.specs.Left.{linesAt};
-ghost use Rattle.reduce.specs.Showing.{SharedWord};
-ghost use Rattle.labelling.specs.Posed.{Ready, SomeReady, LineOf, Posed, Rows, wordsValue, labelsValue};
+ghost use Rattle.labelling.specs.Posed.{Ready, SomeReady, wordsValue, labelsValue};
+ghost use Rattle.labelling.specs.Posed.{SomeLine, LineGiven, SomeRows, RowsGiven, SomePosed, QueryGiven};
 ghost use Rattle.labelling.specs.Text.{LoadedTo, SomePolicy, askedValue};
-ghost use Rattle.labelling.specs.Settled.{settling, settlingLines, Answering};
 use covering::LineLabel;
 use covering::Prepared;
 use model::MOST_LINES;
@@ -53,27 +48,27 @@ fn width_of(tables: Tables, table: u64) -> usize
 }
 
 // The label of the line in row `i`, of a table of the policy.
-fn label_of(tables: Tables, r: &Prepared, lines: &QueryRows, i: usize) -> LineLabel
-    requires { ⌜ ((d : Declared) × (A : TheLine) × Ready d tables (now r) × LineOf d (now lines) i A) × (length (now lines) ≡ queryRowsLong) × (i < mostLines) ⌝ }
-    ensures { λ l. ⌜ ((d : Declared) (A : TheLine) → Ready d tables (now (r .entry)) → LineOf d (now (lines .entry)) i A → (l .label ≡ label (d .views) A) × Answering d A (l .grants)) ⌝ }
+fn label_of(tables: Tables, ready: &Prepared, lines: &QueryRows, i: usize) -> LineLabel
+    requires { ⌜ SomeLine tables (now ready) (now lines) i × (length (now lines) ≡ queryRowsLong) × (i < mostLines) ⌝ }
+    ensures { λ l. ⌜ LineGiven tables (now (ready .entry)) (now (lines .entry)) i l ⌝ }
 {
     let table = model::table_at(lines, i);
     let width = width_of(tables, table);
-    covering::label_line(r, width, lines, i)
+    covering::label_line(ready, width, lines, i)
 }
 
 // The labels of the lines left of n lines, whose shared variables are shown.
-fn label_lines(tables: Tables, r: &Prepared, n: usize, lines: &QueryRows, left: u64) -> Labels
-    requires { ⌜ ((d : Declared) × (Q : TheQuery) × (w : ℕ) × Ready d tables (now r) × (length Q ≡ n) × Rows d Q w (now lines)) × (length (now lines) ≡ queryRowsLong) ⌝ }
-    ensures { λ l. ⌜ ((d : Declared) (Q : TheQuery) (w : ℕ) → Ready d tables (now (r .entry)) → length Q ≡ n → Rows d Q w (now (lines .entry)) → SharedWord (linesAt left Q) w → let R = show (linesAt left Q) in l ≡ labelsValue (map (label (d .views)) R) (settlingLines d R)) ⌝ }
+fn label_lines(tables: Tables, ready: &Prepared, n: usize, lines: &QueryRows, left: u64) -> Labels
+    requires { ⌜ SomeRows tables (now ready) n (now lines) × (length (now lines) ≡ queryRowsLong) ⌝ }
+    ensures { λ l. ⌜ RowsGiven tables (now (ready .entry)) n (now (lines .entry)) left l ⌝ }
 {
     let mut words = [0; MOST_LINES];
     let mut count = 0;
-    let mut settling = covering::every_partition(r);
+    let mut settling = covering::every_partition(ready);
     let mut i = 0;
     while i < n {
         if words::has_bit(left, i as u64) {
-            let l = label_of(tables, r, lines, i);
+            let l = label_of(tables, ready, lines, i);
             words[count] = l.label;
             settling = settling & l.grants;
             count += 1;
@@ -85,16 +80,16 @@ fn label_lines(tables: Tables, r: &Prepared, n: usize, lines: &QueryRows, left: 
 }
 
 // The labels of a query.
-pub fn label_query(tables: Tables, r: &Prepared, q: Query) -> Labels
-    requires { ⌜ ((d : Declared) × (Q : TheQuery) × Ready d tables (now r) × Posed q d Q) ⌝ }
-    ensures { λ l. ⌜ ((d : Declared) (Q : TheQuery) → Ready d tables (now (r .entry)) → Posed q d Q → l ≡ labelsValue (labels (d .views) Q) (settling d Q)) ⌝ }
+pub fn label_query(tables: Tables, ready: &Prepared, q: Query) -> Labels
+    requires { ⌜ SomePosed tables (now ready) q ⌝ }
+    ensures { λ l. ⌜ QueryGiven tables (now (ready .entry)) q l ⌝ }
 {
     let n = q.count;
     let mut lines = reduce::query_rows(q);
     let left = reduce::lines_left(n, &lines);
     let shared = reduce::shared(n, &lines, left);
     reduce::show(n, &mut lines, shared);
-    label_lines(tables, r, n, &lines, left)
+    label_lines(tables, ready, n, &lines, left)
 }
 
 pub fn no_words() -> Words
@@ -114,16 +109,16 @@ fn no_labels() -> Labels
 }
 
 // The labels of a query text, or what turns it back.
-pub fn label_text(tables: Tables, r: &Prepared, text: &[u8]) -> Asked
-    requires { ⌜ SomeReady tables (now r) ⌝ }
-    ensures { λ a. ⌜ ((d : Declared) → Ready d tables (now (r .entry)) → a ≡ askedValue d (read (d .widths) (now (text .entry)))) ⌝ }
+pub fn label_text(tables: Tables, ready: &Prepared, text: &[u8]) -> Asked
+    requires { ⌜ SomeReady tables (now ready) ⌝ }
+    ensures { λ a. ⌜ ((d : Declared) → Ready d tables (now (ready .entry)) → a ≡ askedValue d (read (d .widths) (now (text .entry)))) ⌝ }
 {
     let reading = query_text::read_query(tables, text);
     let outcome = reading.outcome;
     match outcome {
         Outcome::Accepted => {
             let q = reading.query;
-            let labels = label_query(tables, r, q);
+            let labels = label_query(tables, ready, q);
             Asked { outcome, labels }
         }
         Outcome::Refused { .. } => {
@@ -138,7 +133,7 @@ pub fn ask(p: Policy, text: &[u8]) -> Asked
     requires { ⌜ SomePolicy p ⌝ }
     ensures { λ a. ⌜ ((d : Declared) → LoadedTo p d → a ≡ askedValue d (read (d .widths) (now (text .entry)))) ⌝ }
 {
-    let r = covering::prepare(p);
+    let ready = covering::prepare(p);
     let tables = p.tables;
-    label_text(tables, &r, text)
+    label_text(tables, &ready, text)
 }

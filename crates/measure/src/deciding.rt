@@ -18,14 +18,14 @@ fn number_of(r: Reply) -> u64 {
     }
 }
 
-fn decide_again(tables: Tables, r: &Prepared, text: &[u8], times: u64) -> u64
-    requires { ⌜ SomeReady tables (now r) ⌝ }
+fn decide_again(tables: Tables, ready: &Prepared, text: &[u8], times: u64) -> u64
+    requires { ⌜ SomeReady tables (now ready) ⌝ }
 {
-    let s = desk::open_loaded(r);
+    let s = desk::open_loaded(ready);
     let mut sum = 0;
     let mut i = 0;
     while i < times {
-        let d = desk::decide_loaded(tables, r, s, text);
+        let d = desk::decide_loaded(tables, ready, s, text);
         let reply = d.reply;
         sum = wrapping_add_u64(sum, number_of(reply));
         i += 1;
@@ -36,9 +36,9 @@ fn decide_again(tables: Tables, r: &Prepared, text: &[u8], times: u64) -> u64
 fn prepare_and_decide(p: Policy, text: &[u8], times: u64) -> u64
     requires { ⌜ SomePolicy p ⌝ }
 {
-    let r = covering::prepare(p);
+    let ready = covering::prepare(p);
     let tables = p.tables;
-    decide_again(tables, &r, text, times)
+    decide_again(tables, &ready, text, times)
 }
 
 // The text decided so many times under the policy of a text, as a run over a file does: the policy is known to be loaded.

@@ -1,8 +1,6 @@
 // A query labelled again and again.
 
-ghost use Rattle.theory.specs.Query.{Query as TheQuery};
-ghost use Rattle.policy_text.specs.Declared.{Declared};
-ghost use Rattle.labelling.specs.Posed.{Ready, Posed};
+ghost use Rattle.labelling.specs.Posed.{SomePosed};
 ghost use Rattle.labelling.specs.Text.{SomePolicy};
 use covering::Prepared;
 use labelling::Labels;
@@ -24,13 +22,13 @@ fn sum_of(l: Labels) -> u64 {
     sum
 }
 
-fn label_again(tables: Tables, r: &Prepared, q: Query, times: u64) -> u64
-    requires { ⌜ ((d : Declared) × (Q : TheQuery) × Ready d tables (now r) × Posed q d Q) ⌝ }
+fn label_again(tables: Tables, ready: &Prepared, q: Query, times: u64) -> u64
+    requires { ⌜ SomePosed tables (now ready) q ⌝ }
 {
     let mut sum = 0;
     let mut i = 0;
     while i < times {
-        let l = labelling::label_query(tables, r, q);
+        let l = labelling::label_query(tables, ready, q);
         sum = wrapping_add_u64(sum, sum_of(l));
         i += 1;
     }
@@ -40,14 +38,14 @@ fn label_again(tables: Tables, r: &Prepared, q: Query, times: u64) -> u64
 fn read_and_label(p: Policy, query: &[u8], times: u64) -> u64
     requires { ⌜ SomePolicy p ⌝ }
 {
-    let made = covering::prepare(p);
+    let ready = covering::prepare(p);
     let tables = p.tables;
     let r = query_text::read_query(tables, query);
     let outcome = r.outcome;
     match outcome {
         Outcome::Accepted => {
             let q = r.query;
-            label_again(tables, &made, q, times)
+            label_again(tables, &ready, q, times)
         }
         Outcome::Refused { .. } => 0,
     }

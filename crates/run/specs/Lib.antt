@@ -1,4 +1,5 @@
 pub mod Sizes
 pub mod Output
 pub mod Run
+pub mod Writing
 pub mod Program

@@ -3,14 +3,11 @@
 ghost use mathlib.Core.Path.{_≡_};
 ghost use Prim.Native.Nat.{_+_, _≤_};
 ghost use lib.ListN.{length};
-ghost use Rattle.policy_text.specs.Declared.{Declared};
-ghost use Rattle.labelling.specs.Posed.{Ready, SomeReady};
-ghost use Rattle.desk.specs.Reply.{Word, said};
+ghost use Rattle.labelling.specs.Posed.{SomeReady};
 ghost use Rattle.writing.specs.Wrote.{Wrote};
-ghost use Rattle.cutting.specs.Cut.{cut};
-ghost use Rattle.run.specs.Output.{wordBytes, outputLine};
 ghost use Rattle.run.specs.Sizes.{mostInput, mostOutput, wordLong, lineLong, linesLong};
-ghost use Rattle.run.specs.Run.{linesFrom, written};
+ghost use Rattle.run.specs.Run.{written};
+ghost use Rattle.run.specs.Writing.{LineWritten, ReplyWritten, AllWritten};
 use covering::Prepared;
 use desk::Reply;
 use desk::Session;
@@ -34,7 +31,7 @@ fn put_line(
     line: u64,
 ) -> usize
     requires { ⌜ (at + lineLong ≤ length (now out)) × (length (now word) ≤ wordLong) ⌝ }
-    ensures { λ r. ⌜ ((w : Word) → now (word .entry) ≡ wordBytes w → Wrote (now (out .entry)) at (outputLine query w left number line) (now (out .exit)) r) ⌝ }
+    ensures { λ r. ⌜ LineWritten query (now (word .entry)) left number line (now (out .entry)) at (now (out .exit)) r ⌝ }
     ensures { λ r. ⌜ (length (now (out .exit)) ≡ length (now (out .entry))) × (r ≤ at + lineLong) ⌝ }
 {
     let a = writing::put_field(out, at, query, b' ');
@@ -48,7 +45,7 @@ fn put_line(
 // The line for a query that got this reply and left so many partitions open.
 fn put_reply(out: &mut [u8], at: usize, query: u64, reply: Reply, left: u64) -> usize
     requires { ⌜ at + lineLong ≤ length (now out) ⌝ }
-    ensures { λ r. ⌜ Wrote (now (out .entry)) at (outputLine query (said reply .word) left (said reply .number) (said reply .line)) (now (out .exit)) r × (r ≤ at + lineLong) ⌝ }
+    ensures { λ r. ⌜ ReplyWritten query reply left (now (out .entry)) at (now (out .exit)) r × (r ≤ at + lineLong) ⌝ }
 {
     match reply {
         Reply::Yes { count: _ } => put_line(out, at, query, b"yes", left, 0, 0),
@@ -60,14 +57,14 @@ fn put_reply(out: &mut [u8], at: usize, query: u64, reply: Reply, left: u64) -> 
 // The queries, each in the session that the one before it left.
 fn decide_all(
     tables: Tables,
-    r: &Prepared,
+    ready: &Prepared,
     opened: Session,
     queries: &[u8],
     out: &mut [u8],
     start: usize,
 ) -> usize
-    requires { ⌜ SomeReady tables (now r) × (length (now queries) ≤ mostInput) × (start + linesLong ≤ length (now out)) ⌝ }
-    ensures { λ to. ⌜ ((d : Declared) → Ready d tables (now (r .entry)) → Wrote (now (out .entry)) start (linesFrom d opened 1 (cut (now (queries .entry)))) (now (out .exit)) to) ⌝ }
+    requires { ⌜ SomeReady tables (now ready) × (length (now queries) ≤ mostInput) × (start + linesLong ≤ length (now out)) ⌝ }
+    ensures { λ to. ⌜ AllWritten tables (now (ready .entry)) opened (now (queries .entry)) (now (out .entry)) start (now (out .exit)) to ⌝ }
     ensures { λ to. ⌜ to ≤ start + linesLong ⌝ }
 {
     let mut s = opened;
@@ -77,7 +74,7 @@ fn decide_all(
     while at < queries.len() {
         let rest = &queries[at..];
         let n = cutting::next_cut(rest);
-        let d = desk::decide_loaded(tables, r, s, &rest[..n]);
+        let d = desk::decide_loaded(tables, ready, s, &rest[..n]);
         s = d.session;
         let reply = d.reply;
         to = put_reply(out, to, query, reply, words::ones(s.mask));
@@ -90,7 +87,8 @@ fn decide_all(
 // Writes the output to the front of a buffer that has room for it, leaves the rest as it was, and tells the output's length.
 pub fn run(policy: &[u8], queries: &[u8], out: &mut [u8]) -> usize
     requires { ⌜ (length (now queries) ≤ mostInput) × (mostOutput ≤ length (now out)) ⌝ }
-    ensures { λ to. ⌜ Wrote (now (out .entry)) 0 (written (now (policy .entry)) (now (queries .entry))) (now (out .exit)) to × (to ≤ length (now (out .exit))) ⌝ }
+    ensures { λ to. ⌜ Wrote (now (out .entry)) 0 (written (now (policy .entry)) (now (queries .entry))) (now (out .exit)) to ⌝ }
+    ensures { λ to. ⌜ to ≤ length (now (out .exit)) ⌝ }
 {
     let at = writing::put_bytes(out, 0, b"query answer open refusal line\n");
     let l = load::load(policy);
@@ -99,10 +97,10 @@ pub fn run(policy: &[u8], queries: &[u8], out: &mut [u8]) -> usize
         Outcome::Refused { number, line } => put_line(out, at, 0, b"refused", 0, number, line),
         Outcome::Accepted => {
             let p = l.policy;
-            let r = covering::prepare(p);
+            let ready = covering::prepare(p);
             let tables = p.tables;
-            let opened = desk::open_loaded(&r);
-            decide_all(tables, &r, opened, queries, out, at)
+            let opened = desk::open_loaded(&ready);
+            decide_all(tables, &ready, opened, queries, out, at)
         }
     }
 }

@@ -1,3 +1,4 @@
+-- `at_or_below`: the tables are equal, and the views of one include those of the other.
 use mathlib.Core.Path.{sym, ap₂, _∙_}
 use borrow.Author.Needs.{needs}
 use Rattle.words.specs.Sets.{include}

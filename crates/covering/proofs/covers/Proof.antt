@@ -1,4 +1,4 @@
--- `label::covers`: the rules hold at the pairs of columns before `p` and `q`.
+-- `covers`: the rules hold at the pairs of columns before `p` and `q`.
 use mathlib.Core.Path.{_≡_, refl, sym, _∙_}
 use mathlib.Core.Bool.{true}
 use Prim.Native.Nat.{_-_, _≤_}

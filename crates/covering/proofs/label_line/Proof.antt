@@ -1,5 +1,5 @@
 -- `label_line`: the word has the covering views among those taken from the word of the table, and the partitions are those of its views.
-use mathlib.Core.Path.{_≡_, sym, ap, subst, _∙_}
+use mathlib.Core.Path.{sym, ap, subst, _∙_}
 use mathlib.Core.Logic.{⊎-elim}
 use mathlib.Core.List.{List}
 use Prim.Native.Nat.{ℕ, _^_, _≤_, _<_}
@@ -47,13 +47,14 @@ element-copy-out-left c = omega (arith, last c)
 loop-holds : tie.Need-loop-holds Inv-loop μ-loop
 unfolding lineValue
 loop-holds c =
-    let r = c .before .before .before .args .r .now in
+    let r = c .before .before .before .args .ready .now in
     let table = c .before .table-at .ensures in (
       rw table (c .before .before .before .pre .1 .1),
       omega arith,
       union-none _,
       λ vs A l.
-          subst (λ (m : ℕ). Picked (Covering vs A) (tableWord r (A .table)) m 0) (sym (ap (tableWord r) (table ∙ l .line .table))) picked-none,
+          let mask = ap (tableWord r) (table ∙ l .line .table) in
+          subst (λ (m : ℕ). Picked (Covering vs A) (tableWord r (A .table)) m 0) (sym mask) picked-none,
     )
 
 least-requires : tie.Need-least-requires Inv-loop μ-loop
@@ -94,8 +95,8 @@ loop-again c =
     let (small-left, small-word, union, picked) = at .inv in
     let answer = c .before .before .covers in (
       omega (arith, c .drop-least .ensures .less),
-      ⊎-elim (λ w. rw (w .3, w .1 .ensures) (set-bit-below mostViews (at .word) (k .result) small-word (small s))) (λ w. rw (w .1) small-word)
-          (c .before .if1 .came),
+      ⊎-elim (λ w. rw (w .3, w .1 .ensures) (set-bit-below mostViews (at .word) (k .result) small-word (small s)))
+          (λ w. rw (w .1) small-word) (c .before .if1 .came),
       ⊎-elim (λ w. rw (w .3, w .4, w .1 .ensures) (union-more _ (k .result) union)) (λ w. rw (w .1, w .2) union) (c .before .if1 .came),
       λ vs A l.
           let w = picked vs A l in
@@ -110,7 +111,7 @@ join-requires c κs = (omega (arith, last (c .before .before .before)), c .befor
 returns : tie.Need-returns Inv-loop μ-loop
 returns c = λ vs A l.
     let (_, small-word, union, picked) = c .before .before .loop .inv in
-    let r = c .before .before .before .before .before .before .args .r .now in
+    let r = c .before .before .before .before .before .before .args .ready .now in
     let word = c .before .before .loop .word in
     let done = subst (λ (m : ℕ). Picked (Covering vs A) (tableWord r (A .table)) m word) (c .before .loop-test .left) (picked vs A l) in
     (c .join .ensures ∙ labelled l done _ (c .before .before .before .before .table-at .ensures) small-word, reached l done union)

@@ -1,3 +1,4 @@
+-- `obeys`: each answer is that of the rule at hand.
 use mathlib.Core.Path.{_≡_, _∙_}
 use mathlib.Core.Bool.{not, _&&_, _||_}
 use borrow.Author.Needs.{needs}
@@ -16,7 +17,8 @@ module _ (t u x y : TheTerm) where
       a .v ≡ termValue t → a .w ≡ termValue u → a .a ≡ termValue x → a .b ≡ termValue y
       → c .implies .result ≡ (not (same t u) || same x y))
   equals c ev ew ea eb =
-      implied (c .implies .ensures) (c .before .before .same-term2 .ensures ∙ same-held t u ev ew) (c .before .same-term3 .ensures ∙ same-held x y ea eb)
+      implied (c .implies .ensures) (c .before .before .same-term2 .ensures ∙ same-held t u ev ew)
+      (c .before .same-term3 .ensures ∙ same-held x y ea eb)
 
   rules : (c : tie.Else3)
       → (let a = c .before .before .before .before .before .before .before .before .before .args in
@@ -63,7 +65,8 @@ returns-4 : tie.Need-returns-4
 returns-4 c t u x y ev ew ea eb =
     let before = c .before .before .before in
     both-right (equals t u x y (before .before .before .before .before .before) ev ew ea eb) (before .if4 .taken)
-    (implied (c .implies2 .ensures) (c .before .before .same-term4 .ensures ∙ same-held x y ea eb) (c .before .same-term5 .ensures ∙ same-held t u ev ew))
+    (implied (c .implies2 .ensures) (c .before .before .same-term4 .ensures ∙ same-held x y ea eb)
+    (c .before .same-term5 .ensures ∙ same-held t u ev ew))
     ∙ rules t u x y (before .before) ev ea
 
 returns-5 : tie.Need-returns-5

@@ -1,5 +1,4 @@
 -- `ask`: what is made of the policy is ready for labelling.
-use borrow.Author.Needs.{needs}
 use Rattle.labelling.proofs.Posing.{counted, ready}
 use Rattle.labelling.proofs.ask.Statement.{statement}
 use Rattle.labelling.proofs.ask.Tie as tie

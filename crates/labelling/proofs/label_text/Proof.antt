@@ -18,7 +18,8 @@ label-query-requires : tie.Need-label-query-requires
 label-query-requires c κs =
     let (d, ready) = c .before .before .before .before .before .pre in
     let r = c .before .before .before .read-query in
-    let (Q, e, o, q) = read-accepted (read (d .widths) _) (r .result) (r .ensures (d .widths) (ready .tablesAre)) (c .before .before .match .keys1) in
+    let reads = r .ensures (d .widths) (ready .tablesAre) in
+    let (Q, e, o, q) = read-accepted (read (d .widths) _) (r .result) reads (c .before .before .match .keys1) in
     (d, Q, ready, posed d _ Q (ready .good) e q)
 
 enum-told-2 : tie.Need-enum-told-2
@@ -31,7 +32,8 @@ returns : tie.Need-returns
 unfolding askedValue
 returns c = λ d ready.
     let r = c .before .before .before .before .read-query in
-    let (Q, e, o, q) = read-accepted (read (d .widths) _) (r .result) (r .ensures (d .widths) (ready .tablesAre)) (c .before .before .before .match .keys1) in
+    let reads = r .ensures (d .widths) (ready .tablesAre) in
+    let (Q, e, o, q) = read-accepted (read (d .widths) _) (r .result) reads (c .before .before .before .match .keys1) in
     ap₂ (λ x y. record { outcome = x; labels = y }) o (c .label-query .ensures d Q ready (posed d _ Q (ready .good) e q))
     ∙ ap (askedValue d) (sym e)
 
@@ -39,7 +41,8 @@ returns-2 : tie.Need-returns-2
 unfolding askedValue
 returns-2 c = λ d ready.
     let r = c .before .before .before .read-query in
-    let (n, k, e, o) = read-refused (read (d .widths) _) (r .result) (r .ensures (d .widths) (ready .tablesAre)) (c .before .before .match .keys2) in
+    let reads = r .ensures (d .widths) (ready .tablesAre) in
+    let (n, k, e, o) = read-refused (read (d .widths) _) (r .result) reads (c .before .before .match .keys2) in
     ap₂ (λ x y. record { outcome = x; labels = y }) o (c .no-labels .ensures) ∙ ap (askedValue d) (sym e)
 
 pub label-text-spec : {M : Type 1} → statement M

@@ -1,3 +1,4 @@
+-- `width_of`: the columns of the table with that number.
 use mathlib.Core.Path.{ap, _∙_}
 use Prim.Native.Nat.{_-_}
 use borrow.Author.Needs.{needs}

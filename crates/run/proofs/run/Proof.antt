@@ -1,6 +1,6 @@
 -- `run`: the names line; then the refusal of the policy, or the lines of the queries.
 use mathlib.Core.Path.{_≡_, refl}
-use Prim.Native.Nat.{_+_, _≤_}
+use Prim.Native.Nat.{_≤_}
 use native.Mathlib.Omega.{arith}
 use lib.ListN.{length}
 use Rattle.policy_text.specs.Text.{load, accepted}
@@ -8,7 +8,7 @@ use Rattle.policy_text.specs.Declared.{Declared}
 use Rattle.labelling.specs.Text.{LoadedTo}
 use Rattle.desk.specs.Reply.{refused}
 use Rattle.labelling.proofs.Posing.{counted, ready}
-use Rattle.run.specs.Sizes.{mostOutput, namesLong, linesLong}
+use Rattle.run.specs.Sizes.{mostOutput, namesLong}
 use Rattle.run.specs.Output.{outputNames, wordBytes}
 use Rattle.run.proofs.Written.{loads-to, loads-not, behind-names, written-refused, written-accepted}
 use borrow.Author.Needs.{needs}

@@ -26,31 +26,31 @@ slice-read-m c = search needs
 set-bit-requires : tie.Need-set-bit-requires
 set-bit-requires c κs = search needs
 
-mul-r : tie.Need-mul-r
-mul-r c = search needs
+mul-ready : tie.Need-mul-ready
+mul-ready c = search needs
 
-slice-write-r : tie.Need-slice-write-r
-slice-write-r c = search needs
+slice-write-ready : tie.Need-slice-write-ready
+slice-write-ready c = search needs
 
-add-r : tie.Need-add-r
-add-r c = search needs
+add-ready : tie.Need-add-ready
+add-ready c = search needs
 
-mul-r-2 : tie.Need-mul-r-2
-mul-r-2 c = search needs
+mul-ready-2 : tie.Need-mul-ready-2
+mul-ready-2 c = search needs
 
 -- what stands behind the test: the rows with the view laid, perhaps with its bit set
-long : (c : tie.Joined1) → length (c .if1 .r) ≡ length (now (c .before .before .before .before .before .before .args .r))
+long : (c : tie.Joined1) → length (c .if1 .ready) ≡ length (now (c .before .before .before .before .before .before .args .ready))
 long c =
     let l = c .before .before .before .lay-line .ensures in
     ⊎-elim (λ w. rw (w .3, length-set) (l .long)) (λ w. rw (w .1) (l .long)) (c .if1 .came)
 
-slice-write-r-2 : tie.Need-slice-write-r-2
-slice-write-r-2 c = let (e, k) = c .before .before .before .before .before .before .pre in omega (arith, long c, e, k)
+slice-write-ready-2 : tie.Need-slice-write-ready-2
+slice-write-ready-2 c = let (e, k) = c .before .before .before .before .before .before .pre in omega (arith, long c, e, k)
 
 same-length : tie.Need-same-length
 same-length c =
     let a = c .before .before .before .before .before .before .args in
-    length-set (c .if1 .r) (grantWords + a .k) (a .grants) ∙ long c
+    length-set (c .if1 .ready) (grantWords + a .k) (a .grants) ∙ long c
 
 returns : tie.Need-returns
 returns c =
@@ -69,10 +69,10 @@ enter-view-spec =
     mul-m
     slice-read-m
     set-bit-requires
-    mul-r
-    slice-write-r
-    add-r
-    mul-r-2
-    slice-write-r-2
+    mul-ready
+    slice-write-ready
+    add-ready
+    mul-ready-2
+    slice-write-ready-2
     same-length
     returns)

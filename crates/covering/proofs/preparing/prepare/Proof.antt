@@ -51,8 +51,8 @@ loop-again c =
 low-bits-requires : tie.Need-low-bits-requires Inv-loop μ-loop
 low-bits-requires c κs = omega (arith, c .before .before .pre)
 
-array-write-r : tie.Need-array-write-r Inv-loop μ-loop
-array-write-r c = omega arith
+array-write-ready : tie.Need-array-write-ready Inv-loop μ-loop
+array-write-ready c = omega arith
 
 returns : tie.Need-returns Inv-loop μ-loop
 returns c = partly-all _ (c .before .before .loop .inv .1) (c .before .loop-test .left) _ (c .low-bits .ensures)
@@ -74,5 +74,5 @@ prepare-spec =
     loop-less
     loop-again
     low-bits-requires
-    array-write-r
+    array-write-ready
     returns)

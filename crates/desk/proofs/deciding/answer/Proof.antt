@@ -1,4 +1,4 @@
--- `desk::deciding::answer`: no with the session as it was, or yes with the partitions left, and their count.
+-- `answer`: no with the session as it was, or yes with the partitions left, and their count.
 use mathlib.Core.Path.{refl, ap}
 use borrow.Author.Needs.{needs}
 use borrow.Author.Tests.{eq-eqb, ne-eqb}

@@ -19,7 +19,8 @@ use contract.Monad.{Fun, fact}
 use contract.Running.{givenOf, tables, tablesOf}
 use types.Kit.{Given, Item, ‵, raw, _⊛_, ⋆, some, later, _$_, _∵_, !, qed, by, move, keep, drop, use1, use3, split, join, pick}
 use types.Kit.{rewrite, fsplit, fsplit3, fjoin, fjoin3, feqI, suffices, frame, await, done}
-use types.Run.{look, look-raw, init, store-raw, forget, stop, hop, fld, from, load, of-opd, and-then, no-more, assigns, land, returns, enter}
+use types.Run.{look, look-raw, init, store-raw, forget, stop, hop, fld, from, load, of-opd, and-then, no-more, assigns, land}
+use types.Run.{returns, enter}
 use types.Run.{alloc1, alloc0, params1, pass1, pass0, free1, free0}
 use types.Part.{whole, sub, look-in}
 use types.SemTy.{Body}
@@ -48,7 +49,9 @@ use Rattle.model.proofs.Policy.Laws as P′
 use Rattle.desk.specs.declared.opening.Session.{Session}
 use Rattle.desk.specs.declared.deciding.Decision.{Decision}
 use Rattle.desk.specs.Deciding.{Decided}
-use Rattle.desk.proofs.MachineValues.{policy-val, session-val, reply-val, IsPolicy, IsReply, decision-only, reply-of, session-of, policy-typed, session-typed, reply-typed, decision-typed, policy-made, session-made, reply-made}
+use Rattle.desk.proofs.MachineValues.{policy-val, session-val, reply-val, IsPolicy, IsReply, decision-only, reply-of}
+use Rattle.desk.proofs.MachineValues.{session-of, policy-typed, session-typed, reply-typed, decision-typed, policy-made}
+use Rattle.desk.proofs.MachineValues.{session-made, reply-made}
 use Rattle.desk.proofs.opening.Session as S
 use Rattle.desk.proofs.opening.Session.Laws as S′
 use Rattle.desk.proofs.deciding.Decision as D

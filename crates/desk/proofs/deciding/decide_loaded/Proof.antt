@@ -46,7 +46,8 @@ returns-2 c = λ d ready.
     let a = c .before .before .before .before in
     let i = a .before in
     let fit = sym (unfit-is ready (i .before .before .every-partition .ensures) _ (i .before .unfit .ensures)) ∙ i .if1 .left in
-    let e = asked-refused d (read (d .widths) _) (a .label-text .result) _ _ (a .label-text .ensures d ready) (c .before .before .outcome .given .1) in
+    let asked = a .label-text .ensures d ready in
+    let e = asked-refused d (read (d .widths) _) (a .label-text .result) _ _ asked (c .before .before .outcome .given .1) in
     subst (Gives _) (sym (under-refused d _ _ _ _ fit e)) (c .refused2 .ensures)
 
 returns-3 : tie.Need-returns-3

@@ -1,4 +1,4 @@
--- `desk::deciding::refused`: the number and the line, with the session as it was.
+-- `refused`: the number and the line, with the session as it was.
 use mathlib.Core.Path.{refl}
 use Rattle.desk.specs.Reply.{said}
 use Rattle.desk.specs.Deciding.{turnedBack}

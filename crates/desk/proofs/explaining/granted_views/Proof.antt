@@ -45,7 +45,8 @@ loop-again c = (omega arith, next-test _ _ (c .before .has-bit .ensures) (c .bef
 returns : tie.Need-returns Inv-loop μ-loop
 returns c =
     let all : c .before .loop .k ≡ mostViews = omega (arith, c .before .loop .inv .0, c .loop-test .left) in
-    c .before .loop .inv .1 ∙ ap (λ (n : ℕ). testBits (grantedAt (c .before .before .args .t1) (c .before .before .args .i)) (upFrom 0 n)) all
+    let a = c .before .before .args in
+    c .before .loop .inv .1 ∙ ap (λ (n : ℕ). testBits (grantedAt (a .t1) (a .i)) (upFrom 0 n)) all
 
 pub granted-views-spec : {M : Type 1} → statement M
 granted-views-spec =

@@ -1,4 +1,4 @@
--- `desk::explaining::is_among`: the two tests of `upTo`.
+-- `is_among`: the two tests of `upTo`.
 use native.Mathlib.Omega.{arith}
 use borrow.Author.Tests.{le-leb, lt-leb}
 use Rattle.model.specs.Limits.{upTo}

@@ -1,23 +1,23 @@
--- `desk::explaining::write_words`. The invariant: the first i words stand at the head of the buffer, before what it held from place i on.
+-- `write_words`. The invariant: the first i words stand at the head of the buffer, before what it held from place i on.
 -- A word of 32 bits is itself in its cell.
-use mathlib.Core.Path.{_≡_, ap, _∙_}
-use mathlib.Core.List.{List}
-use Prim.Native.Nat.{ℕ, _-_, _≤_, _<_}
+use mathlib.Core.Path.{_≡_}
+use Prim.Native.Nat.{_-_, _≤_}
 use native.Mathlib.Omega.{arith}
-use lib.ListN.{length, getD, set, length-set}
+use lib.ListN.{length}
 use borrow.Author.Needs.{needs}
-use Rattle.desk.proofs.Copied.{Copied, copied-more}
+use Rattle.model.specs.Limits.{mostLines}
+use Rattle.desk.proofs.Copied.{CopiedTo, copied-none, copied-next, copied-all}
 use Rattle.desk.proofs.explaining.write_words.Statement.{statement}
 use Rattle.desk.proofs.explaining.write_words.Tie as tie
 
 abbrev Inv-loop : tie.InvT-loop
-Inv-loop count out₀ words i₀ out i = (i ≤ count) × (length out ≡ length out₀) × (out ≡ Copied words i out₀)
+Inv-loop count out₀ words i₀ out i = (i ≤ count) × CopiedTo words i out₀ out
 
 abbrev μ-loop : tie.MeasureT-loop
 μ-loop count out₀ words i₀ out i = count - i
 
 loop-holds : tie.Need-loop-holds Inv-loop μ-loop
-loop-holds c = search needs
+loop-holds c = (omega arith, copied-none _ _)
 
 mul-out : tie.Need-mul-out Inv-loop μ-loop
 mul-out c = search needs
@@ -40,28 +40,19 @@ add-i c = search needs
 loop-less : tie.Need-loop-less Inv-loop μ-loop
 loop-less c = search needs
 
-long : (c : tie.In-loop Inv-loop μ-loop) → length (c .before .before .args .t1) ≡ 8
+long : (c : tie.In-loop Inv-loop μ-loop) → length (c .before .before .args .t1) ≡ mostLines
 long c = search needs
 
 loop-again : tie.Need-loop-again Inv-loop μ-loop
 loop-again c =
-    let i = c .before .loop .i in
-    let words = c .before .before .args .t1 in
-    let before = c .before .before .args .out .now in
-    let h : i < length words = omega (arith, long c) in
-    let g : i < length before = omega arith in (
-      omega arith,
-      simp length-set (c .before .loop .inv .1),
-      ap (λ (l : List ℕ). set l i (getD words i 0)) (c .before .loop .inv .2) ∙ copied-more words i before h g,
-    )
+    let at = c .before .loop in
+    (omega arith, copied-next _ _ (at .inv .1) (omega (arith, long c)) (omega arith))
 
 same-length : tie.Need-same-length Inv-loop μ-loop
-same-length c = search needs
+same-length c = c .before .loop .inv .1 .long
 
 returns : tie.Need-returns Inv-loop μ-loop
-returns c =
-    let all : c .before .loop .i ≡ c .before .before .args .count = omega arith in
-    c .before .loop .inv .2 ∙ ap (λ (k : ℕ). Copied (c .before .before .args .t1) k (c .before .before .args .out .now)) all
+returns c = copied-all _ _ (c .before .loop .inv .1) (c .before .loop .inv .0) (c .loop-test .left)
 
 pub write-words-spec : {M : Type 1} → statement M
 write-words-spec =

@@ -1,4 +1,4 @@
--- `desk::listing::give_labels`: 10, or the labels copied.
+-- `give_labels`: 10, or the labels copied.
 use native.Mathlib.Omega.{arith}
 use borrow.Author.Needs.{needs}
 use Rattle.desk.proofs.Listed.{lists-short, lists-given}

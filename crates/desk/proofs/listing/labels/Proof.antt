@@ -1,4 +1,4 @@
--- `desk::listing::labels`: 8, what the text is turned back for, or what `give_labels` does with its labels.
+-- `labels`: 8, what the text is turned back for, or what `give_labels` does with its labels.
 use borrow.Author.Needs.{needs}
 use Rattle.words.proofs.Answers.{passes, fails}
 use Rattle.desk.proofs.Loaded.{loaded-to}

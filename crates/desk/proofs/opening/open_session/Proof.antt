@@ -1,4 +1,4 @@
--- `desk::opening::open_session`: 8 and no partition open, or the word that has a bit for each partition.
+-- `open_session`: 8 and no partition open, or the word that has a bit for each partition.
 use mathlib.Core.Path.{refl, ap}
 use borrow.Author.Needs.{needs}
 use native.Mathlib.Omega.{arith}

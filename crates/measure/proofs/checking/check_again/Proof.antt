@@ -1,4 +1,4 @@
--- `measure::check_again` ends: `i` comes nearer to `times`.
+-- `check_again` ends: `i` comes nearer to `times`.
 use Prim.Native.Nat.{_-_, _≤_}
 use borrow.Author.Needs.{needs}
 use Rattle.measure.proofs.checking.check_again.Statement.{statement}

@@ -1,4 +1,4 @@
--- `measure::decide_again` ends: `i` comes nearer to `times`.
+-- `decide_again` ends: `i` comes nearer to `times`.
 use Prim.Native.Nat.{_-_, _≤_}
 use borrow.Author.Needs.{needs}
 use Rattle.measure.proofs.deciding.decide_again.Statement.{statement}

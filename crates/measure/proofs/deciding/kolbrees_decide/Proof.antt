@@ -1,4 +1,4 @@
--- `measure::kolbrees_decide`: the policy that the text is decided under is loaded.
+-- `kolbrees_decide`: the policy that the text is decided under is loaded.
 use borrow.Author.Needs.{needs}
 use Rattle.load.proofs.Accepted.{loaded-policy}
 use Rattle.measure.proofs.deciding.kolbrees_decide.Statement.{statement}

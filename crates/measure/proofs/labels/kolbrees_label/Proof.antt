@@ -1,4 +1,4 @@
--- `measure::kolbrees_label`: the policy that the query is read under is loaded.
+-- `kolbrees_label`: the policy that the query is read under is loaded.
 use borrow.Author.Needs.{needs}
 use Rattle.load.proofs.Accepted.{loaded-policy}
 use Rattle.measure.proofs.labels.kolbrees_label.Statement.{statement}

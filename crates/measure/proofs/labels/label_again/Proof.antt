@@ -1,4 +1,4 @@
--- `measure::label_again` ends: `i` comes nearer to `times`.
+-- `label_again` ends: `i` comes nearer to `times`.
 use Prim.Native.Nat.{_-_, _≤_}
 use borrow.Author.Needs.{needs}
 use Rattle.measure.proofs.labels.label_again.Statement.{statement}

@@ -1,4 +1,4 @@
--- `measure::read_and_label`: the query that is labelled is one that reading accepted under the policy's tables.
+-- `read_and_label`: the query that is labelled is one that reading accepted under the policy's tables.
 use borrow.Author.Needs.{needs}
 use Rattle.query_text.specs.Text.{read as read-text}
 use Rattle.labelling.proofs.Posing.{tables-of, counted, ready, posed}

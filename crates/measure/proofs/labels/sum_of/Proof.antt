@@ -1,4 +1,4 @@
--- `measure::sum_of` reads the eight words.
+-- `sum_of` reads the eight words.
 use Prim.Native.Nat.{_-_, _≤_}
 use borrow.Author.Needs.{needs}
 use Rattle.measure.proofs.labels.sum_of.Statement.{statement}
