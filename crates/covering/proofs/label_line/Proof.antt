@@ -95,7 +95,7 @@ loop-again c =
     let (small-left, small-word, union, picked) = at .inv in
     let answer = c .before .before .covers in (
       omega (arith, c .drop-least .ensures .less),
-      ⊎-elim (λ w. rw (w .3, w .1 .ensures) (set-bit-below mostViews (at .word) (k .result) small-word (small s)))
+      ⊎-elim (λ w. rw (w .3, w .1 .ensures) (set-bit-below mostViews _ _ small-word (omega (arith, small s))))
           (λ w. rw (w .1) small-word) (c .before .if1 .came),
       ⊎-elim (λ w. rw (w .3, w .4, w .1 .ensures) (union-more _ (k .result) union)) (λ w. rw (w .1, w .2) union) (c .before .if1 .came),
       λ vs A l.
