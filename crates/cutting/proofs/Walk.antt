@@ -1,5 +1,5 @@
 -- The walk over the lines of an input: what has been passed, and how a line or the end goes on from there.
-use mathlib.Core.Path.{_≡_, refl, sym, ap, subst, _∙_}
+use mathlib.Core.Path.{_≡_, refl, sym, ap, _∙_}
 use mathlib.Core.Logic.{_⊎_, inl, inr, ⊎-elim, by-cases}
 use mathlib.Core.Bool.{Bool, true, false, cond, _&&_}
 use mathlib.Core.List.{List, [], _∷_, _++_, append-nil}
@@ -10,7 +10,8 @@ use lib.Dec.{T, ltb}
 use lib.ListN.{length, take, drop, drop-of-length-le, take-append-drop}
 use lib.Seq.{take-all, length-take-le, take-length, drop-length}
 use borrow.Author.Tests.{ltb-true, ltb-false}
-use Rattle.text.specs.Lines.{lines, before, sameBytes}
+use Rattle.words.proofs.Answers.{both-true}
+use Rattle.text.specs.Lines.{newline, lines, before, sameBytes}
 use Rattle.text.specs.Names.{tableTerms}
 use Rattle.text.specs.declared.Cursor.{Cursor}
 use Rattle.text.proofs.Lines.{before-le}
@@ -30,13 +31,13 @@ behind-none : (now : List ℕ) → behind now [] ≡ piece now
 unfolding lines cutFrom
 behind-none now = ap piece (append-nil now)
 
-behind-tail : (now text : List ℕ) → before 10 text ≡ length text → behind now text ≡ piece (now ++ text)
+behind-tail : (now text : List ℕ) → before newline text ≡ length text → behind now text ≡ piece (now ++ text)
 unfolding cutFrom
 behind-tail now text e = of-tail (cutFrom now) text e
 
-behind-line : (now text : List ℕ) → before 10 text < length text
-    → behind now text ≡ cond (sameBytes (front text) tableTerms) (piece now ++ behind (front text ++ 10 ∷ []) (back text))
-    (behind (now ++ front text ++ 10 ∷ []) (back text))
+behind-line : (now text : List ℕ) → before newline text < length text
+    → behind now text ≡ cond (sameBytes (front text) tableTerms) (piece now ++ behind (front text ++ newline ∷ []) (back text))
+    (behind (now ++ front text ++ newline ∷ []) (back text))
 unfolding cutFrom
 behind-line now text h = of-line (cutFrom now) text h
 
@@ -56,7 +57,7 @@ cut-none = refl
 -- ---- the first line of the input, and a line that starts a query
 
 -- the first line is part of the query whatever it says
-first-line : (text : List ℕ) → before 10 text < length text → behind [] text ≡ behind (front text ++ 10 ∷ []) (back text)
+first-line : (text : List ℕ) → before newline text < length text → behind [] text ≡ behind (front text ++ newline ∷ []) (back text)
 unfolding piece
 first-line text h = go (sameBytes (front text) tableTerms) (behind-line [] text h)
   where
@@ -64,28 +65,24 @@ first-line text h = go (sameBytes (front text) tableTerms) (behind-line [] text 
     go true e = e
     go false e = e
 
-starting : (now text : List ℕ) → before 10 text < length text → sameBytes (front text) tableTerms ≡ true
+starting : (now text : List ℕ) → before newline text < length text → sameBytes (front text) tableTerms ≡ true
     → behind now text ≡ piece now ++ cut text
 starting now text h e =
     (rw e at (behind-line now text h)) ∙ ap (λ (l : List (List ℕ)). piece now ++ l) (sym (first-line text h) ∙ sym (cut-behind text))
 
-going-on : (now text : List ℕ) → before 10 text < length text → sameBytes (front text) tableTerms ≡ false
-    → behind now text ≡ behind (now ++ front text ++ 10 ∷ []) (back text)
+going-on : (now text : List ℕ) → before newline text < length text → sameBytes (front text) tableTerms ≡ false
+    → behind now text ≡ behind (now ++ front text ++ newline ∷ []) (back text)
 going-on now text h e = rw e at (behind-line now text h)
 
-starts-query : (text : List ℕ) → before 10 text < length text → sameBytes (front text) tableTerms ≡ true → Starts text
+starts-query : (text : List ℕ) → before newline text < length text → sameBytes (front text) tableTerms ≡ true → Starts text
 unfolding tableTerms
 starts-query text h e =
     let t : T (sameBytes (front text) tableTerms) = rw e tt in
     let n = ap length (same-bytes-iff (front text) tableTerms .0 t) in
-    let k = length-take-le (before 10 text) text (before-le 10 text) in
+    let k = length-take-le (before newline text) text (before-le newline text) in
     record { line = omega arith; ended = omega arith }
 
--- ---- two tests
-
-both : (a b : Bool) → (a && b) ≡ true → (a ≡ true) × (b ≡ true)
-both true b e = (refl, e)
-both false b e = absurd (subst T (sym e) tt)
+-- ---- a test of two that failed
 
 one-of : (a b : Bool) → (a && b) ≡ false → (a ≡ false) ⊎ (b ≡ false)
 one-of true b e = inr e
@@ -97,7 +94,7 @@ one-of false b e = inl refl
 pub record Walked (s : List ℕ) (at : ℕ) : Type 0 where
   pub within : at ≤ length s
   pub ahead : cut s ≡ behind (take at s) (drop at s)
-  pub passed : 0 < at → before 10 s < length s → before 10 s < at
+  pub passed : 0 < at → before newline s < length s → before newline s < at
 
 pub walked-none : (s : List ℕ) → Walked s 0
 walked-none s = record { within = zero-le; ahead = cut-behind s; passed = λ h. absurd (omega arith) }
@@ -115,7 +112,7 @@ whole s h e =
 
 module _ {s : List ℕ} {at : ℕ} (w : Walked s at) where
   -- the input stops in a line
-  pub stops : 0 < length s → before 10 (drop at s) ≡ length (drop at s) → NextCut s (length s)
+  pub stops : 0 < length s → before newline (drop at s) ≡ length (drop at s) → NextCut s (length s)
   stops h e = whole s h (w .ahead ∙ behind-tail (take at s) (drop at s) e ∙ ap piece (take-append-drop at s))
 
   -- the input stops behind a line
@@ -129,7 +126,7 @@ module _ {s : List ℕ} {at : ℕ} (w : Walked s at) where
     -- a line that starts a query
     pub cuts : (ltb 0 at && sameBytes (front (drop at s)) tableTerms) ≡ true → NextCut s at
     cuts e =
-        let (a, b) = both _ _ e in
+        let (a, b) = both-true _ _ e in
         let p = ltb-true 0 at a in
         let n = length-take-le at s (w .within) in
         record {
@@ -144,7 +141,7 @@ module _ {s : List ℕ} {at : ℕ} (w : Walked s at) where
 
     -- a line that is part of the query begun
     joins : (ltb 0 at && sameBytes (front (drop at s)) tableTerms) ≡ false
-        → behind (take at s) (drop at s) ≡ behind (take at s ++ front (drop at s) ++ 10 ∷ []) (back (drop at s))
+        → behind (take at s) (drop at s) ≡ behind (take at s ++ front (drop at s) ++ newline ∷ []) (back (drop at s))
     joins e =
         ⊎-elim (λ (a : ltb 0 at ≡ false). let z : at ≡ 0 = omega (arith, ltb-false 0 at a) in
         let none : take at s ≡ [] = ap (λ (k : ℕ). take k s) z in
@@ -159,6 +156,6 @@ module _ {s : List ℕ} {at : ℕ} (w : Walked s at) where
           ahead = w .ahead ∙ joins e ∙ rw (with-line s at (l .ended), ← l .behind, l .place);
           passed = λ p h. by-cases (decLt 0 at) (λ q. omega (arith, w .passed q h))
               (λ q. let z : at ≡ 0 = omega arith in
-              let same : before 10 (drop at s) ≡ before 10 s = ap (λ (k : ℕ). before 10 (drop k s)) z in
+              let same : before newline (drop at s) ≡ before newline s = ap (λ (k : ℕ). before newline (drop k s)) z in
               omega arith);
         }

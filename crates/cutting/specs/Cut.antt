@@ -2,7 +2,7 @@
 use mathlib.Core.Bool.{cond}
 use mathlib.Core.List.{List, [], _∷_, _++_}
 use Prim.Native.Nat.{ℕ}
-use Rattle.text.specs.Lines.{lines, sameBytes}
+use Rattle.text.specs.Lines.{newline, lines, sameBytes}
 use Rattle.text.specs.Names.{tableTerms}
 
 -- a text of some bytes is a query of its own; no bytes are none
@@ -16,7 +16,7 @@ unfoldable pub cutFrom : List ℕ → List (List ℕ) → List ℕ → List (Lis
 unfolding piece sameBytes tableTerms
 cutFrom now [] tail = piece (now ++ tail)
 cutFrom now (l ∷ ls) tail =
-    cond (sameBytes l tableTerms) (piece now ++ cutFrom (l ++ 10 ∷ []) ls tail) (cutFrom (now ++ l ++ 10 ∷ []) ls tail)
+    cond (sameBytes l tableTerms) (piece now ++ cutFrom (l ++ newline ∷ []) ls tail) (cutFrom (now ++ l ++ newline ∷ []) ls tail)
 
 -- "bytes before the first such line are a query of their own"
 unfoldable pub cut : List ℕ → List (List ℕ)

@@ -1,19 +1,16 @@
 -- Reading the fields of a line from the left: what is known of those passed, and what is left. One argument for the terms of a
 -- line and the views of a partition.
-use mathlib.Core.Path.{_≡_, refl, sym, ap, _∙_}
+use mathlib.Core.Path.{_≡_, refl, sym, _∙_}
 use mathlib.Core.Bool.{Bool, true, false, true≢false, not, and-true, and-false}
 use mathlib.Core.List.{List, [], _∷_, _++_, append-nil, append-assoc}
 use mathlib.Core.Option.{Option, none, some}
-use Prim.Native.Nat.{ℕ, _+_, _-_, _≤_, _<_, zero-le}
-use native.Mathlib.Omega.{arith}
-use lib.ListN.{length, take, drop, length-drop}
+use Prim.Native.Nat.{ℕ, _+_, _≤_, _<_, zero-le}
+use lib.ListN.{length}
 use borrow.Author.Tests.{not-true, not-false}
 use Rattle.theory.specs.Executable.Test.{all}
 use Rattle.theory.proofs.Executable.Test.{all-more}
-use Rattle.text.specs.Lines.{fields, fieldsFrom, before}
-use Rattle.text.proofs.Lines.{before-le}
-use Rattle.text.proofs.FieldsFrom.{from-first, from-none, from-next}
-use Rattle.text.proofs.Parts.{to-end}
+use Rattle.text.specs.Lines.{fields, fieldsFrom}
+use Rattle.text.proofs.FieldsFrom.{from-first, from-none, FieldAt, field-first, others-within}
 use Rattle.model.specs.Fields.{both, every, mapped}
 
 -- ---- lists of which each element was read
@@ -61,30 +58,18 @@ module _ {X H : Type 0} (read : List ℕ → Option X) (test : X → Bool) (valu
   -- the fields before place i are passed, and f is the next one, of n bytes
   pub record Next (s : List ℕ) (h : H) (past : Bool) (i n : ℕ) (f : List ℕ) : Type 0 where
     pub passed : FieldsRead s h past i
-    pub inside : i ≤ length s
-    pub place : n ≡ before 32 (drop i s)
-    pub field : f ≡ take n (drop i s)
-
-  pub next-field : {s : List ℕ} {h : H} {past : Bool} {i n : ℕ} → FieldsRead s h past i → i ≤ length s
-      → n ≡ before 32 (take (length s - i) (drop i s)) → Next s h past i n (take n (take (length s - i) (drop i s)))
-  next-field {s} {h} {past} {i} {n} r k e =
-      record { passed = r; inside = k; place = e ∙ ap (before 32) (to-end i s); field = ap (take n) (to-end i s) }
+    pub here : FieldAt s i n f
 
   module _ {s f : List ℕ} {h : H} {past : Bool} {i n : ℕ} (x : Next s h past i n f) where
-    pub next-room : n ≤ length s - i
-    next-room = omega (arith, x .place, before-le 32 (drop i s), length-drop i s)
-
     others : Option (List X)
     others = every read (fieldsFrom s (i + n + 1))
 
-    within-next : i + n + 1 ≤ length s + 1
-    within-next = omega (arith, next-room, x .inside)
-
     ahead : every read (fields s) ≡ mapped (λ l. x .passed .values ++ l) (both _∷_ (read f) others)
     unfolding every others
-    ahead = x .passed .ahead ∙ rw (x .field, x .place, from-next s i (x .inside))
+    ahead = x .passed .ahead ∙ rw (field-first (x .here))
 
-    more : (u : X) → read f ≡ some u → every read (fields s) ≡ mapped (λ l. x .passed .values ++ u ∷ [] ++ l) (every read (fieldsFrom s (i + n + 1)))
+    more : (u : X) → read f ≡ some u
+        → every read (fields s) ≡ mapped (λ l. x .passed .values ++ u ∷ [] ++ l) (every read (fieldsFrom s (i + n + 1)))
     unfolding others
     more u e = ahead ∙ some-next (x .passed .values) u (read f) others e
 
@@ -95,7 +80,7 @@ module _ {X H : Type 0} (read : List ℕ → Option X) (test : X → Bool) (valu
     next-past u e t =
         record {
           values = x .passed .values ++ u ∷ [];
-          within = within-next;
+          within = others-within (x .here);
           ahead = more u e;
           limits = rw (all-more, t, and-false);
           held = λ z. absurd (true≢false z);
@@ -106,7 +91,7 @@ module _ {X H : Type 0} (read : List ℕ → Option X) (test : X → Bool) (valu
     next-held u g e t b =
         record {
           values = x .passed .values ++ u ∷ [];
-          within = within-next;
+          within = others-within (x .here);
           ahead = more u e;
           limits = rw (all-more, t, and-true) (x .passed .limits);
           held = λ z. b (x .passed .values) (x .passed .held z);

@@ -65,8 +65,8 @@ pub record LaidTo (a : Line) (k p : ℕ) (rows rows′ : List ℕ) : Type 0 wher
 pub nothing-laid : (a : Line) (k : ℕ) (rows : List ℕ) → LaidTo a k 0 rows rows
 nothing-laid a k rows = record { long = refl; before = λ i b. refl; after = λ i b. refl; terms = λ q b. absurd (omega arith) }
 
-pub term-laid : {a : Line} {k p : ℕ} {rows rows′ : List ℕ} (t : Term) → LaidTo a k p rows rows′ → k * rowLong + rowLong ≤ length rows → p < mostColumns
-    → t ≡ termAt a p → LaidTo a k (p + 1) rows (with-term rows′ k p t)
+pub term-laid : {a : Line} {k p : ℕ} {rows rows′ : List ℕ} (t : Term) → LaidTo a k p rows rows′ → k * rowLong + rowLong ≤ length rows
+    → p < mostColumns → t ≡ termAt a p → LaidTo a k (p + 1) rows (with-term rows′ k p t)
 term-laid {a} {k} {p} {rows} {rows′} t l h b e = record {
   long = term-length rows′ k p t ∙ l .long;
   before = λ i c. term-other rows′ k p t i (λ x. omega arith) (λ x. omega arith) ∙ l .before i c;

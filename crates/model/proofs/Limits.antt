@@ -19,10 +19,6 @@ pub no-fault : (b : Bool) (n rest : ℕ) → cond b (suc n) rest ≡ 0 → T (no
 no-fault true n rest e = absurd (suc-ne-zero n e)
 no-fault false n rest e = (tt, e)
 
-pub not-not : (b : Bool) → T (not (not b)) → T b
-not-not true h = h
-not-not false h = h
-
 -- the test of a limit is the statement that it is kept
 pub up-to-iff : (most n : ℕ) → T (upTo most n) ↔ ((1 ≤ n) × (n ≤ most))
 unfolding upTo
@@ -33,10 +29,10 @@ up-to-iff most n = (
 
 -- a line whose numbers are within their limits, whose table is declared and whose terms are as many as its columns fits
 pub checked-fits : (widths : List ℕ) (A : Line) → T (lineWithin A) → T (known widths A) → T (wide widths A) → Fits widths A
-unfolding lineWithin upTo known wide
+unfolding lineWithin known wide
 checked-fits widths A w k d =
-    let u = and-iff (leb 1 (A .table)) (leb (A .table) mostTables) .0 (and-iff (upTo mostTables (A .table)) (all termWithin (A .columns)) .0 w .0) in
-    record { first = leb→le 1 (A .table) (u .0); last = leb→le (A .table) (length widths) k; width = eqb→eq _ _ d }
+    let u = up-to-iff mostTables (A .table) .0 (and-iff (upTo mostTables (A .table)) (all termWithin (A .columns)) .0 w .0) in
+    record { first = u .0; last = leb→le (A .table) (length widths) k; width = eqb→eq _ _ d }
 
 -- a term with the other mark in the line or an earlier one is found
 clash-found : (earlier : List Line) (A B : Line) (t u : Term) → t ∈ A .columns → B ∈ A ∷ earlier → u ∈ B .columns → T (opposite t u)

@@ -7,45 +7,45 @@ use mathlib.Core.Option.{Option, none, some}
 use Prim.Native.Nat.{ℕ, suc, _+_, _-_, _<_}
 use native.Mathlib.Numerals.{add-one}
 use native.Mathlib.Omega.{arith}
-use lib.Dec.{leb, lit≤}
 use lib.ListN.{length, take, drop}
 use Rattle.theory.specs.Query.{Term, Line}
 use Rattle.theory.specs.Executable.Test.{all}
-use Rattle.text.specs.Lines.{split, fields, before}
-use Rattle.text.specs.Numeral.{numeral, constantLimit}
+use Rattle.text.specs.Lines.{space, split, fields, before}
+use Rattle.text.specs.Numeral.{numeral}
 use Rattle.text.specs.Value.{limited, numeralValue}
 use Rattle.text.specs.declared.Numeral.{Numeral}
-use Rattle.text.specs.declared.Numeral.the-variants.{Malformed, Large, Value}
+use Rattle.text.specs.declared.Numeral.the-variants.{Malformed}
 use Rattle.text.proofs.Lines.{before-le, fields-last, fields-more}
 use Rattle.model.specs.Fields.{both, every, term, lineOfFields, queryLine}
 use Rattle.model.specs.Limits.{mostTables, upTo, termWithin, lineWithin}
 use Rattle.model.specs.Parsed.{blankValue, goodValue, parsedTerms, parsedLine, upToValue}
 use Rattle.model.specs.declared.Parsed.{Parsed}
 use Rattle.text.proofs.Parts.{to-end}
-use Rattle.model.proofs.UpTo.{up-to-past, up-to-within}
+use Rattle.model.proofs.UpTo.{tables-small, malformed-none, up-to-past, up-to-within}
 
 -- ---- the fields of a line
 
 abbrev pub lineOf : Option ℕ → Option (List Term) → Option Line
 lineOf o q = both (λ t ts. record { table = t; columns = ts }) o q
 
-pub line-alone : (s : List ℕ) → before 32 s ≡ length s → blankValue false false ≡ parsedLine (queryLine s)
+pub line-alone : (s : List ℕ) → before space s ≡ length s → blankValue false false ≡ parsedLine (queryLine s)
 unfolding queryLine lineOfFields parsedLine
 line-alone s e = rw (fields-last s e)
 
-line-others : (f : List ℕ) (gs : List (List ℕ)) (g : List ℕ) → lineOfFields (f ∷ (gs ++ g ∷ [])) ≡ lineOf (numeral f) (every term (gs ++ g ∷ []))
+line-others : (f : List ℕ) (gs : List (List ℕ)) (g : List ℕ)
+    → lineOfFields (f ∷ (gs ++ g ∷ [])) ≡ lineOf (numeral f) (every term (gs ++ g ∷ []))
 unfolding lineOfFields
 line-others f [] g = refl
 line-others f (h ∷ gs) g = refl
 
 -- n is the place of the first space
-line-parted : (s : List ℕ) (n : ℕ) → n ≡ before 32 s → (n ≡ length s → ⊥)
+line-parted : (s : List ℕ) (n : ℕ) → n ≡ before space s → (n ≡ length s → ⊥)
     → queryLine s ≡ lineOf (numeral (take n s)) (every term (fields (take (length s - (n + 1)) (drop (n + 1) s))))
 unfolding queryLine fields
 line-parted s n e f =
-    let h : before 32 s < length s = omega (arith, before-le 32 s) in
-    let r = split 32 (drop (suc (before 32 s)) s) in
-    ap lineOfFields (fields-more s h) ∙ line-others (take (before 32 s) s) (r .ended) (r .rest)
+    let h : before space s < length s = omega (arith, before-le space s) in
+    let r = split space (drop (suc (before space s)) s) in
+    ap lineOfFields (fields-more s h) ∙ line-others (take (before space s) s) (r .ended) (r .rest)
     ∙ rw (to-end (n + 1) s, add-one n, e)
 
 -- ---- the line by its table and its terms
@@ -60,13 +60,8 @@ terms-ok ts = go (all termWithin ts)
 
 -- no table
 table-malformed : (o : Option ℕ) (q : Option (List Term)) → limited o ≡ Malformed → blankValue false false ≡ parsedLine (lineOf o q)
-unfolding limited constantLimit both parsedLine
-table-malformed none q e = refl
-table-malformed (some n) q e = absurd (go (leb n constantLimit) e)
-  where
-    go : (t : Bool) → cond t (Value n) Large ≡ Malformed → ⊥
-    go true e = let z : _≡_ {A = ℕ} 0 1 = cc in omega arith
-    go false e = let z : _≡_ {A = ℕ} 0 1 = cc in omega arith
+unfolding both parsedLine
+table-malformed o q e = rw (malformed-none o e)
 
 -- a field that is no term
 terms-malformed : (o : Option ℕ) (q : Option (List Term)) → parsedTerms q .ok ≡ false → parsedTerms q ≡ parsedLine (lineOf o q)
@@ -76,16 +71,16 @@ terms-malformed (some n) none e = refl
 terms-malformed o (some ts) e = absurd (true≢false (sym (terms-ok ts) ∙ e))
 
 -- a table past its limit
-table-past : (o : Option ℕ) (q : Option (List Term)) → parsedTerms q .ok ≡ true → (limited o ≡ Malformed → ⊥) → upToValue (limited o) 16 ≡ 0
-    → blankValue true true ≡ parsedLine (lineOf o q)
+table-past : (o : Option ℕ) (q : Option (List Term)) → parsedTerms q .ok ≡ true → (limited o ≡ Malformed → ⊥)
+    → upToValue (limited o) mostTables ≡ 0 → blankValue true true ≡ parsedLine (lineOf o q)
 unfolding limited both parsedTerms blankValue parsedLine lineWithin
 table-past none q ok f e = absurd (f refl)
 table-past (some n) none ok f e = absurd (false≢true ok)
-table-past (some n) (some ts) ok f e = rw (up-to-past 16 (lit≤ tt) n e)
+table-past (some n) (some ts) ok f e = rw (up-to-past mostTables tables-small n e)
 
 -- a term past its limit
-terms-past : (o : Option ℕ) (q : Option (List Term)) → parsedTerms q .ok ≡ true → (upToValue (limited o) 16 ≡ 0 → ⊥) → parsedTerms q .outside ≡ true
-    → parsedTerms q ≡ parsedLine (lineOf o q)
+terms-past : (o : Option ℕ) (q : Option (List Term)) → parsedTerms q .ok ≡ true → (upToValue (limited o) mostTables ≡ 0 → ⊥)
+    → parsedTerms q .outside ≡ true → parsedTerms q ≡ parsedLine (lineOf o q)
 unfolding limited upToValue both parsedTerms blankValue goodValue parsedLine lineWithin
 terms-past none q ok f e = absurd (f refl)
 terms-past (some n) none ok f e = absurd (false≢true ok)
@@ -108,16 +103,17 @@ tabled p n =
       hidden = p .hidden;
     }
 
-none-past : (o : Option ℕ) (q : Option (List Term)) → parsedTerms q .ok ≡ true → (upToValue (limited o) 16 ≡ 0 → ⊥) → parsedTerms q .outside ≡ false
-    → tabled (parsedTerms q) (upToValue (limited o) 16) ≡ parsedLine (lineOf o q)
+none-past : (o : Option ℕ) (q : Option (List Term)) → parsedTerms q .ok ≡ true → (upToValue (limited o) mostTables ≡ 0 → ⊥)
+    → parsedTerms q .outside ≡ false → tabled (parsedTerms q) (upToValue (limited o) mostTables) ≡ parsedLine (lineOf o q)
 unfolding limited upToValue both parsedTerms blankValue goodValue parsedLine lineWithin
 none-past none q ok f e = absurd (f refl)
 none-past (some n) none ok f e = absurd (false≢true ok)
 none-past (some n) (some ts) ok f e = go (all termWithin ts) e
   where
     go : (t : Bool) → (cond t (goodValue 0 ts) (blankValue true true)) .outside ≡ false
-        → tabled (cond t (goodValue 0 ts) (blankValue true true)) (upToValue (limited (some n)) 16) ≡ cond (upTo 16 n && t) (goodValue n ts) (blankValue true true)
-    go true e = let w = up-to-within 16 (lit≤ tt) n f in rw (w .0, w .1)
+        → tabled (cond t (goodValue 0 ts) (blankValue true true)) (upToValue (limited (some n)) mostTables)
+        ≡ cond (upTo mostTables n && t) (goodValue n ts) (blankValue true true)
+    go true e = let w = up-to-within mostTables tables-small n f in rw (w .0, w .1)
     go false e = absurd (true≢false e)
 
 -- ---- the line by what was read of it
@@ -130,7 +126,8 @@ pub record LineRead (s : List ℕ) (number : Numeral) (p : Parsed) : Type 0 wher
   pub numbered : number ≡ limited table
   pub parsed : p ≡ parsedTerms terms
 
-module _ (s : List ℕ) {n : ℕ} {number : Numeral} (first : n ≡ before 32 s) (more : n ≡ length s → ⊥) (read : number ≡ numeralValue (take n s)) where
+module _ (s : List ℕ) {n : ℕ} {number : Numeral} (first : n ≡ before space s) (more : n ≡ length s → ⊥)
+    (read : number ≡ numeralValue (take n s)) where
   pub line-unnumbered : number ≡ Malformed → blankValue false false ≡ parsedLine (queryLine s)
   unfolding numeralValue
   line-unnumbered e =
@@ -155,8 +152,8 @@ module _ {s : List ℕ} {number : Numeral} {p : Parsed} (x : LineRead s number p
   is-outside : {t : Bool} → p .outside ≡ t → parsedTerms (x .terms) .outside ≡ t
   is-outside e = ap (λ (y : Parsed). y .outside) (sym (x .parsed)) ∙ e
 
-  table-is : {n : ℕ} → n ≡ upToValue number 16 → n ≡ upToValue (limited (x .table)) 16
-  table-is e = e ∙ ap (λ (y : Numeral). upToValue y 16) (x .numbered)
+  table-is : {n : ℕ} → n ≡ upToValue number mostTables → n ≡ upToValue (limited (x .table)) mostTables
+  table-is e = e ∙ ap (λ (y : Numeral). upToValue y mostTables) (x .numbered)
 
   said : {q : Parsed} → q ≡ parsedLine (lineOf (x .table) (x .terms)) → q ≡ parsedLine (queryLine s)
   said e = e ∙ ap parsedLine (sym (x .line))
@@ -164,15 +161,17 @@ module _ {s : List ℕ} {number : Numeral} {p : Parsed} (x : LineRead s number p
   pub line-malformed : p .ok ≡ false → p ≡ parsedLine (queryLine s)
   line-malformed e = said (x .parsed ∙ terms-malformed (x .table) (x .terms) (is-ok e))
 
-  pub line-table-past : {n : ℕ} → p .ok ≡ true → (number ≡ Malformed → ⊥) → n ≡ upToValue number 16 → n ≡ 0
+  pub line-table-past : {n : ℕ} → p .ok ≡ true → (number ≡ Malformed → ⊥) → n ≡ upToValue number mostTables → n ≡ 0
       → blankValue true true ≡ parsedLine (queryLine s)
   line-table-past ok f en e =
       said (table-past (x .table) (x .terms) (is-ok ok) (λ z. f (x .numbered ∙ z)) (sym (table-is en) ∙ e))
 
-  pub line-terms-past : {n : ℕ} → p .ok ≡ true → n ≡ upToValue number 16 → (n ≡ 0 → ⊥) → p .outside ≡ true → p ≡ parsedLine (queryLine s)
+  pub line-terms-past : {n : ℕ} → p .ok ≡ true → n ≡ upToValue number mostTables → (n ≡ 0 → ⊥) → p .outside ≡ true
+      → p ≡ parsedLine (queryLine s)
   line-terms-past ok en f e =
       said (x .parsed ∙ terms-past (x .table) (x .terms) (is-ok ok) (λ z. f (table-is en ∙ z)) (is-outside e))
 
-  pub line-within : {n : ℕ} → p .ok ≡ true → n ≡ upToValue number 16 → (n ≡ 0 → ⊥) → p .outside ≡ false → tabled p n ≡ parsedLine (queryLine s)
+  pub line-within : {n : ℕ} → p .ok ≡ true → n ≡ upToValue number mostTables → (n ≡ 0 → ⊥) → p .outside ≡ false
+      → tabled p n ≡ parsedLine (queryLine s)
   line-within ok en f e =
       said (ap₂ tabled (x .parsed) (table-is en) ∙ none-past (x .table) (x .terms) (is-ok ok) (λ z. f (table-is en ∙ z)) (is-outside e))

@@ -9,7 +9,8 @@ use lib.ListN.{length, getD}
 use borrow.Author.Tests.{le-leb, lt-leb, eq-eqb, ne-eqb}
 use Rattle.theory.specs.Query.{Line}
 use Rattle.words.specs.Sets.{meet}
-use Rattle.model.specs.Limits.{lineWithin}
+use Rattle.words.proofs.Answers.{true-holds}
+use Rattle.model.specs.Limits.{mostTables, lineWithin}
 use Rattle.model.specs.Checks.{known, wide, clashing, firstFault, misfit}
 use Rattle.model.specs.Value.{tablesValue}
 use Rattle.model.specs.Parsed.{goodValue}
@@ -17,7 +18,7 @@ use Rattle.model.specs.Variables.{Marked}
 use Rattle.model.specs.declared.Tables.{Tables}
 use Rattle.model.specs.declared.Parsed.{Parsed}
 use Rattle.model.proofs.Pad.{pad-get}
-use Rattle.model.proofs.Variables.{true-is, clash-words}
+use Rattle.model.proofs.Variables.{clash-words}
 
 -- ---- the checks in their order
 
@@ -56,7 +57,7 @@ module _ (widths : List ℕ) (earlier : List Line) (A : Line) (tables : Tables) 
 
     same-columns : getD (tables .columns) (p .table - 1) 0 ≡ getD widths (A .table - 1) 0
     unfolding tablesValue
-    same-columns = rw (held, same-table) (pad-get 16 0 widths (A .table - 1))
+    same-columns = rw (held, same-table) (pad-get mostTables 0 widths (A .table - 1))
 
     same-count : p .count ≡ length (A .columns)
     unfolding goodValue
@@ -75,7 +76,7 @@ module _ (widths : List ℕ) (earlier : List Line) (A : Line) (tables : Tables) 
 
       words : (meet 64 (p .shown) (bitOr h (p .hidden)) || meet 64 (p .hidden) (bitOr s (p .shown))) ≡ clashing earlier A
       unfolding goodValue
-      words = rw good (clash-words earlier A (true-is (lineWithin A) within) s h marked)
+      words = rw good (clash-words earlier A (true-holds within) s h marked)
 
       by-clash : (b : Bool) → b ≡ clashing earlier A → checks true true b ≡ misfit widths earlier A
       by-clash b c = in-order widths earlier A true true b declared columns (sym c)

@@ -2,7 +2,7 @@
 use mathlib.Core.Path.{_≡_, refl}
 use mathlib.Core.Option.{Option, some}
 use mathlib.Core.List.{List, [], _∷_, map, List·Memᴰ·head, List·Memᴰ·tail}
-use Prim.Native.Nat.{ℕ, _^_, _≤_, _<_, suc-le-suc}
+use Prim.Native.Nat.{ℕ, suc, _+_, _*_, _^_, _≤_, _<_, suc-le-suc}
 use native.Mathlib.Nat.{not-suc-le-zero, le-trans, le-step}
 use native.Mathlib.Omega.{arith}
 use lib.Dec.{T, leb→le}
@@ -11,53 +11,53 @@ use Rattle.theory.specs.Query.{Term, constant, shown, hidden, Line, _∈_}
 use Rattle.theory.specs.Executable.Test.{all}
 use Rattle.theory.proofs.Executable.Test.{and-iff, all-iff}
 use Rattle.text.specs.Lines.{fields}
-use Rattle.text.specs.Numeral.{numeral, constantLimit}
+use Rattle.text.specs.Numeral.{constantLimit, mostDigits, numeral}
 use Rattle.text.specs.Print.{decimal}
 use Rattle.text.proofs.Each.{Each, each-nil, each-cons, each-map}
 use Rattle.text.proofs.Decimals.{decimal-short, numeral-decimal}
-use Rattle.text.proofs.Joined.{Printable, Clean, decimal-clean, fields-joined, Within, length-joined}
-use Rattle.model.specs.Fields.{both, every, mapped, term, lineOfFields, queryLine, numbered, oneNumeral, tableLine, viewLine, partitionLine}
-use Rattle.model.specs.Limits.{mostTables, upTo, termWithin, lineWithin}
+use Rattle.text.proofs.Joined.{FieldByte, Clean, decimal-clean, fields-joined, Within, length-joined}
+use Rattle.model.specs.Fields.{constantByte, shownByte, hiddenByte, both, every, mapped, term, lineOfFields, queryLine, numbered, oneNumeral, tableLine, viewLine, partitionLine}
+use Rattle.model.specs.Limits.{mostColumns, mostTables, upTo, termWithin, lineWithin}
 use Rattle.model.specs.Print.{printTerm, lineFields, printQueryLine, tableFields, partitionFields, printLine}
 use Rattle.model.proofs.Limits.{up-to-iff}
 
 -- ---- clean fields
 
-marked-clean : (b n : ℕ) → Printable 33 b → Each (Printable 33) (b ∷ decimal n)
-marked-clean b n h = each-cons (Printable 33) b (decimal n) h (decimal-clean n)
+marked-clean : (b n : ℕ) → FieldByte b → Each FieldByte (b ∷ decimal n)
+marked-clean b n h = each-cons FieldByte b (decimal n) h (decimal-clean n)
 
-term-clean : (t : Term) → Each (Printable 33) (printTerm t)
+term-clean : (t : Term) → Each FieldByte (printTerm t)
 unfolding printTerm
-term-clean (constant c) = marked-clean 35 c (omega arith, omega arith)
-term-clean (shown n) = marked-clean 33 n (omega arith, omega arith)
-term-clean (hidden n) = marked-clean 63 n (omega arith, omega arith)
+term-clean (constant c) = marked-clean constantByte c (omega arith, omega arith)
+term-clean (shown n) = marked-clean shownByte n (omega arith, omega arith)
+term-clean (hidden n) = marked-clean hiddenByte n (omega arith, omega arith)
 
 pub line-clean : (A : Line) → Clean (lineFields A)
 unfolding lineFields
 line-clean A =
-    each-cons (Each (Printable 33)) (decimal (A .table)) (map printTerm (A .columns)) (decimal-clean (A .table))
-    (each-map (Each (Printable 33)) printTerm (A .columns) (λ t m. term-clean t))
+    each-cons (Each FieldByte) (decimal (A .table)) (map printTerm (A .columns)) (decimal-clean (A .table))
+    (each-map (Each FieldByte) printTerm (A .columns) (λ t m. term-clean t))
 
 pub table-clean : (w : ℕ) → Clean (tableFields w)
 unfolding tableFields
-table-clean w = each-cons (Each (Printable 33)) (decimal w) [] (decimal-clean w) (each-nil (Each (Printable 33)))
+table-clean w = each-cons (Each FieldByte) (decimal w) [] (decimal-clean w) (each-nil (Each FieldByte))
 
 pub partition-clean : (vs : List ℕ) → Clean (partitionFields vs)
 unfolding partitionFields
-partition-clean vs = each-map (Each (Printable 33)) decimal vs (λ v m. decimal-clean v)
+partition-clean vs = each-map (Each FieldByte) decimal vs (λ v m. decimal-clean v)
 
 -- ---- a line's numbers, and its terms
 
 -- a line of which each number is printed as a numeral
 pub record Writable (A : Line) : Type 0 where
-  pub table : A .table < 10 ^ 10
+  pub table : A .table < 10 ^ mostDigits
   pub terms : T (all termWithin (A .columns))
 
 pub within-writable : (A : Line) → T (lineWithin A) → Writable A
 unfolding lineWithin
 within-writable A h =
     let k = and-iff (upTo mostTables (A .table)) (all termWithin (A .columns)) .0 h in
-    let t = up-to-iff 16 (A .table) .0 (k .0) in
+    let t = up-to-iff mostTables (A .table) .0 (k .0) in
     record { table = omega arith; terms = k .1 }
 
 -- ---- what the fields say
@@ -98,57 +98,69 @@ query-line-printed A w h =
 
 -- a line's number in front of fields that can be read
 line-printed : {X : Type 0} (read : List (List ℕ) → Option X) (n : ℕ) (fs : List (List ℕ)) (x : X)
-    → n < 10 ^ 10 → Clean fs → read fs ≡ some x
+    → n < 10 ^ mostDigits → Clean fs → read fs ≡ some x
     → numbered read (fields (printLine n fs)) ≡ some (record { number = n; value = x })
 unfolding printLine numbered both
 line-printed read n fs x h clean e =
     rw (
-      fields-joined (decimal n) fs (each-cons (Each (Printable 33)) (decimal n) fs (decimal-clean n) clean),
+      fields-joined (decimal n) fs (each-cons (Each FieldByte) (decimal n) fs (decimal-clean n) clean),
       numeral-decimal n h,
       e,
     )
 
-pub table-printed : (n w : ℕ) → n < 10 ^ 10 → w < 10 ^ 10
+pub table-printed : (n w : ℕ) → n < 10 ^ mostDigits → w < 10 ^ mostDigits
     → tableLine (printLine n (tableFields w)) ≡ some (record { number = n; value = w })
 unfolding tableLine tableFields oneNumeral
 table-printed n w h k = line-printed oneNumeral n (tableFields w) w h (table-clean w) (numeral-decimal w k)
 
-pub view-printed : (n : ℕ) (A : Line) → n < 10 ^ 10 → Writable A → 1 ≤ length (A .columns)
+pub view-printed : (n : ℕ) (A : Line) → n < 10 ^ mostDigits → Writable A → 1 ≤ length (A .columns)
     → viewLine (printLine n (lineFields A)) ≡ some (record { number = n; value = A })
 unfolding viewLine
 view-printed n A h w k = line-printed lineOfFields n (lineFields A) A h (line-clean A) (line-of-printed A w k)
 
-pub partition-printed : (n : ℕ) (vs : List ℕ) → n < 10 ^ 10 → ((v : ℕ) → v ∈ vs → v < 10 ^ 10)
+pub partition-printed : (n : ℕ) (vs : List ℕ) → n < 10 ^ mostDigits → ((v : ℕ) → v ∈ vs → v < 10 ^ mostDigits)
     → partitionLine (printLine n (partitionFields vs)) ≡ some (record { number = n; value = vs })
 unfolding partitionLine partitionFields
 partition-printed n vs h k =
     line-printed (every numeral) n (partitionFields vs) vs h (partition-clean vs)
     (every-printed numeral decimal vs (λ v m. numeral-decimal v (k v m)))
 
--- ---- how long a line is: each numeral is taken as 10 bytes
+-- ---- how long a line is: each numeral is taken to have the most digits
 
-term-short : (t : Term) → T (termWithin t) → Within 11 (printTerm t)
+-- a mark and a numeral
+abbrev termBytes : ℕ
+termBytes = 1 + mostDigits
+
+-- fields of which each is no longer than a term, and a space before each but the first
+abbrev pub queryLineBytes : ℕ
+queryLineBytes = termBytes + mostColumns * suc termBytes
+
+abbrev pub viewLineBytes : ℕ
+viewLineBytes = termBytes + suc mostColumns * suc termBytes
+
+term-short : (t : Term) → T (termWithin t) → Within termBytes (printTerm t)
 unfolding printTerm termWithin constantLimit
 term-short (constant c) h = suc-le-suc (decimal-short c (omega (arith, leb→le)))
 term-short (shown n) h = suc-le-suc (decimal-short n (omega (arith, leb→le)))
 term-short (hidden n) h = suc-le-suc (decimal-short n (omega (arith, leb→le)))
 
-fields-short : (A : Line) → Writable A → Each (Within 11) (lineFields A)
+fields-short : (A : Line) → Writable A → Each (Within termBytes) (lineFields A)
 unfolding lineFields
 fields-short A w =
-    each-cons (Within 11) (decimal (A .table)) (map printTerm (A .columns)) (le-step (decimal-short (A .table) (w .table)))
-    (each-map (Within 11) printTerm (A .columns)
+    each-cons (Within termBytes) (decimal (A .table)) (map printTerm (A .columns)) (le-step (decimal-short (A .table) (w .table)))
+    (each-map (Within termBytes) printTerm (A .columns)
     (λ t m. term-short t (all-iff termWithin (A .columns) .0 (w .terms) t m)))
 
-pub query-line-short : (A : Line) → Writable A → length (A .columns) ≤ 8 → Within 107 (printQueryLine A)
+pub query-line-short : (A : Line) → Writable A → length (A .columns) ≤ mostColumns → Within queryLineBytes (printQueryLine A)
 unfolding printQueryLine lineFields
 query-line-short A w few =
-    le-trans (length-joined 11 (decimal (A .table)) (map printTerm (A .columns)) (fields-short A w)) (simp length-map (omega arith))
+    le-trans (length-joined termBytes (decimal (A .table)) (map printTerm (A .columns)) (fields-short A w)) (simp length-map (omega arith))
 
-pub view-short : (n : ℕ) (A : Line) → n < 10 ^ 10 → Writable A → length (A .columns) ≤ 8 → Within 119 (printLine n (lineFields A))
+pub view-short : (n : ℕ) (A : Line) → n < 10 ^ mostDigits → Writable A → length (A .columns) ≤ mostColumns
+    → Within viewLineBytes (printLine n (lineFields A))
 unfolding printLine lineFields
 view-short n A h w few =
     le-trans
-    (length-joined 11 (decimal n) (lineFields A)
-    (each-cons (Within 11) (decimal n) (lineFields A) (le-step (decimal-short n h)) (fields-short A w)))
+    (length-joined termBytes (decimal n) (lineFields A)
+    (each-cons (Within termBytes) (decimal n) (lineFields A) (le-step (decimal-short n h)) (fields-short A w)))
     (simp length-map (omega arith))

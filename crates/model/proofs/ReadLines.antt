@@ -13,7 +13,7 @@ use Rattle.text.specs.Numeral.{numeral}
 use Rattle.text.specs.Print.{decimal, joined}
 use Rattle.text.proofs.Decimals.{numeral-iff}
 use Rattle.text.proofs.Joined.{joined-fields}
-use Rattle.model.specs.Fields.{both, every, mapped, term, lineOfFields, queryLine, Numbered, numbered, oneNumeral, tableLine, viewLine, partitionLine}
+use Rattle.model.specs.Fields.{constantByte, shownByte, hiddenByte, both, every, mapped, term, lineOfFields, queryLine, Numbered, numbered, oneNumeral, tableLine, viewLine, partitionLine}
 use Rattle.model.specs.Print.{printTerm, lineFields, printQueryLine, tableFields, partitionFields, printLine}
 
 -- ---- what was read of parts
@@ -38,7 +38,7 @@ numeral-read f n e = numeral-iff f n .0 e .1
 term-read : (f : List ℕ) (t : Term) → term f ≡ some t → f ≡ printTerm t
 unfolding term printTerm
 term-read [] t e = absurd (Option·none-ne-some t e)
-term-read (b ∷ l) t e = by-constant (eqb b 35) refl e
+term-read (b ∷ l) t e = by-constant (eqb b constantByte) refl e
   where
     -- the mark b is that of the terms that f makes
     by-mark : (c : ℕ) (f : ℕ → Term) → ((n : ℕ) → printTerm (f n) ≡ c ∷ decimal n) → eqb b c ≡ true → mapped f (numeral l) ≡ some t
@@ -47,21 +47,21 @@ term-read (b ∷ l) t e = by-constant (eqb b 35) refl e
         let r = mapped-some f (numeral l) t e in
         ap₂ {C = List ℕ} _∷_ (eqb-true b c m) (numeral-read l (r .0) (r .1)) ∙ sym (is (r .0)) ∙ ap printTerm (r .2)
 
-    by-hidden : (q : Bool) → eqb b 63 ≡ q → cond q (mapped hidden (numeral l)) none ≡ some t → b ∷ l ≡ printTerm t
-    by-hidden true m e = by-mark 63 hidden (λ n. refl) m e
+    by-hidden : (q : Bool) → eqb b hiddenByte ≡ q → cond q (mapped hidden (numeral l)) none ≡ some t → b ∷ l ≡ printTerm t
+    by-hidden true m e = by-mark hiddenByte hidden (λ n. refl) m e
     by-hidden false m e = absurd (Option·none-ne-some t e)
 
-    by-shown : (q : Bool) → eqb b 33 ≡ q
-        → cond q (mapped shown (numeral l)) (cond (eqb b 63) (mapped hidden (numeral l)) none) ≡ some t → b ∷ l ≡ printTerm t
-    by-shown true m e = by-mark 33 shown (λ n. refl) m e
-    by-shown false m e = by-hidden (eqb b 63) refl e
+    by-shown : (q : Bool) → eqb b shownByte ≡ q
+        → cond q (mapped shown (numeral l)) (cond (eqb b hiddenByte) (mapped hidden (numeral l)) none) ≡ some t → b ∷ l ≡ printTerm t
+    by-shown true m e = by-mark shownByte shown (λ n. refl) m e
+    by-shown false m e = by-hidden (eqb b hiddenByte) refl e
 
-    by-constant : (q : Bool) → eqb b 35 ≡ q
+    by-constant : (q : Bool) → eqb b constantByte ≡ q
         → cond q (mapped constant (numeral l))
-        (cond (eqb b 33) (mapped shown (numeral l)) (cond (eqb b 63) (mapped hidden (numeral l)) none)) ≡ some t
+        (cond (eqb b shownByte) (mapped shown (numeral l)) (cond (eqb b hiddenByte) (mapped hidden (numeral l)) none)) ≡ some t
         → b ∷ l ≡ printTerm t
-    by-constant true m e = by-mark 35 constant (λ n. refl) m e
-    by-constant false m e = by-shown (eqb b 33) refl e
+    by-constant true m e = by-mark constantByte constant (λ n. refl) m e
+    by-constant false m e = by-shown (eqb b shownByte) refl e
 
 every-read : {X : Type 0} (read : List ℕ → Option X) (write : X → List ℕ) → ((f : List ℕ) (x : X) → read f ≡ some x → f ≡ write x)
     → (fs : List (List ℕ)) (l : List X) → every read fs ≡ some l → fs ≡ map write l

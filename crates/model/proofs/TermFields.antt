@@ -3,7 +3,7 @@ use mathlib.Core.Path.{_≡_, refl, sym, subst⁻¹}
 use mathlib.Core.Bool.{Bool, true, false, cond}
 use mathlib.Core.List.{List, [], _∷_}
 use mathlib.Core.Option.{Option, none, some}
-use Prim.Native.Nat.{ℕ, _<_}
+use Prim.Native.Nat.{ℕ, _≤_, _<_}
 use native.Mathlib.Nat.{not-suc-le-zero}
 use native.Mathlib.Omega.{arith}
 use lib.Dec.{leb, eqb}
@@ -16,8 +16,8 @@ use Rattle.text.specs.declared.Numeral.{Numeral}
 use Rattle.text.specs.declared.Numeral.the-variants.{Malformed, Large, Value}
 use Rattle.model.specs.declared.Field.{Field}
 use Rattle.model.specs.declared.Field.the-variants.{Malformed as MalformedField, Outside, Within}
-use Rattle.model.specs.Fields.{mapped, term}
-use Rattle.model.specs.Limits.{termWithin}
+use Rattle.model.specs.Fields.{constantByte, shownByte, hiddenByte, mapped, term}
+use Rattle.model.specs.Limits.{lastVariable, termWithin}
 use Rattle.model.specs.Value.{termValue}
 use Rattle.model.specs.Parsed.{fieldValue}
 use Rattle.model.specs.Marks.{markOf, numberWithin}
@@ -35,11 +35,12 @@ pub value-outside : (mark n : ℕ) → numberWithin mark n ≡ false → Outside
 value-outside mark n e = rw e
 
 -- a number past every limit is past that of variables
-large : (n : ℕ) → leb n 4_294_967_295 ≡ false → leb n 63 ≡ false
-large n e = let h = leb-false n 4_294_967_295 e in lt-leb n 63 (omega arith)
+large : (n : ℕ) → leb n constantLimit ≡ false → leb n lastVariable ≡ false
+unfolding constantLimit
+large n e = let h = leb-false n constantLimit e in lt-leb n lastVariable (omega arith)
 
 constant-read : (o : Option ℕ) → fieldValue (mapped constant o) ≡ marked 1 (limited o)
-unfolding fieldValue mapped limited termWithin termValue numberWithin constantLimit
+unfolding fieldValue mapped limited termWithin termValue numberWithin
 constant-read none = refl
 constant-read (some n) = go (leb n constantLimit)
   where
@@ -47,19 +48,19 @@ constant-read (some n) = go (leb n constantLimit)
     go true = refl
     go false = refl
 
-variable-within : (n mark : ℕ) → eqb mark 1 ≡ false → (t : Bool) → leb n 4_294_967_295 ≡ t
-    → cond (leb n 63) (Within (record { mark = mark; number = n })) Outside ≡ marked mark (cond t (Value n) Large)
+variable-within : (n mark : ℕ) → eqb mark 1 ≡ false → (t : Bool) → leb n constantLimit ≡ t
+    → cond (leb n lastVariable) (Within (record { mark = mark; number = n })) Outside ≡ marked mark (cond t (Value n) Large)
 unfolding numberWithin
 variable-within n mark other true e = rw other
 variable-within n mark other false e = rw (large n e)
 
 shown-read : (o : Option ℕ) → fieldValue (mapped shown o) ≡ marked 2 (limited o)
-unfolding fieldValue mapped limited termWithin termValue constantLimit
+unfolding fieldValue mapped limited termWithin termValue
 shown-read none = refl
 shown-read (some n) = variable-within n 2 refl (leb n constantLimit) refl
 
 hidden-read : (o : Option ℕ) → fieldValue (mapped hidden o) ≡ marked 3 (limited o)
-unfolding fieldValue mapped limited termWithin termValue constantLimit
+unfolding fieldValue mapped limited termWithin termValue
 hidden-read none = refl
 hidden-read (some n) = variable-within n 3 refl (leb n constantLimit) refl
 
@@ -94,12 +95,13 @@ empty-read (b ∷ l) e = absurd (omega arith)
 pub unmarked-read : (l : List ℕ) → 0 < length l → markOf (getD l 0 0) ≡ 0 → MalformedField ≡ fieldValue (term l)
 unfolding term markOf
 unmarked-read [] h e = absurd (not-suc-le-zero h)
-unmarked-read (b ∷ l) h e = unmarked (eqb b 35) (eqb b 33) (eqb b 63) (numeral l) e
+unmarked-read (b ∷ l) h e = unmarked (eqb b constantByte) (eqb b shownByte) (eqb b hiddenByte) (numeral l) e
 
-pub marked-read : (l : List ℕ) → 0 < length l → (markOf (getD l 0 0) ≡ 0 → ⊥) → marked (markOf (getD l 0 0)) (numeralValue (drop 1 l)) ≡ fieldValue (term l)
+pub marked-read : (l : List ℕ) → 0 < length l → (markOf (getD l 0 0) ≡ 0 → ⊥)
+    → marked (markOf (getD l 0 0)) (numeralValue (drop 1 l)) ≡ fieldValue (term l)
 unfolding term markOf numeralValue
 marked-read [] h f = absurd (not-suc-le-zero h)
-marked-read (b ∷ l) h f = by-mark (eqb b 35) (eqb b 33) (eqb b 63) (numeral l) f
+marked-read (b ∷ l) h f = by-mark (eqb b constantByte) (eqb b shownByte) (eqb b hiddenByte) (numeral l) f
 
 -- ---- what the value of a field says of the term
 
@@ -121,8 +123,8 @@ pub field-says : {f : Field} (o : Option Term) → f ≡ fieldValue o → Says f
 field-says o e = subst⁻¹ (λ (f : Field). Says f o) e (says o)
 
 -- a variable within the limits has a bit in a word
-pub variable-small : (u : Term) → termWithin u ≡ true → 1 < termValue u .mark → termValue u .number < 64
+pub variable-small : (u : Term) → termWithin u ≡ true → 1 < termValue u .mark → termValue u .number ≤ lastVariable
 unfolding termWithin termValue
 variable-small (constant c) e h = absurd (omega arith)
-variable-small (shown n) e h = omega (arith, leb-true n 63 e)
-variable-small (hidden n) e h = omega (arith, leb-true n 63 e)
+variable-small (shown n) e h = leb-true n lastVariable e
+variable-small (hidden n) e h = leb-true n lastVariable e

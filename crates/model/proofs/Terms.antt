@@ -11,31 +11,33 @@ use Rattle.theory.specs.Query.{Term as TheTerm}
 use Rattle.model.specs.Value.{pad, unusedTerm, termValue, termsValue}
 use Rattle.model.specs.Parsed.{withShown, withHidden, bitsOf, goodValue}
 use Rattle.model.specs.Marks.{withMark, Behind}
+use Rattle.model.specs.Limits.{mostColumns}
 use Rattle.model.specs.declared.Term.{Term}
 use Rattle.model.specs.declared.Parsed.{Parsed}
 use Rattle.model.proofs.Pad.{pad-length, pad-more}
 
--- ---- the eight places
+-- ---- the places of terms
 
-pub terms-few : (ts : List TheTerm) → length ts ≤ 8 → termsValue ts ≡ pad 8 unusedTerm (map termValue ts)
+pub terms-few : (ts : List TheTerm) → length ts ≤ mostColumns → termsValue ts ≡ pad mostColumns unusedTerm (map termValue ts)
 unfolding termsValue
-terms-few ts h = ap (pad 8 unusedTerm) (take-all 8 (map termValue ts) (simp length-map h))
+terms-few ts h = ap (pad mostColumns unusedTerm) (take-all mostColumns (map termValue ts) (simp length-map h))
 
-pub terms-length : (ts : List TheTerm) → length (termsValue ts) ≡ 8
+pub terms-length : (ts : List TheTerm) → length (termsValue ts) ≡ mostColumns
 unfolding termsValue
-terms-length ts = pad-length 8 unusedTerm (take 8 (map termValue ts)) (simp length-take (omega arith))
+terms-length ts = pad-length mostColumns unusedTerm (take mostColumns (map termValue ts)) (simp length-take (omega arith))
 
 -- the first unused place taken
-pub terms-more : (ts : List TheTerm) (u : TheTerm) → length ts < 8 → set (termsValue ts) (length ts) (termValue u) ≡ termsValue (ts ++ u ∷ [])
+pub terms-more : (ts : List TheTerm) (u : TheTerm) → length ts < mostColumns
+    → set (termsValue ts) (length ts) (termValue u) ≡ termsValue (ts ++ u ∷ [])
 terms-more ts u h =
     rw (terms-few ts (omega arith), terms-few (ts ++ u ∷ []) (simp length-append (omega arith)), map-append, ← length-map ts termValue)
-    (pad-more 8 unusedTerm (map termValue ts) (termValue u) (simp length-map h))
+    (pad-more mostColumns unusedTerm (map termValue ts) (termValue u) (simp length-map h))
 
--- eight are kept
-pub terms-full : (ts : List TheTerm) (u : TheTerm) → 8 ≤ length ts → termsValue ts ≡ termsValue (ts ++ u ∷ [])
+-- no more than the most columns are kept
+pub terms-full : (ts : List TheTerm) (u : TheTerm) → mostColumns ≤ length ts → termsValue ts ≡ termsValue (ts ++ u ∷ [])
 unfolding termsValue
 terms-full ts u h =
-    rw (map-append, take-append-le 8 (map termValue ts) (map termValue (u ∷ [])) (simp length-map h))
+    rw (map-append, take-append-le mostColumns (map termValue ts) (map termValue (u ∷ [])) (simp length-map h))
 
 -- ---- the variables as bits
 
@@ -63,7 +65,7 @@ pub record Placed (p : Parsed) (t : Term) (q : Parsed) : Type 0 where
   pub ok : q .ok ≡ p .ok
   pub outside : q .outside ≡ p .outside
   pub table : q .table ≡ p .table
-  pub terms : length (p .terms) ≡ 8 → q .terms ≡ set (p .terms) (p .count) t
+  pub terms : length (p .terms) ≡ mostColumns → q .terms ≡ set (p .terms) (p .count) t
 
 abbrev grown : Parsed → ℕ → List Term → ℕ → ℕ → Parsed
 grown q n l a b =
@@ -78,7 +80,7 @@ placed-within e =
       terms = λ h. ap (λ (x : Parsed). x .terms) e;
     }
 
-pub placed-past : {p q : Parsed} {t : Term} → 8 ≤ p .count → q ≡ p → Placed p t q
+pub placed-past : {p q : Parsed} {t : Term} → mostColumns ≤ p .count → q ≡ p → Placed p t q
 placed-past {p} {q} {t} h e =
     record {
       ok = ap (λ (x : Parsed). x .ok) e;
@@ -88,9 +90,9 @@ placed-past {p} {q} {t} h e =
     }
 
 places : (ts : List TheTerm) (u : TheTerm) → set (termsValue ts) (length ts) (termValue u) ≡ termsValue (ts ++ u ∷ [])
-places ts u = go (decLt (length ts) 8)
+places ts u = go (decLt (length ts) mostColumns)
   where
-    go : Dec (length ts < 8) → set (termsValue ts) (length ts) (termValue u) ≡ termsValue (ts ++ u ∷ [])
+    go : Dec (length ts < mostColumns) → set (termsValue ts) (length ts) (termValue u) ≡ termsValue (ts ++ u ∷ [])
     go (yes h) = terms-more ts u h
     go (no h) =
         set-out (termsValue ts) (length ts) (termValue u) (omega (arith, terms-length ts)) ∙ terms-full ts u (omega arith)
@@ -100,7 +102,7 @@ module _ (p q : Parsed) (t : Term) (a b : ℕ) (r : Placed p t q) (ea : a ≡ wi
       → grown q (p .count + 1) (q .terms) a b ≡ goodValue 0 (ts ++ u ∷ [])
   unfolding goodValue
   more ts u ep et =
-      let long : length (p .terms) ≡ 8 = ap (λ (x : Parsed). length (x .terms)) ep ∙ terms-length ts in
+      let long : length (p .terms) ≡ mostColumns = ap (λ (x : Parsed). length (x .terms)) ep ∙ terms-length ts in
       let terms : q .terms ≡ termsValue (ts ++ u ∷ []) = r .terms long ∙ rw (et, ep) (places ts u) in
       let count : p .count + 1 ≡ length (ts ++ u ∷ []) = rw (ep, length-append) in
       let ones : a ≡ bitsOf withShown 0 (ts ++ u ∷ []) = ea ∙ rw (et, ep, bits-more) (mark-shown (bitsOf withShown 0 ts) u) in

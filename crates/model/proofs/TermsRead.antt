@@ -7,7 +7,7 @@ use native.Mathlib.Omega.{arith}
 use lib.ListN.{length}
 use Rattle.text.specs.Lines.{fields}
 use Rattle.model.specs.Fields.{every, term}
-use Rattle.model.specs.Limits.{termWithin}
+use Rattle.model.specs.Limits.{lastVariable, termWithin}
 use Rattle.model.specs.Marks.{Behind}
 use Rattle.model.specs.Parsed.{blankValue, goodValue, fieldValue, parsedTerms}
 use Rattle.model.specs.declared.Term.{Term as TermValue}
@@ -40,10 +40,11 @@ module _ {s f : List ℕ} {p : Parsed} {past : Bool} {i n : ℕ} (x : NextTerm s
       let w = field-says (term f) e in
       record { terms = next-past term termWithin (goodValue 0) x (w .0) (w .1) (w .2); few = omega (arith, k) }
 
-  pub next-small : {t : TermValue} → Within t ≡ fieldValue (term f) → 1 < t .mark → t .number < 64
+  pub next-small : {t : TermValue} → Within t ≡ fieldValue (term f) → 1 < t .mark → t .number ≤ lastVariable
   next-small e k = let w = field-says (term f) e in rw (w .3) (variable-small (w .0) (w .2) (rw (w .3) at k))
 
-  pub next-within : {t : TermValue} {q : Parsed} → Within t ≡ fieldValue (term f) → p .count ≤ i → Behind p t q → TermsRead s q past (i + n + 1)
+  pub next-within : {t : TermValue} {q : Parsed} → Within t ≡ fieldValue (term f) → p .count ≤ i → Behind p t q
+      → TermsRead s q past (i + n + 1)
   next-within {t} {q} e k b =
       let w = field-says (term f) e in
       record {

@@ -8,6 +8,7 @@ use Rattle.theory.specs.Query.{Term, constant, shown, hidden, Line, Query, _∈
 use Rattle.theory.proofs.Tuples.{getD-mem}
 use Rattle.model.specs.Value.{pad, unusedTerm, unusedLine, termValue, lineValue, queryValue}
 use Rattle.model.specs.Abstract.{asTerm, asTerms, asLine, asQuery}
+use Rattle.model.specs.Limits.{mostColumns, mostLines}
 use Rattle.model.proofs.Pad.{pad-take}
 use Rattle.model.proofs.Terms.{terms-few}
 
@@ -28,31 +29,32 @@ unfolding asTerms termValue
 as-terms [] k = as-unused k
 as-terms (t ∷ ts) k = ap₂ {C = List Term} (λ x l. x ∷ l) (as-term t) (as-terms ts k)
 
-pub as-line : (A : Line) → length (A .columns) ≤ 8 → asLine (lineValue A) ≡ A
+pub as-line : (A : Line) → length (A .columns) ≤ mostColumns → asLine (lineValue A) ≡ A
 unfolding asLine lineValue pad
 as-line A h =
     let e : asTerms (lineValue A .terms) ≡ A .columns
-    = ap asTerms (terms-few (A .columns) h) ∙ as-terms (A .columns) (8 - length (map termValue (A .columns))) in
+    = ap asTerms (terms-few (A .columns) h) ∙ as-terms (A .columns) (mostColumns - length (map termValue (A .columns))) in
     λ i. record { table = A .table; columns = e i }
 
-as-lines : (Q : Query) → ((A : Line) → A ∈ Q → length (A .columns) ≤ 8) → map asLine (map lineValue Q) ≡ Q
+as-lines : (Q : Query) → ((A : Line) → A ∈ Q → length (A .columns) ≤ mostColumns) → map asLine (map lineValue Q) ≡ Q
 as-lines [] h = refl
 as-lines (A ∷ Q) h =
     ap₂ {C = Query} (λ B l. B ∷ l) (as-line A (h A (List·Memᴰ·head refl))) (as-lines Q (λ B i. h B (List·Memᴰ·tail i)))
 
-pub as-query : (Q : Query) → ((A : Line) → A ∈ Q → length (A .columns) ≤ 8) → asQuery (queryValue Q) ≡ Q
+pub as-query : (Q : Query) → ((A : Line) → A ∈ Q → length (A .columns) ≤ mostColumns) → asQuery (queryValue Q) ≡ Q
 unfolding asQuery queryValue
 as-query Q h =
-    ap (map asLine)
-    (ap (λ (n : ℕ). take n (pad 8 unusedLine (map lineValue Q))) (sym (length-map Q lineValue)) ∙ pad-take 8 unusedLine (map lineValue Q))
+    let l = map lineValue Q in
+    ap (map asLine) (ap (λ (n : ℕ). take n (pad mostLines unusedLine l)) (sym (length-map Q lineValue)) ∙ pad-take mostLines unusedLine l)
     ∙ as-lines Q h
 
--- a line that fits tables of at most eight columns has at most eight terms
 -- what holds of each table's columns holds of the terms of a line that fits
 pub width-is : (P : ℕ → Type 0) (widths : List ℕ) → ((w : ℕ) → w ∈ widths → P w) → (A : Line) → Fits widths A → P (length (A .columns))
 width-is P widths h A f =
     let i : A .table - 1 < length widths = omega (arith, f .first, f .last) in
     subst P (sym (f .width)) (h (getD widths (A .table - 1) 0) (getD-mem widths (A .table - 1) 0 i))
 
-pub few-terms : (widths : List ℕ) → ((w : ℕ) → w ∈ widths → w ≤ 8) → (A : Line) → Fits widths A → length (A .columns) ≤ 8
-few-terms = width-is (_≤ 8)
+-- a line has no more terms than a table may have columns
+pub few-terms : (widths : List ℕ) → ((w : ℕ) → w ∈ widths → w ≤ mostColumns) → (A : Line) → Fits widths A
+    → length (A .columns) ≤ mostColumns
+few-terms = width-is (_≤ mostColumns)

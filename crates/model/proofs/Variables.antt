@@ -1,12 +1,13 @@
 -- The variables of lines as bits, and what it says of a line that its bits meet those of the other mark.
 use mathlib.Core.Path.{_≡_, refl, sym, ap, subst}
 use mathlib.Core.Logic.{_↔_, _⊎_, inl, inr, ⊎-elim}
-use mathlib.Core.Bool.{Bool, true, false, _||_}
+use mathlib.Core.Bool.{true, _||_}
 use mathlib.Core.List.{List, [], _∷_, _++_, List·Memᴰ·head, List·Memᴰ·tail, List·Memᴰ·cases-cons, List·Memᴰ·not-nil, List·Memᴰ·append-cases, Memᴰ·append-left, Memᴰ·append-right, List·Memᴰ·eq-of-singleton}
-use Prim.Native.Nat.{ℕ, _<_}
+use Prim.Native.Nat.{ℕ, _≤_}
 use native.Mathlib.Omega.{arith}
 use lib.Bits.{bitOr}
 use lib.Dec.{T, leb→le}
+use lib.Ieee.Bits.{is-true}
 use Rattle.theory.specs.Query.{Term, constant, shown, hidden, Line, _∈_}
 use Rattle.theory.specs.Executable.Test.{all, any}
 use Rattle.theory.proofs.Executable.Test.{and-iff, all-iff, any-iff, same-iff, or-iff, same-test}
@@ -16,26 +17,18 @@ use Rattle.words.proofs.Bits.{bit-zero}
 use Rattle.words.proofs.Masks.{bit-or-iff}
 use Rattle.words.proofs.SetBits.{set-bit-iff}
 use Rattle.words.proofs.Tests.{meet-iff}
-use Rattle.model.specs.Limits.{mostTables, upTo, termWithin, lineWithin}
+use Rattle.words.proofs.Answers.{true-holds}
+use Rattle.model.specs.Limits.{lastVariable, mostTables, upTo, termWithin, lineWithin}
 use Rattle.model.specs.Checks.{opposite, clashing}
 use Rattle.model.specs.Parsed.{withShown, withHidden, bitsOf}
 use Rattle.model.specs.Variables.{Bits, Marked}
 
--- ---- on truth values
-
-is-true : (b : Bool) → T b → b ≡ true
-is-true true h = refl
-is-true false h = absurd h
-
-pub true-is : (b : Bool) → b ≡ true → T b
-true-is b e = rw e tt
-
 -- ---- the bits of a line
 
--- `add` sets the bits of the variables that `mark` makes, and of no other term; within the limits they are below 64
+-- `add` sets the bits of the variables that `mark` makes, and of no other term; within the limits no number is past the last variable
 record Kind (mark : ℕ → Term) (add : ℕ → Term → ℕ) : Type 0 where
   adds : (m n : ℕ) (t : Term) → (bit (add m t) n ≡ 1) ↔ ((bit m n ≡ 1) ⊎ (mark n ≡ t))
-  small : (n : ℕ) → T (termWithin (mark n)) → n < 64
+  small : (n : ℕ) → T (termWithin (mark n)) → n ≤ lastVariable
 
 -- a term of another kind leaves the word
 left : {P Q : Type 0} → (Q → ⊥) → P ↔ (P ⊎ Q)
@@ -59,11 +52,11 @@ hidden-adds m n (hidden k) = put (set-bit-iff m k n) (λ e. ap hidden (sym e)) (
 
 shown-kind : Kind shown withShown
 unfolding termWithin
-shown-kind = record { adds = shown-adds; small = λ n h. omega (arith, leb→le n 63 h) }
+shown-kind = record { adds = shown-adds; small = λ n h. leb→le n lastVariable h }
 
 hidden-kind : Kind hidden withHidden
 unfolding termWithin
-hidden-kind = record { adds = hidden-adds; small = λ n h. omega (arith, leb→le n 63 h) }
+hidden-kind = record { adds = hidden-adds; small = λ n h. leb→le n lastVariable h }
 
 module _ {mark : ℕ → Term} {add : ℕ → Term → ℕ} (kind : Kind mark add) where
   bits-from : (m n : ℕ) (ts : List Term) → (bit (bitsOf add m ts) n ≡ 1) ↔ ((bit m n ≡ 1) ⊎ (mark n ∈ ts))
@@ -71,7 +64,8 @@ module _ {mark : ℕ → Term} {add : ℕ → Term → ℕ} (kind : Kind mark ad
   bits-from m n [] = left List·Memᴰ·not-nil
   bits-from m n (t ∷ ts) = let r = bits-from (add m t) n ts in (
     λ e. ⊎-elim (λ b. ⊎-elim (λ x. inl x) (λ x. inr (List·Memᴰ·head x)) (kind .adds m n t .0 b)) (λ i. inr (List·Memᴰ·tail i)) (r .0 e),
-    λ s. r .1 (⊎-elim (λ b. inl (kind .adds m n t .1 (inl b))) (λ i. ⊎-elim (λ x. inl (kind .adds m n t .1 (inr x))) (λ x. inr x) (List·Memᴰ·cases-cons i)) s),
+    λ s. r .1 (⊎-elim (λ b. inl (kind .adds m n t .1 (inl b)))
+        (λ i. ⊎-elim (λ x. inl (kind .adds m n t .1 (inr x))) (λ x. inr x) (List·Memᴰ·cases-cons i)) s),
   )
 
   -- the bits of a line are its variables
@@ -130,8 +124,10 @@ module _ (earlier : List Line) (A : Line) where
       → Crossed shown hidden earlier A ⊎ Crossed hidden shown earlier A
   unfolding opposite
   opposite-to (constant c) i r = absurd (r .2 .2)
-  opposite-to (shown n) i r = inl (n, i, (r .0, r .1, subst (λ (t : Term). t ∈ r .0 .columns) (same-iff (r .2 .0) (hidden n) .0 (r .2 .2)) (r .2 .1)))
-  opposite-to (hidden n) i r = inr (n, i, (r .0, r .1, subst (λ (t : Term). t ∈ r .0 .columns) (same-iff (r .2 .0) (shown n) .0 (r .2 .2)) (r .2 .1)))
+  opposite-to (shown n) i r =
+      let (B, b, s) = r in let (u, j, o) = s in inl (n, i, (B, b, subst (λ (t : Term). t ∈ B .columns) (same-iff u (hidden n) .0 o) j))
+  opposite-to (hidden n) i r =
+      let (B, b, s) = r in let (u, j, o) = s in inr (n, i, (B, b, subst (λ (t : Term). t ∈ B .columns) (same-iff u (shown n) .0 o) j))
 
   clash-to : T (clashing earlier A) → Crossed shown hidden earlier A ⊎ Crossed hidden shown earlier A
   unfolding clashing
@@ -173,8 +169,9 @@ module _ (earlier : List Line) (A : Line) (within : T (lineWithin A)) where
       let ts = A .columns in
       let m = meet-iff 64 (bitsOf add 0 ts) (bitOr word (bitsOf add′ 0 ts)) in
       let all-known = bits-in-front two earlier A word known in (
-        λ e. let r = m .0 e in (r .0, bits-of one (r .0) ts .0 (r .2), all-known (r .0) (r .1) .0 (r .3)),
-        λ r. let l = one .small (r .0) (each-within (mark (r .0)) (r .1)) in m .1 (r .0, l, bits-of one (r .0) ts .1 (r .1), all-known (r .0) l .1 (r .2)),
+        λ e. let r = m .0 e in (r .0, bits-of one (r .0) ts .0 (r .2), all-known (r .0) (omega (arith, r .1)) .0 (r .3)),
+        λ r. let l = one .small (r .0) (each-within (mark (r .0)) (r .1)) in
+            m .1 (r .0, omega (arith, l), bits-of one (r .0) ts .1 (r .1), all-known (r .0) l .1 (r .2)),
       )
 
   -- the two tests together are the clash
@@ -191,4 +188,4 @@ module _ (earlier : List Line) (A : Line) (within : T (lineWithin A)) where
       (λ t. ⊎-elim (λ x. clash-from earlier A shown hidden shown-hidden (one .0 (is-true a x)))
       (λ x. clash-from earlier A hidden shown hidden-shown (two .0 (is-true b x))) (or-iff a b .0 t))
       (λ t. or-iff a b .1
-      (⊎-elim (λ r. inl (true-is a (one .1 r))) (λ r. inr (true-is b (two .1 r))) (clash-to earlier A t)))
+      (⊎-elim (λ r. inl (true-holds (one .1 r))) (λ r. inr (true-holds (two .1 r))) (clash-to earlier A t)))

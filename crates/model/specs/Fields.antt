@@ -25,13 +25,23 @@ unfoldable pub mapped : {X Y : Type 0} → (X → Y) → Option X → Option Y
 mapped f none = none
 mapped f (some x) = some (f x)
 
--- "A term is a mark and a numeral: `#` a constant, `!` a shown variable, `?` a hidden one."
+-- "`#` a constant, `!` a shown variable, `?` a hidden one"
+abbrev pub constantByte : ℕ
+constantByte = 35
+
+abbrev pub shownByte : ℕ
+shownByte = 33
+
+abbrev pub hiddenByte : ℕ
+hiddenByte = 63
+
+-- "A term is a mark and a numeral"
 unfoldable pub term : List ℕ → Option Term
 unfolding mapped numeral
 term [] = none
 term (b ∷ l) =
-    cond (eqb b 35) (mapped constant (numeral l))
-    (cond (eqb b 33) (mapped shown (numeral l)) (cond (eqb b 63) (mapped hidden (numeral l)) none))
+    cond (eqb b constantByte) (mapped constant (numeral l))
+    (cond (eqb b shownByte) (mapped shown (numeral l)) (cond (eqb b hiddenByte) (mapped hidden (numeral l)) none))
 
 -- a table number and at least one term
 unfoldable pub lineOfFields : List (List ℕ) → Option Line

@@ -9,3 +9,4 @@ pub mod Value
 pub mod Parsed
 pub mod Variables
 pub mod Rows
+pub mod LineChecked

@@ -9,12 +9,13 @@ use Rattle.words.specs.Sets.{setBit}
 use Rattle.model.specs.Limits.{lastVariable}
 use Rattle.model.specs.Value.{termValue}
 use Rattle.model.specs.Parsed.{goodValue}
+use Rattle.model.specs.Fields.{constantByte, shownByte, hiddenByte}
 use Rattle.model.specs.declared.Term.{Term}
 use Rattle.model.specs.declared.Parsed.{Parsed}
 
 -- `#` has mark 1, `!` 2 and `?` 3; any other byte is no mark
 unfoldable pub markOf : ℕ → ℕ
-markOf b = cond (eqb b 35) 1 (cond (eqb b 33) 2 (cond (eqb b 63) 3 0))
+markOf b = cond (eqb b constantByte) 1 (cond (eqb b shownByte) 2 (cond (eqb b hiddenByte) 3 0))
 
 -- a numeral that is not large is within the limit of constants
 unfoldable pub numberWithin : ℕ → ℕ → Bool

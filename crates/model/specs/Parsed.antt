@@ -11,7 +11,7 @@ use Rattle.theory.specs.Executable.Test.{all}
 use Rattle.words.specs.Sets.{setBit}
 use Rattle.text.specs.declared.Numeral.{Numeral}
 use Rattle.text.specs.declared.Numeral.the-variants.{Malformed, Large, Value}
-use Rattle.model.specs.Limits.{lineWithin, termWithin}
+use Rattle.model.specs.Limits.{mostColumns, lineWithin, termWithin}
 use Rattle.model.specs.Value.{unusedTerm, termValue, termsValue}
 use Rattle.model.specs.declared.Parsed.{Parsed}
 use Rattle.model.specs.declared.Field.{Field}
@@ -44,9 +44,9 @@ bitsOf add m (t ∷ ts) = bitsOf add (add m t) ts
 unfoldable pub blankValue : Bool → Bool → Parsed
 unfolding unusedTerm
 blankValue ok outside =
-    record { ok = ok; outside = outside; table = 0; count = 0; terms = replicate 8 unusedTerm; shown = 0; hidden = 0 }
+    record { ok = ok; outside = outside; table = 0; count = 0; terms = replicate mostColumns unusedTerm; shown = 0; hidden = 0 }
 
--- a line within the limits: its table, its terms (the first eight are kept), and its variables as bits
+-- a line within the limits: its table, its terms (the first are kept, as many as a table may have columns), and its variables as bits
 unfoldable pub goodValue : ℕ → List TheTerm → Parsed
 unfolding termsValue bitsOf withShown withHidden
 goodValue table ts =

@@ -3,13 +3,14 @@ use mathlib.Core.List.{List, [], _∷_, map}
 use Prim.Native.Nat.{ℕ}
 use Rattle.theory.specs.Query.{Term, constant, shown, hidden, Line}
 use Rattle.text.specs.Print.{decimal, joined}
+use Rattle.model.specs.Fields.{constantByte, shownByte, hiddenByte}
 
 -- "A term is a mark and a numeral: `#` a constant, `!` a shown variable, `?` a hidden one."
 unfoldable pub printTerm : Term → List ℕ
 unfolding decimal
-printTerm (constant c) = 35 ∷ decimal c
-printTerm (shown n) = 33 ∷ decimal n
-printTerm (hidden n) = 63 ∷ decimal n
+printTerm (constant c) = constantByte ∷ decimal c
+printTerm (shown n) = shownByte ∷ decimal n
+printTerm (hidden n) = hiddenByte ∷ decimal n
 
 -- a table and its terms: the fields of a query's line, and those of a view's behind its number
 unfoldable pub lineFields : Line → List (List ℕ)

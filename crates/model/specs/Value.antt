@@ -7,7 +7,7 @@ use lib.ListN.{length, take, replicate}
 use Rattle.theory.specs.Query.{Query}
 use Rattle.theory.specs.Query.{Term as TheTerm, Line as TheLine}
 use Rattle.theory.specs.Executable.Test.{kind, number}
-use Rattle.model.specs.Limits.{mostTables}
+use Rattle.model.specs.Limits.{mostColumns, mostLines, mostTables}
 use Rattle.model.specs.declared.Term.{Term}
 use Rattle.model.specs.declared.Line.{Line}
 use Rattle.model.specs.declared.Tables.{Tables}
@@ -33,11 +33,11 @@ sameTerm t u = eqb (t .mark) (u .mark) && eqb (t .number) (u .number)
 -- "The terms of a view are kept as rows of eight terms"
 unfoldable pub termsValue : List TheTerm → List Term
 unfolding pad unusedTerm termValue
-termsValue ts = pad 8 unusedTerm (take 8 (map termValue ts))
+termsValue ts = pad mostColumns unusedTerm (take mostColumns (map termValue ts))
 
 unfoldable pub unusedLine : Line
 unfolding unusedTerm
-unusedLine = record { table = 0; terms = replicate 8 unusedTerm }
+unusedLine = record { table = 0; terms = replicate mostColumns unusedTerm }
 
 unfoldable pub lineValue : TheLine → Line
 unfolding termsValue
@@ -45,7 +45,7 @@ lineValue A = record { table = A .table; terms = termsValue (A .columns) }
 
 unfoldable pub queryValue : Query → QueryValue
 unfolding pad unusedLine lineValue
-queryValue Q = record { count = length Q; lines = pad 8 unusedLine (map lineValue Q) }
+queryValue Q = record { count = length Q; lines = pad mostLines unusedLine (map lineValue Q) }
 
 unfoldable pub tablesValue : List ℕ → Tables
 unfolding pad

@@ -1,13 +1,6 @@
-ghost use mathlib.Core.Path.{_≡_};
-ghost use mathlib.Core.Bool.{true};
-ghost use mathlib.Core.List.{List};
-ghost use Prim.Native.Nat.{ℕ, _≤_};
-ghost use Rattle.theory.specs.Query.{Line as TheLine};
-ghost use Rattle.model.specs.Limits.{mostTables, lineWithin};
-ghost use Rattle.model.specs.Checks.{misfit};
-ghost use Rattle.model.specs.Value.{tablesValue};
-ghost use Rattle.model.specs.Parsed.{goodValue};
-ghost use Rattle.model.specs.Variables.{Marked};
+ghost use Prim.Native.Nat.{_≤_};
+ghost use Rattle.model.specs.Limits.{mostTables};
+ghost use Rattle.model.specs.LineChecked.{LineChecked};
 use crate::Parsed;
 use crate::Tables;
 
@@ -15,7 +8,7 @@ use crate::Tables;
 // 6, or 0.
 pub fn check_line(tables: Tables, shown: u64, hidden: u64, p: Parsed) -> u64
     requires { ⌜ (1 ≤ p .table) × (p .table ≤ mostTables) ⌝ }
-    ensures { λ r. ⌜ ((widths : List ℕ) (earlier : List TheLine) (A : TheLine) → tables ≡ tablesValue widths → Marked earlier shown hidden → lineWithin A ≡ true → p ≡ goodValue (A .table) (A .columns) → r ≡ misfit widths earlier A) ⌝ }
+    ensures { λ r. ⌜ LineChecked tables shown hidden p r ⌝ }
 {
     let table = p.table as usize;
     if tables.count < table {

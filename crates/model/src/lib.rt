@@ -12,6 +12,7 @@ pub use read::read_line;
 pub use read::read_term;
 pub use read::read_terms;
 pub use read::up_to;
+pub use read::with_mark;
 pub use rows::ROW;
 pub use rows::lay_line;
 pub use rows::set_mark;
@@ -97,7 +98,7 @@ pub struct Parsed {
     pub ok: bool,
     pub outside: bool,
     pub table: u64,
-    // how many terms there are; the first eight are kept
+    // how many terms there are; the first MOST_COLUMNS are kept
     pub count: usize,
     pub terms: [Term; MOST_COLUMNS],
     // the numbers of the shown and of the hidden variables, as bits

@@ -1,14 +1,16 @@
 ghost use mathlib.Core.Path.{_≡_};
-ghost use Prim.Native.Nat.{_<_, _^_};
+ghost use Prim.Native.Nat.{_<_, _≤_, _^_};
 ghost use lib.ListN.{length};
 ghost use Rattle.text.specs.Lines.{fields};
 ghost use Rattle.model.specs.Fields.{term, every, queryLine};
+ghost use Rattle.model.specs.Limits.{lastVariable};
 ghost use Rattle.model.specs.Marks.{markOf, numberWithin, withMark, Behind};
 ghost use Rattle.model.specs.Parsed.{fieldValue, blankValue, parsedTerms, parsedLine, upToValue};
 use crate::CONSTANT;
 use crate::Field;
 use crate::HIDDEN;
 use crate::LAST_VARIABLE;
+use crate::MOST_COLUMNS;
 use crate::MOST_TABLES;
 use crate::Parsed;
 use crate::SHOWN;
@@ -71,15 +73,15 @@ pub fn blank(ok: bool, outside: bool) -> Parsed
         outside,
         table: 0,
         count: 0,
-        terms: [Term { mark: 0, number: 0 }; 8],
+        terms: [Term { mark: 0, number: 0 }; MOST_COLUMNS],
         shown: 0,
         hidden: 0,
     }
 }
 
 // The word with the bit of the term's number set, where the term has the mark.
-fn with_mark(mark: u64, m: u64, t: Term) -> u64
-    requires { ⌜ (t .mark ≡ mark → t .number < 64) ⌝ }
+pub fn with_mark(mark: u64, m: u64, t: Term) -> u64
+    requires { ⌜ (t .mark ≡ mark → t .number ≤ lastVariable) ⌝ }
     ensures { λ r. ⌜ r ≡ withMark mark m t ⌝ }
 {
     if t.mark == mark {
@@ -91,12 +93,12 @@ fn with_mark(mark: u64, m: u64, t: Term) -> u64
 // The terms with one more behind them.
 fn with_term(p: Parsed, t: Term) -> Parsed
     requires { ⌜ p .count < 2 ^ 32 ⌝ }
-    requires { ⌜ (1 < t .mark → t .number < 64) ⌝ }
+    requires { ⌜ (1 < t .mark → t .number ≤ lastVariable) ⌝ }
     ensures { λ r. ⌜ Behind p t r ⌝ }
 {
     let mut r = p;
     let at = p.count;
-    if at < 8 {
+    if at < MOST_COLUMNS {
         r.terms[at] = t;
     }
     r.count = at + 1;

@@ -4,10 +4,9 @@ use mathlib.Core.Bool.{Bool, true, false, cond}
 use mathlib.Core.List.{List}
 use mathlib.Core.Option.{Option, none, some}
 use Prim.Native.Nat.{ℕ, _+_}
-use lib.Dec.{lit≤}
 use lib.ListN.{take}
 use Rattle.theory.specs.Executable.Test.{all}
-use Rattle.text.specs.Lines.{before, fieldsFrom}
+use Rattle.text.specs.Lines.{space, before, fieldsFrom}
 use Rattle.text.specs.Numeral.{numeral}
 use Rattle.text.specs.Value.{numeralValue}
 use Rattle.text.specs.declared.Numeral.{Numeral}
@@ -15,6 +14,7 @@ use Rattle.text.specs.declared.Numeral.the-variants.{Malformed}
 use Rattle.model.specs.Fields.{Numbered, every, partitionLine}
 use Rattle.model.specs.Limits.{mostViews, mostPartitions, upTo}
 use Rattle.model.specs.Parsed.{upToValue}
+use Rattle.model.proofs.UpTo.{partitions-small}
 use Rattle.policy_lines.specs.Value.{noViews, viewList, viewListValue, noPartition, partitionValue}
 use Rattle.policy_lines.specs.declared.ViewList.{ViewList}
 use Rattle.policy_lines.proofs.Numbered.{NumberRead, number-read, unnumbered}
@@ -32,7 +32,7 @@ told-listed (some vs) = go (all (upTo mostViews) vs) refl
     go true e = within vs refl e refl refl
     go false e = past vs refl e refl refl
 
-module _ (s : List ℕ) {n : ℕ} {number : Numeral} (first : n ≡ before 32 s) (read : number ≡ numeralValue (take n s)) where
+module _ (s : List ℕ) {n : ℕ} {number : Numeral} (first : n ≡ before space s) (read : number ≡ numeralValue (take n s)) where
   pub partition-read : NumberRead (partitionLine s) number (every numeral (fieldsFrom s (n + 1)))
   unfolding partitionLine
   partition-read = number-read (every numeral) s first read refl
@@ -41,28 +41,31 @@ module _ (s : List ℕ) {n : ℕ} {number : Numeral} (first : n ≡ before 32 s)
   unfolding partitionValue
   partition-unnumbered e = ap partitionValue (sym (unnumbered partition-read e))
 
-module _ {l : Option (Numbered (List ℕ))} {number : Numeral} {p : ViewList} {q : Option (List ℕ)} (r : NumberRead l number q) (said : p ≡ viewListValue q) where
+module _ {l : Option (Numbered (List ℕ))} {number : Numeral} {p : ViewList} {q : Option (List ℕ)}
+    (r : NumberRead l number q) (said : p ≡ viewListValue q) where
   told : Told (all (upTo mostViews)) q (p .ok) (p .outside)
   told = rw said (told-listed q)
 
   pub partition-malformed : p .ok ≡ false → noPartition false ≡ partitionValue l
   unfolding partitionValue
-  partition-malformed e = ap partitionValue (sym (entry-malformed r told 32 (lit≤ tt) e))
+  partition-malformed e = ap partitionValue (sym (entry-malformed r told mostPartitions partitions-small e))
 
   pub partition-outside : p .ok ≡ true → p .outside ≡ true → (number ≡ Malformed → ⊥) → noPartition true ≡ partitionValue l
   unfolding partitionValue
-  partition-outside ok e f = let w = entry-outside r told 32 (lit≤ tt) ok e f in sym (ap partitionValue (w .1) ∙ rw (w .2))
+  partition-outside ok e f =
+      let w = entry-outside r told mostPartitions partitions-small ok e f in sym (ap partitionValue (w .1) ∙ rw (w .2))
 
-  pub partition-past : {k : ℕ} → p .ok ≡ true → (number ≡ Malformed → ⊥) → k ≡ upToValue number 32 → k ≡ 0
+  pub partition-past : {k : ℕ} → p .ok ≡ true → (number ≡ Malformed → ⊥) → k ≡ upToValue number mostPartitions → k ≡ 0
       → noPartition true ≡ partitionValue l
   unfolding partitionValue
-  partition-past ok f up e = let w = entry-past r told 32 (lit≤ tt) ok f up e in sym (ap partitionValue (w .1) ∙ rw (w .2))
+  partition-past ok f up e =
+      let w = entry-past r told mostPartitions partitions-small ok f up e in sym (ap partitionValue (w .1) ∙ rw (w .2))
 
-  pub partition-within : {k : ℕ} → p .ok ≡ true → p .outside ≡ false → k ≡ upToValue number 32 → (k ≡ 0 → ⊥)
+  pub partition-within : {k : ℕ} → p .ok ≡ true → p .outside ≡ false → k ≡ upToValue number mostPartitions → (k ≡ 0 → ⊥)
       → record { ok = true; outside = false; number = k; listed = p } ≡ partitionValue l
   unfolding partitionValue viewListValue
   partition-within {k} ok e up f =
-      let w = entry-within r told 32 (lit≤ tt) ok e up f in
+      let w = entry-within r told mostPartitions partitions-small ok e up f in
       let is : p ≡ viewList (w .0) = said ∙ ap viewListValue (w .1) ∙ rw (w .2) in
       sym
       (ap partitionValue (w .3)

@@ -7,32 +7,34 @@ use Prim.Native.Nat.{ℕ, suc, _+_, _-_, _<_}
 use native.Mathlib.Nat.{not-suc-le-zero, le-of-suc-le-suc}
 use native.Mathlib.Decide.{decLt}
 use native.Mathlib.Omega.{arith}
-use lib.Dec.{eqb, lit≤}
+use lib.Dec.{eqb}
 use lib.ListN.{length, take, drop}
 use borrow.Author.Tests.{eqb-true}
-use Rattle.text.specs.Lines.{split, fields, before}
+use Rattle.text.specs.Lines.{space, split, fields, before}
 use Rattle.text.specs.Numeral.{isDigit, allDigits, isNumeral, numeral}
 use Rattle.text.specs.Value.{limited, numeralValue}
 use Rattle.text.specs.declared.Numeral.{Numeral}
 use Rattle.text.specs.declared.Numeral.the-variants.{Malformed}
 use Rattle.text.proofs.Lines.{before-le, fields-last, fields-more}
+use Rattle.text.proofs.FieldsFrom.{from-rest}
 use Rattle.model.specs.Fields.{Numbered, oneNumeral, tableLine}
-use Rattle.model.specs.Limits.{mostTables}
+use Rattle.model.specs.Limits.{mostColumns, mostTables}
 use Rattle.model.specs.Parsed.{upToValue}
+use Rattle.model.proofs.UpTo.{tables-small, columns-small, malformed-none, formed-some, number-past, number-within}
 use Rattle.policy_lines.specs.Value.{noTable, tableValue}
-use Rattle.policy_lines.proofs.Numbered.{NumberRead, number-alone, number-read, unnumbered, nothing-read, numbered-past, numbered-formed, numbered-within, malformed-none, formed-some, number-past, number-within, from-rest}
+use Rattle.policy_lines.proofs.Numbered.{NumberRead, number-alone, number-read, unnumbered, nothing-read, numbered-past, numbered-formed, numbered-within}
 
 -- ---- the one numeral behind the number
 
 -- a space is no digit
-space-within : (l : List ℕ) → before 32 l < length l → allDigits l ≡ false
+space-within : (l : List ℕ) → before space l < length l → allDigits l ≡ false
 unfolding before allDigits isDigit
 space-within [] h = absurd (not-suc-le-zero h)
-space-within (x ∷ l) h = go (eqb x 32) refl h (λ k. space-within l k)
+space-within (x ∷ l) h = go (eqb x space) refl h (λ k. space-within l k)
   where
-    go : (t : Bool) → eqb x 32 ≡ t → cond t 0 (suc (before 32 l)) < suc (length l) → (before 32 l < length l → allDigits l ≡ false)
-        → (isDigit x && allDigits l) ≡ false
-    go true e k ih = rw (eqb-true x 32 e)
+    go : (t : Bool) → eqb x space ≡ t → cond t 0 (suc (before space l)) < suc (length l)
+        → (before space l < length l → allDigits l ≡ false) → (isDigit x && allDigits l) ≡ false
+    go true e k ih = rw (eqb-true x space e)
     go false e k ih = rw (ih (le-of-suc-le-suc k), and-false)
 
 -- two fields or more
@@ -43,21 +45,21 @@ others f (h ∷ gs) g = refl
 
 one-numeral : (r : List ℕ) → oneNumeral (fields r) ≡ numeral r
 unfolding oneNumeral numeral isNumeral fields
-one-numeral r = go (decLt (before 32 r) (length r))
+one-numeral r = go (decLt (before space r) (length r))
   where
-    go : Dec (before 32 r < length r) → oneNumeral (fields r) ≡ numeral r
+    go : Dec (before space r < length r) → oneNumeral (fields r) ≡ numeral r
     go (yes h) =
-        let p = split 32 (drop (suc (before 32 r)) r) in
-        ap oneNumeral (fields-more r h) ∙ others (take (before 32 r) r) (p .ended) (p .rest) ∙ rw (space-within r h)
-    go (no h) = ap oneNumeral (fields-last r (omega (arith, before-le 32 r)))
+        let p = split space (drop (suc (before space r)) r) in
+        ap oneNumeral (fields-more r h) ∙ others (take (before space r) r) (p .ended) (p .rest) ∙ rw (space-within r h)
+    go (no h) = ap oneNumeral (fields-last r (omega (arith, before-le space r)))
 
 -- ---- the line
 
-pub table-alone : (s : List ℕ) {n : ℕ} → n ≡ before 32 s → n ≡ length s → noTable false ≡ tableValue (tableLine s)
+pub table-alone : (s : List ℕ) {n : ℕ} → n ≡ before space s → n ≡ length s → noTable false ≡ tableValue (tableLine s)
 unfolding tableValue tableLine oneNumeral
 table-alone s e f = ap tableValue (sym (number-alone oneNumeral s e f refl))
 
-module _ (s : List ℕ) {n : ℕ} {number : Numeral} (first : n ≡ before 32 s) (read : number ≡ numeralValue (take n s)) where
+module _ (s : List ℕ) {n : ℕ} {number : Numeral} (first : n ≡ before space s) (read : number ≡ numeralValue (take n s)) where
   pub table-unnumbered : number ≡ Malformed → noTable false ≡ tableValue (tableLine s)
   unfolding tableValue tableLine
   table-unnumbered e = ap tableValue (sym (unnumbered (number-read oneNumeral s first read refl) e))
@@ -73,32 +75,32 @@ module _ {l : Option (Numbered ℕ)} {number columns : Numeral} {q : Option ℕ}
   unfolding tableValue
   columns-malformed e = ap tableValue (sym (nothing-read r (malformed-none q (sym said ∙ e))))
 
-  pub table-past : {k : ℕ} → (number ≡ Malformed → ⊥) → (columns ≡ Malformed → ⊥) → k ≡ upToValue number 16 → k ≡ 0
+  pub table-past : {k : ℕ} → (number ≡ Malformed → ⊥) → (columns ≡ Malformed → ⊥) → k ≡ upToValue number mostTables → k ≡ 0
       → noTable true ≡ tableValue l
   unfolding tableValue
   table-past f g up e =
       let x = formed-some q (λ z. g (said ∙ z)) in
-      let w = numbered-past r 16 (lit≤ tt) up (x .1) f e in
+      let w = numbered-past r mostTables tables-small up (x .1) f e in
       sym (ap tableValue (w .1) ∙ rw (w .2))
 
-  columns-up : {m : ℕ} → m ≡ upToValue columns 8 → m ≡ upToValue (limited q) 8
-  columns-up up = up ∙ ap (λ (n : Numeral). upToValue n 8) said
+  columns-up : {m : ℕ} → m ≡ upToValue columns mostColumns → m ≡ upToValue (limited q) mostColumns
+  columns-up up = up ∙ ap (λ (n : Numeral). upToValue n mostColumns) said
 
-  pub columns-past : {m : ℕ} → (number ≡ Malformed → ⊥) → (columns ≡ Malformed → ⊥) → m ≡ upToValue columns 8 → m ≡ 0
+  pub columns-past : {m : ℕ} → (number ≡ Malformed → ⊥) → (columns ≡ Malformed → ⊥) → m ≡ upToValue columns mostColumns → m ≡ 0
       → noTable true ≡ tableValue l
   unfolding tableValue
   columns-past f g up e =
-      let x = number-past 8 (lit≤ tt) q (λ z. g (said ∙ z)) (sym (columns-up up) ∙ e) in
+      let x = number-past mostColumns columns-small q (λ z. g (said ∙ z)) (sym (columns-up up) ∙ e) in
       let w = numbered-formed r (x .1) f in
       sym (ap tableValue (w .1) ∙ rw (x .2, and-false))
 
-  pub table-within : {k m : ℕ} → k ≡ upToValue number 16 → (k ≡ 0 → ⊥) → m ≡ upToValue columns 8 → (m ≡ 0 → ⊥)
+  pub table-within : {k m : ℕ} → k ≡ upToValue number mostTables → (k ≡ 0 → ⊥) → m ≡ upToValue columns mostColumns → (m ≡ 0 → ⊥)
       → record { ok = true; outside = false; number = k; columns = m } ≡ tableValue l
   unfolding tableValue
   table-within {k} {m} up f wide g =
-      let x = number-within 8 (lit≤ tt) q (λ z. g (columns-up wide ∙ z)) in
+      let x = number-within mostColumns columns-small q (λ z. g (columns-up wide ∙ z)) in
       let is : m ≡ x .0 = columns-up wide ∙ x .3 in
-      let w = numbered-within r 16 (lit≤ tt) up (x .1) f in
+      let w = numbered-within r mostTables tables-small up (x .1) f in
       sym
       (ap tableValue (w .0)
       ∙ rw (w .1, x .2) (ap (λ (c : ℕ). record { ok = true; outside = false; number = k; columns = c }) (sym is)))

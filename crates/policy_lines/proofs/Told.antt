@@ -4,6 +4,7 @@ use mathlib.Core.Path.{_≡_, sym, _∙_}
 use mathlib.Core.Bool.{Bool, true, false, true≢false, false≢true, _&&_, and-false}
 use mathlib.Core.Option.{Option, none, some}
 use Prim.Native.Nat.{ℕ, _≤_}
+use Rattle.text.specs.Numeral.{constantLimit}
 use Rattle.text.specs.declared.Numeral.{Numeral}
 use Rattle.text.specs.declared.Numeral.the-variants.{Malformed}
 use Rattle.model.specs.Fields.{Numbered}
@@ -38,7 +39,7 @@ module _ {X : Type 0} {good : X → Bool} {q : Option X} {ok outside : Bool} whe
   told-within (within x e g o p) z y = (x, e, g)
 
 module _ {X : Type 0} {good : X → Bool} {l : Option (Numbered X)} {number : Numeral} {q : Option X} {ok outside : Bool}
-    (r : NumberRead l number q) (t : Told good q ok outside) (most : ℕ) (small : most ≤ 4_294_967_295) where
+    (r : NumberRead l number q) (t : Told good q ok outside) (most : ℕ) (small : most ≤ constantLimit) where
   pub entry-malformed : ok ≡ false → l ≡ none
   entry-malformed z = nothing-read r (told-malformed t z)
 

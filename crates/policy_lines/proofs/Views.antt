@@ -50,8 +50,9 @@ ascend-more (w ∷ []) v h = and-true (ltb w v)
 ascend-more (w ∷ x ∷ vs) v h = rw (ascend-more (x ∷ vs) v h) (sym (and-assoc (ltb w x) (ascend (x ∷ vs)) (ltb (lastAfter x vs) v)))
 
 -- the value of one view more
-pub listed-more : (l : ViewList) (v m : ℕ) (a : Bool) → 1 ≤ v → v ≤ mostViews → a ≡ (l .ascending && ltb (l .last) v) → m ≡ setBit (l .views) (v - 1)
-    → (vs : List ℕ) → l ≡ viewList vs → record { ok = l .ok; outside = l .outside; ascending = a; views = m; last = v } ≡ viewList (vs ++ v ∷ [])
+pub listed-more : (l : ViewList) (v m : ℕ) (a : Bool) → 1 ≤ v → v ≤ mostViews → a ≡ (l .ascending && ltb (l .last) v)
+    → m ≡ setBit (l .views) (v - 1) → (vs : List ℕ) → l ≡ viewList vs
+    → record { ok = l .ok; outside = l .outside; ascending = a; views = m; last = v } ≡ viewList (vs ++ v ∷ [])
 unfolding viewList
 listed-more l v m a h few ea em vs e =
     let rises : a ≡ ascend (vs ++ v ∷ []) = ea ∙ rw (e, ascend-more vs v h) in

@@ -5,7 +5,6 @@ use mathlib.Core.List.{List, [], _∷_, _++_}
 use mathlib.Core.Option.{some}
 use Prim.Native.Nat.{ℕ, _+_, _≤_, _<_}
 use native.Mathlib.Omega.{arith}
-use lib.Dec.{lit≤}
 use lib.ListN.{length}
 use Rattle.theory.specs.Executable.Test.{all}
 use Rattle.text.specs.Lines.{fields}
@@ -17,9 +16,9 @@ use Rattle.model.specs.Fields.{every}
 use Rattle.model.specs.Limits.{mostViews, upTo}
 use Rattle.model.specs.Parsed.{upToValue}
 use Rattle.model.proofs.FieldsRead.{FieldsRead, Next, next-none, next-past, next-held, all-read, some-past, none-past}
+use Rattle.model.proofs.UpTo.{views-small, malformed-none, number-past, number-within, up-to-most}
 use Rattle.policy_lines.specs.Value.{noViews, viewList, viewListValue}
 use Rattle.policy_lines.specs.declared.ViewList.{ViewList}
-use Rattle.policy_lines.proofs.Numbered.{malformed-none, number-past, number-within, up-to-most}
 
 -- the fields before place i are numerals: l holds them where none is past its limit
 abbrev pub ViewsRead : List ℕ → ViewList → Bool → ℕ → Type 0
@@ -41,22 +40,23 @@ module _ {s f : List ℕ} {l : ViewList} {past : Bool} {i n : ℕ} (x : NextView
   unfolding viewListValue numeralValue
   next-malformed e = rw (next-none numeral (upTo mostViews) viewList x (malformed-none (numeral f) (sym said ∙ e)))
 
-  pub next-outside : {v : ℕ} → (number ≡ Malformed → ⊥) → v ≡ upToValue number 32 → v ≡ 0 → ViewsRead s l true (i + n + 1)
+  pub next-outside : {v : ℕ} → (number ≡ Malformed → ⊥) → v ≡ upToValue number mostViews → v ≡ 0 → ViewsRead s l true (i + n + 1)
   unfolding numeralValue
   next-outside formed e z =
-      let w = number-past 32 (lit≤ tt) (numeral f) (λ g. formed (said ∙ g)) (ap (λ (m : Numeral). upToValue m 32) (sym said) ∙ sym e ∙ z) in
-      next-past numeral (upTo 32) viewList x (w .0) (w .1) (w .2)
+      let none : upToValue (numeralValue f) mostViews ≡ 0 = ap (λ (m : Numeral). upToValue m mostViews) (sym said) ∙ sym e ∙ z in
+      let w = number-past mostViews views-small (numeral f) (λ g. formed (said ∙ g)) none in
+      next-past numeral (upTo mostViews) viewList x (w .0) (w .1) (w .2)
 
-  pub next-within : {v : ℕ} {q : ViewList} → v ≡ upToValue number 32 → (v ≡ 0 → ⊥) → ((vs : List ℕ) → l ≡ viewList vs → q ≡ viewList (vs ++ v ∷ []))
-      → ViewsRead s q past (i + n + 1)
+  pub next-within : {v : ℕ} {q : ViewList} → v ≡ upToValue number mostViews → (v ≡ 0 → ⊥)
+      → ((vs : List ℕ) → l ≡ viewList vs → q ≡ viewList (vs ++ v ∷ [])) → ViewsRead s q past (i + n + 1)
   unfolding numeralValue
   next-within {v} {q} e positive b =
-      let up : v ≡ upToValue (numeralValue f) 32 = e ∙ ap (λ (m : Numeral). upToValue m 32) said in
-      let w = number-within 32 (lit≤ tt) (numeral f) (λ g. positive (up ∙ g)) in
-      next-held numeral (upTo 32) viewList x v q (w .1 ∙ ap some (sym (up ∙ w .3))) (ap (upTo 32) (up ∙ w .3) ∙ w .2) b
+      let up : v ≡ upToValue (numeralValue f) mostViews = e ∙ ap (λ (m : Numeral). upToValue m mostViews) said in
+      let w = number-within mostViews views-small (numeral f) (λ g. positive (up ∙ g)) in
+      next-held numeral (upTo mostViews) viewList x v q (w .1 ∙ ap some (sym (up ∙ w .3))) (ap (upTo mostViews) (up ∙ w .3) ∙ w .2) b
 
-pub next-bounds : (number : Numeral) {v : ℕ} → v ≡ upToValue number 32 → (v ≡ 0 → ⊥) → (1 ≤ v) × (v ≤ 32)
-next-bounds number {v} e positive = (omega arith, rw e (up-to-most number 32))
+pub next-bounds : (number : Numeral) {v : ℕ} → v ≡ upToValue number mostViews → (v ≡ 0 → ⊥) → (1 ≤ v) × (v ≤ mostViews)
+next-bounds number {v} e positive = (omega arith, rw e (up-to-most number mostViews))
 
 -- ---- all fields
 

@@ -1,1 +1,2 @@
+-- What the steps of reading a policy's line give.
 pub mod Value

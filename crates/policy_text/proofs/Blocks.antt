@@ -10,7 +10,7 @@ use Rattle.text.specs.Lines.{lines}
 use Rattle.text.specs.Names.{tableColumns, viewTableTerms, partitionViews}
 use Rattle.text.specs.Print.{decimal}
 use Rattle.text.proofs.Each.{Each, each-cons, each-append}
-use Rattle.text.proofs.Joined.{Printable, Clean, decimal-clean, joined-clean, table-columns-clean, view-table-terms-clean, partition-views-clean, lines-ended, ended-bytes}
+use Rattle.text.proofs.Joined.{FieldByte, LineByte, Clean, decimal-clean, joined-clean, table-columns-clean, view-table-terms-clean, partition-views-clean, lines-ended, ended-bytes}
 use Rattle.model.specs.Print.{tableFields, lineFields, partitionFields, printLine}
 use Rattle.model.proofs.Printed.{table-clean, line-clean, partition-clean}
 use Rattle.policy_text.specs.Declared.{Declared}
@@ -48,27 +48,27 @@ module _ {X : Type 0} (fieldsOf : X → List (List ℕ)) where
   length-block n (x ∷ l) = rw (length-block _ l)
 
   block-clean : ((x : X) → Clean (fieldsOf x)) → (n : ℕ) (l : List X) (line : List ℕ) → line ∈ printBlock fieldsOf n l
-      → Each (Printable 32) line
+      → Each LineByte line
   unfolding printLine
   block-clean clean n l line m =
       let r = block-line n l line m in
       let number = decimal (r .number) in
       let fs = fieldsOf (r .value) in
-      subst (Each (Printable 32)) (sym (r .printed))
-      (joined-clean (number ∷ fs) (each-cons (Each (Printable 33)) number fs (decimal-clean (r .number)) (clean (r .value))))
+      subst (Each LineByte) (sym (r .printed))
+      (joined-clean (number ∷ fs) (each-cons (Each FieldByte) number fs (decimal-clean (r .number)) (clean (r .value))))
 
 -- ---- the text
 
-lines-clean : (d : Declared) → Each (Each (Printable 32)) (printLines d)
+lines-clean : (d : Declared) → Each (Each LineByte) (printLines d)
 unfolding printLines
 lines-clean d =
-    each-cons (Each (Printable 32)) tableColumns _ table-columns-clean
-    (each-append (Each (Printable 32)) (printBlock tableFields 1 (d .widths)) _
+    each-cons (Each LineByte) tableColumns _ table-columns-clean
+    (each-append (Each LineByte) (printBlock tableFields 1 (d .widths)) _
     (block-clean tableFields table-clean 1 (d .widths))
-    (each-cons (Each (Printable 32)) viewTableTerms _ view-table-terms-clean
-    (each-append (Each (Printable 32)) (printBlock lineFields 1 (d .views)) _
+    (each-cons (Each LineByte) viewTableTerms _ view-table-terms-clean
+    (each-append (Each LineByte) (printBlock lineFields 1 (d .views)) _
     (block-clean lineFields line-clean 1 (d .views))
-    (each-cons (Each (Printable 32)) partitionViews _ partition-views-clean
+    (each-cons (Each LineByte) partitionViews _ partition-views-clean
     (block-clean partitionFields partition-clean 1 (d .partitions))))))
 
 pub lines-printed : (d : Declared) → lines (print d) ≡ record { ended = printLines d; rest = [] }

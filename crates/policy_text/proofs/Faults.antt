@@ -18,7 +18,7 @@ use Rattle.model.specs.Checks.{known, wide, clashing, firstFault}
 use Rattle.policy_text.specs.Text.{tableFault, viewFault, partitionFault, entered, faulty, unless, entry}
 use Rattle.policy_text.specs.WellFormed.{ascend, GoodWidth, GoodView, GoodPartition}
 use Rattle.policy_text.specs.Declared.{Declared}
-use Rattle.model.proofs.Limits.{up-to-iff, checked-fits, fits-checked, clear-alone}
+use Rattle.model.proofs.Limits.{no-fault, up-to-iff, checked-fits, fits-checked, clear-alone}
 
 -- a line that is taken behind that many lines of its block
 pub record Taken {X : Type 0} (most : ℕ) (Good : X → Type 0) (before : ℕ) (e : Numbered X) : Type 0 where
@@ -28,17 +28,13 @@ pub record Taken {X : Type 0} (most : ℕ) (Good : X → Type 0) (before : ℕ) 
 
 -- ---- one check before others
 
-unbroken : (a : Bool) (n rest : ℕ) → cond a (suc n) rest ≡ 0 → T (not a) × (rest ≡ 0)
-unbroken true n rest e = absurd (omega arith)
-unbroken false n rest e = (tt, e)
-
-unbroken-from : (a : Bool) (n rest : ℕ) → T (not a) → rest ≡ 0 → cond a n rest ≡ 0
-unbroken-from true n rest h e = absurd h
-unbroken-from false n rest h e = e
+no-fault-from : (a : Bool) (n rest : ℕ) → T (not a) → rest ≡ 0 → cond a n rest ≡ 0
+no-fault-from true n rest h e = absurd h
+no-fault-from false n rest h e = e
 
 -- a check that is broken where a test fails
 passed : (a : Bool) (n rest : ℕ) → cond (not a) (suc n) rest ≡ 0 → T a × (rest ≡ 0)
-passed a n rest e = let k = unbroken (not a) n rest e in (T-not-not a (k .0), k .1)
+passed a n rest e = let k = no-fault (not a) n rest e in (T-not-not a (k .0), k .1)
 
 passed-from : (a : Bool) (n rest : ℕ) → T a → rest ≡ 0 → cond (not a) n rest ≡ 0
 passed-from true n rest h e = e
@@ -72,7 +68,7 @@ view-taken d e = (
       let b = passed (eqb (e .number) (suc (length (d .views)))) 2 _ (a .1) in
       let c = passed (known (d .widths) (e .value)) 3 _ (b .1) in
       let f = passed (wide (d .widths) (e .value)) 4 _ (c .1) in
-      let g = unbroken (clashing [] (e .value)) 5 _ (f .1) in
+      let g = no-fault (clashing [] (e .value)) 5 _ (f .1) in
       let k = and-iff (upTo mostViews (e .number)) _ .0 (a .0) in
       record {
         turn = eqb-yes (b .0);
@@ -90,7 +86,7 @@ view-taken d e = (
       (passed-from (eqb (e .number) (suc (length (d .views)))) 3 _ (yes-eqb (t .turn))
       (passed-from (known (d .widths) (e .value)) 4 _ c
       (passed-from (wide (d .widths) (e .value)) 5 _ f
-      (unbroken-from (clashing [] (e .value)) 6 0 (clear-alone (e .value) .1 (t .good .clear)) refl)))),
+      (no-fault-from (clashing [] (e .value)) 6 0 (clear-alone (e .value) .1 (t .good .clear)) refl)))),
 )
 
 -- none is past the most
@@ -106,7 +102,7 @@ unfolding partitionFault firstFault
 partition-taken d e = (
   λ h. let a = passed (upTo mostPartitions (e .number) && all (upTo mostViews) (e .value)) 1 _ h in
       let b = passed (eqb (e .number) (suc (length (d .partitions))) && ascend (e .value)) 2 _ (a .1) in
-      let c = unbroken (any (ltb (length (d .views))) (e .value)) 3 _ (b .1) in
+      let c = no-fault (any (ltb (length (d .views))) (e .value)) 3 _ (b .1) in
       let k = and-iff (upTo mostPartitions (e .number)) _ .0 (a .0) in
       let f = and-iff (eqb (e .number) (suc (length (d .partitions)))) _ .0 (b .0) in
       record {
@@ -122,7 +118,8 @@ partition-taken d e = (
       (and-iff (upTo mostPartitions (e .number)) _ .1 (taken-within _ _ _ e t, all-iff (upTo mostViews) (e .value) .1 (t .good .within)))
       (passed-from (eqb (e .number) (suc (length (d .partitions))) && ascend (e .value)) 3 _
       (and-iff (eqb (e .number) (suc (length (d .partitions)))) _ .1 (yes-eqb (t .turn), t .good .ascending))
-      (unbroken-from (any (ltb (length (d .views))) (e .value)) 4 0 (none-past (length (d .views)) (e .value) .1 (t .good .declared)) refl)),
+      (no-fault-from (any (ltb (length (d .views))) (e .value)) 4 0
+      (none-past (length (d .views)) (e .value) .1 (t .good .declared)) refl)),
 )
 
 -- ---- what a line declares

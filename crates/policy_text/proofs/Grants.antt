@@ -150,8 +150,9 @@ pub word-back : (ps : List (List ℕ)) (i : ℕ) (ns : List ℕ) → getElem? ps
     → testBits (grantedAt (map (grantsOf ps) (upFrom 1 mostViews)) i) (upFrom 0 mostViews) ≡ viewsWord ns
 unfolding grantedAt
 word-back ps i ns at =
-    same-bits mostViews (testBits granted (upFrom 0 mostViews)) (viewsWord ns)
-    (subst (λ (n : ℕ). testBits granted (upFrom 0 mostViews) < 2 ^ n) (up-from-length 0 mostViews) (tests-below granted (upFrom 0 mostViews)))
+    let all = upFrom 0 mostViews in
+    same-bits mostViews (testBits granted all) (viewsWord ns)
+    (subst (λ (n : ℕ). testBits granted all < 2 ^ n) (up-from-length 0 mostViews) (tests-below granted all))
     (word-below ns) same
   where
     granted : ℕ → Bool

@@ -11,7 +11,7 @@ use Rattle.theory.specs.Query.{Line}
 use Rattle.text.specs.Lines.{lines, sameBytes}
 use Rattle.text.specs.Names.{tableColumns, viewTableTerms, partitionViews}
 use Rattle.model.specs.Fields.{Numbered}
-use Rattle.model.specs.Limits.{mostTables, mostViews, mostPartitions}
+use Rattle.model.specs.Limits.{mostColumns, mostTables, mostViews, mostPartitions}
 use Rattle.model.specs.Print.{tableFields, lineFields, partitionFields, printLine}
 use Rattle.model.proofs.Printed.{table-printed, view-printed, partition-printed}
 use Rattle.policy_text.specs.Text.{nothing, accepted, mostPolicyBytes, entered, tables, views, partitions, enter, isNext, nextBlock, policyEnds, loadFrom, loadLines, load}
@@ -33,7 +33,7 @@ table-enters : (d : Declared) (w : ℕ) → length (d .widths) < mostTables → 
     ≡ entered (record { widths = d .widths ++ w ∷ []; views = d .views; partitions = d .partitions })
 unfolding enter
 table-enters d w h g =
-    let k = up-to-iff 8 w .0 g in
+    let k = up-to-iff mostColumns w .0 g in
     let n = suc (length (d .widths)) in
     let e : Numbered ℕ = record { number = n; value = w } in
     rw (table-printed n w (omega arith) (omega arith), table-taken d e .1 (record { turn = refl; limit = h; good = g }))
@@ -62,7 +62,7 @@ partition-enters d vs h g =
     let n = suc (length (d .partitions)) in
     let e : Numbered (List ℕ) = record { number = n; value = vs } in
     rw (
-      partition-printed n vs (omega arith) (s .numbers),
+      partition-printed n vs (omega arith) (λ v m. let k = s .numbers v m in omega arith),
       partition-taken d e .1 (record { turn = refl; limit = h; good = g }),
     )
 
@@ -104,10 +104,10 @@ lines-load d w =
 
 -- ---- the theorems
 
-load-lines : (text : List ℕ) (ls : List (List ℕ)) → length text ≤ 16384 → lines text ≡ record { ended = ls; rest = [] }
+load-lines : (text : List ℕ) (ls : List (List ℕ)) → length text ≤ mostPolicyBytes → lines text ≡ record { ended = ls; rest = [] }
     → load text ≡ loadLines ls []
-unfolding load mostPolicyBytes
-load-lines text ls h e = rw (le-ltb 16384 (length text) h, e)
+unfolding load
+load-lines text ls h e = rw (le-ltb mostPolicyBytes (length text) h, e)
 
 pub print-loads : (d : Declared) → WellFormed d → load (print d) ≡ accepted d
 print-loads d w = load-lines (print d) (printLines d) (print-short d w) (lines-printed d) ∙ lines-load d w

@@ -1,7 +1,7 @@
 -- How much a well-formed value holds: what is written of it stays within a numeral's digits and the text's length.
 use mathlib.Core.Path.{refl}
 use mathlib.Core.List.{List, [], _∷_, List·Memᴰ·head, List·Memᴰ·tail}
-use Prim.Native.Nat.{ℕ, _+_, _-_, _^_, _≤_, _<_}
+use Prim.Native.Nat.{ℕ, _+_, _-_, _≤_}
 use native.Mathlib.Omega.{arith}
 use lib.Dec.{T, ltb, ltb→lt}
 use lib.ListN.{length}
@@ -17,7 +17,7 @@ use Rattle.model.proofs.Printed.{Writable, within-writable}
 pub record ViewSize (A : Line) : Type 0 where
   pub writable : Writable A
   pub least : 1 ≤ length (A .columns)
-  pub most : length (A .columns) ≤ 8
+  pub most : length (A .columns) ≤ mostColumns
 
 pub view-size : (widths : List ℕ) (A : Line)
     → OneToMost mostTables GoodWidth widths → GoodView widths A → ViewSize A
@@ -42,12 +42,12 @@ ascend-short most (v ∷ vs) h within =
     omega (arith, ascend-from most v vs h (λ w m. within w m .1))
 
 pub record PartitionSize (vs : List ℕ) : Type 0 where
-  pub numbers : (v : ℕ) → v ∈ vs → v < 10 ^ 10
-  pub most : length vs ≤ 32
+  pub numbers : (v : ℕ) → v ∈ vs → v ≤ mostViews
+  pub most : length vs ≤ mostViews
 
 pub partition-size : (views : ℕ) (vs : List ℕ) → GoodPartition views vs → PartitionSize vs
 partition-size views vs g =
-    record { numbers = λ v m. let k = within v m in omega arith; most = ascend-short 32 vs (g .ascending) within }
+    record { numbers = λ v m. within v m .1; most = ascend-short mostViews vs (g .ascending) within }
   where
-    within : (v : ℕ) → v ∈ vs → (1 ≤ v) × (v ≤ 32)
-    within v m = up-to-iff 32 v .0 (g .within v m)
+    within : (v : ℕ) → v ∈ vs → (1 ≤ v) × (v ≤ mostViews)
+    within v m = up-to-iff mostViews v .0 (g .within v m)

@@ -1,3 +1,4 @@
+-- Policies: what a text declares, when it loads, and how it is written.
 pub mod Declared
 pub mod Text
 pub mod WellFormed

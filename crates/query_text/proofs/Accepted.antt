@@ -7,6 +7,7 @@ use Prim.Native.Nat.{ℕ, zero, suc, _≤_}
 use native.Mathlib.Omega.{arith}
 use lib.Dec.{T, leb, ltb, nleb→lt}
 use lib.ListN.{length, length-append}
+use mir.Facts.{T-not-not}
 use borrow.Author.Tests.{ltb-false}
 use Rattle.theory.specs.Query.{Line, Query, _∈_, NoClash, Fits}
 use Rattle.theory.specs.Archive.{AllFit}
@@ -20,7 +21,7 @@ use Rattle.model.specs.Fields.{queryLine}
 use Rattle.model.specs.Limits.{mostLines, lineWithin}
 use Rattle.model.specs.Checks.{known, wide, clashing, firstFault}
 use Rattle.model.specs.Print.{printQueryLine}
-use Rattle.model.proofs.Limits.{no-fault, not-not, checked-fits, clear-more}
+use Rattle.model.proofs.Limits.{no-fault, checked-fits, clear-more}
 use Rattle.model.proofs.ReadLines.{query-line-read}
 use Rattle.query_text.specs.Text.{refused, accepted, mostQueryBytes, fault, queryEnds, judged, step, readFrom, readLines, read}
 use Rattle.query_text.specs.Print.{queryText}
@@ -58,14 +59,14 @@ more-read widths earlier A w t e =
     let c = no-fault (not (known widths A)) 3 _ (b .1) in
     let d = no-fault (not (wide widths A)) 4 _ (c .1) in
     let f = no-fault (clashing earlier A) 5 _ (d .1) in
-    let within = not-not (lineWithin A) (b .0) in
+    let within = T-not-not (lineWithin A) (b .0) in
     record {
       few = omega (arith, length-append earlier (A ∷ []), nleb→lt mostLines (length earlier) (a .0));
       terms = each-more (λ B. 1 ≤ length (B .columns)) earlier A (w .terms) t;
       within = each-more (λ B. T (lineWithin B)) earlier A (w .within) within;
       fits =
           each-more (Fits widths) earlier A (w .fits)
-          (checked-fits widths A within (not-not (known widths A) (c .0)) (not-not (wide widths A) (d .0)));
+          (checked-fits widths A within (T-not-not (known widths A) (c .0)) (T-not-not (wide widths A) (d .0)));
       clear = clear-more earlier A (w .clear) (f .0);
     }
 

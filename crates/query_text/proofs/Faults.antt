@@ -11,13 +11,13 @@ use borrow.Author.Tests.{le-leb, lt-leb, not-true, not-false}
 use Rattle.theory.specs.Query.{Line}
 use Rattle.theory.specs.Executable.Test.{all}
 use Rattle.theory.proofs.Executable.Test.{and-iff}
+use Rattle.words.proofs.Answers.{true-holds}
 use Rattle.model.specs.Limits.{mostTables, mostLines, upTo, termWithin, lineWithin}
 use Rattle.model.specs.Checks.{firstFault, misfit}
 use Rattle.model.specs.Parsed.{blankValue, goodValue, parsedLine}
 use Rattle.model.specs.declared.Parsed.{Parsed}
 use Rattle.query_text.specs.Text.{fault}
 use Rattle.query_text.specs.Value.{LineTabled}
-use Rattle.model.proofs.Variables.{true-is}
 
 -- ---- the value of a line
 
@@ -65,9 +65,9 @@ module _ (p : Parsed) (A : Line) (e : p ≡ parsedLine (some A)) where
   pub is-tabled : LineTabled p
   unfolding lineWithin upTo goodValue
   is-tabled o =
-      let w = and-iff (upTo mostTables (A .table)) (all termWithin (A .columns)) .0 (true-is (lineWithin A) (is-within o)) .0 in
-      let u = and-iff (leb 1 (A .table)) (leb (A .table) 16) .0 w in
-      rw (is-good o) (leb→le 1 (A .table) (u .0), leb→le (A .table) 16 (u .1))
+      let w = and-iff (upTo mostTables (A .table)) (all termWithin (A .columns)) .0 (true-holds (is-within o)) .0 in
+      let u = and-iff (leb 1 (A .table)) (leb (A .table) mostTables) .0 w in
+      rw (is-good o) (leb→le 1 (A .table) (u .0), leb→le (A .table) mostTables (u .1))
 
 -- ---- the checks in their order
 

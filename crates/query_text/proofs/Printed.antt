@@ -15,12 +15,12 @@ use Rattle.text.specs.Lines.{lines, sameBytes}
 use Rattle.text.specs.Names.{tableTerms}
 use Rattle.text.specs.Print.{endEach}
 use Rattle.text.proofs.Each.{Each, each-cons, each-map}
-use Rattle.text.proofs.Joined.{Printable, joined-clean, table-terms-clean, lines-ended, ended-bytes, Within, length-ended}
+use Rattle.text.proofs.Joined.{LineByte, joined-clean, table-terms-clean, lines-ended, ended-bytes, Within, length-ended}
 use Rattle.model.specs.Limits.{mostLines, mostColumns, upTo, lineWithin}
 use Rattle.model.specs.Checks.{known, wide, clashing, firstFault}
 use Rattle.model.specs.Print.{printQueryLine, lineFields}
 use Rattle.model.proofs.Limits.{clear-line, up-to-iff}
-use Rattle.model.proofs.Printed.{line-clean, within-writable, query-line-printed, query-line-short}
+use Rattle.model.proofs.Printed.{queryLineBytes, line-clean, within-writable, query-line-printed, query-line-short}
 use Rattle.model.proofs.Values.{width-is}
 use Rattle.query_text.specs.Text.{accepted, mostQueryBytes, fault, queryEnds, judged, step, readFrom, readLines, read}
 use Rattle.query_text.specs.Print.{queryText}
@@ -29,11 +29,11 @@ use Rattle.query_text.proofs.Accepted.{accepted-well-read, accepted-pri
 
 -- ---- the lines of the text
 
-lines-clean : (Q : Query) → Each (Each (Printable 32)) (tableTerms ∷ map printQueryLine Q)
+lines-clean : (Q : Query) → Each (Each LineByte) (tableTerms ∷ map printQueryLine Q)
 unfolding printQueryLine
 lines-clean Q =
-    each-cons (Each (Printable 32)) tableTerms (map printQueryLine Q) table-terms-clean
-    (each-map (Each (Printable 32)) printQueryLine Q (λ A i. joined-clean (lineFields A) (line-clean A)))
+    each-cons (Each LineByte) tableTerms (map printQueryLine Q) table-terms-clean
+    (each-map (Each LineByte) printQueryLine Q (λ A i. joined-clean (lineFields A) (line-clean A)))
 
 lines-printed : (Q : Query) → lines (queryText Q) ≡ record { ended = tableTerms ∷ map printQueryLine Q; rest = [] }
 unfolding queryText
@@ -47,11 +47,11 @@ query-text-bytes Q = ended-bytes (tableTerms ∷ map printQueryLine Q) (lines-cl
 -- ---- a text that is printed reads
 
 module _ (widths : List ℕ) (Q : Query) (w : WellRead widths Q) where
-  -- a line of the query, behind some of its lines
-  no-fault : (earlier : List Line) (A : Line) → length earlier < length Q → A ∈ Q → ((B : Line) → B ∈ earlier → B ∈ Q)
+  -- no check turns back a line of the query, behind some of its lines
+  line-taken : (earlier : List Line) (A : Line) → length earlier < length Q → A ∈ Q → ((B : Line) → B ∈ earlier → B ∈ Q)
       → fault widths earlier A ≡ 0
   unfolding fault firstFault known wide
-  no-fault earlier A few a others =
+  line-taken earlier A few a others =
       let f = w .fits A a in
       rw (
         lt-leb mostLines (length earlier) (omega (arith, w .few)),
@@ -73,7 +73,7 @@ module _ (widths : List ℕ) (Q : Query) (w : WellRead widths Q) where
       let few : length earlier < length Q = rw (sym e) (simp length-append (omega arith)) in
       rw (
         query-line-printed A (within-writable A (w .within A a)) (w .terms A a),
-        no-fault earlier A few a (λ B i. subst (B ∈_) e (Memᴰ·append-left (A ∷ l) i)),
+        line-taken earlier A few a (λ B i. subst (B ∈_) e (Memᴰ·append-left (A ∷ l) i)),
       )
       (lines-read l (earlier ++ A ∷ []) (append-assoc earlier (A ∷ []) l ∙ e) (suc k))
 
@@ -88,19 +88,20 @@ reads-exactly widths text Q = (
   λ r. ap (read widths) (r .1) ∙ text-reads widths Q (r .0),
 )
 
--- ---- under tables of 1 to 8 columns a query's text is never too long, and each of its lines has a term
+-- ---- under tables of 1 to the most columns a query's text is never too long, and each of its lines has a term
 
 module _ (widths : List ℕ) (narrow : (n : ℕ) → n ∈ widths → T (upTo mostColumns n)) (Q : Query) (few : length Q ≤ mostLines)
     (within : (A : Line) → A ∈ Q → T (lineWithin A)) (fits : AllFit widths Q) where
   columns : (A : Line) → A ∈ Q → (1 ≤ length (A .columns)) × (length (A .columns) ≤ mostColumns)
   columns A i = up-to-iff mostColumns (length (A .columns)) .0 (width-is (λ n. T (upTo mostColumns n)) widths narrow A (fits A i))
 
-  -- coarse bounds suffice: each numeral is taken as 10 bytes
+  -- coarse bounds suffice: each numeral is taken to have the most digits
   pub query-short : length (queryText Q) ≤ mostQueryBytes
   unfolding queryText endEach tableTerms
   query-short =
-      let each = each-map (Within 107) printQueryLine Q (λ A i. query-line-short A (within-writable A (within A i)) (columns A i .1)) in
-      let all = rw (length-map Q printQueryLine) at (length-ended 107 (map printQueryLine Q) each) in
+      let each = each-map (Within queryLineBytes) printQueryLine Q
+      (λ A i. query-line-short A (within-writable A (within A i)) (columns A i .1)) in
+      let all = rw (length-map Q printQueryLine) at (length-ended queryLineBytes (map printQueryLine Q) each) in
       omega arith
 
   pub well-read : 1 ≤ length Q → NoClash Q → WellRead widths Q

@@ -8,7 +8,7 @@ use native.Mathlib.Omega.{arith}
 use lib.Bits.{bitOr}
 use lib.ListN.{length, drop, set, length-append, length-map, length-drop, drop-of-length-le}
 use Rattle.theory.specs.Query.{Line}
-use Rattle.text.specs.Lines.{lines, before}
+use Rattle.text.specs.Lines.{newline, lines, before}
 use Rattle.text.specs.declared.Cursor.{Cursor}
 use Rattle.text.proofs.NextLines.{front, back, of-tail, of-line, LineAt}
 use Rattle.model.specs.Limits.{mostLines}
@@ -32,7 +32,7 @@ abbrev pub behind : List ℕ → List Line → ℕ → List ℕ → Reading
 behind widths earlier k text = readFrom widths earlier k (lines text .ended) (lines text .rest)
 
 -- a tail that lacks its end
-behind-tail : (widths : List ℕ) (earlier : List Line) (k : ℕ) (text : List ℕ) → before 10 text ≡ length text → 0 < length text
+behind-tail : (widths : List ℕ) (earlier : List Line) (k : ℕ) (text : List ℕ) → before newline text ≡ length text → 0 < length text
     → behind widths earlier k text ≡ refused 1 k
 unfolding readFrom queryEnds
 behind-tail widths earlier k [] e h = absurd (omega arith)
@@ -44,8 +44,9 @@ unfolding lines readFrom
 behind-end widths earlier k = refl
 
 -- a line, and what follows it
-behind-line : (widths : List ℕ) (earlier : List Line) (k : ℕ) (text : List ℕ) → before 10 text < length text
-    → behind widths earlier k text ≡ step (queryLine (front text)) k (fault widths earlier) (λ A. behind widths (earlier ++ A ∷ []) (suc k) (back text))
+behind-line : (widths : List ℕ) (earlier : List Line) (k : ℕ) (text : List ℕ) → before newline text < length text
+    → behind widths earlier k text
+    ≡ step (queryLine (front text)) k (fault widths earlier) (λ A. behind widths (earlier ++ A ∷ []) (suc k) (back text))
 unfolding readFrom
 behind-line widths earlier k text h = of-line (readFrom widths earlier k) text h
 
@@ -76,7 +77,8 @@ pub record Walked (tables : Tables) (text : List ℕ) (start : ℕ) (q : QueryVa
   pub within : at ≤ length text
   pub ahead : (widths : List ℕ) → tables ≡ tablesValue widths → behind widths earlier line (drop at text) ≡ behind widths [] start text
 
-pub walked-none : (tables : Tables) (text : List ℕ) (start : ℕ) (q : QueryValue) → q ≡ queryValue [] → Walked tables text start q 0 0 start 0
+pub walked-none : (tables : Tables) (text : List ℕ) (start : ℕ) (q : QueryValue) → q ≡ queryValue []
+    → Walked tables text start q 0 0 start 0
 walked-none tables text start q e =
     record {
       earlier = [];
@@ -94,7 +96,7 @@ module _ {tables : Tables} {text : List ℕ} {start : ℕ} {q : QueryValue} {s h
   counted = ap (λ (x : QueryValue). x .count) (w .held)
 
   -- the text stops in a line
-  pub stops : (widths : List ℕ) → tables ≡ tablesValue widths → at < length text → before 10 (drop at text) ≡ length (drop at text)
+  pub stops : (widths : List ℕ) → tables ≡ tablesValue widths → at < length text → before newline (drop at text) ≡ length (drop at text)
       → refused 1 line ≡ behind widths [] start text
   stops widths t l e =
       sym (behind-tail widths (w .earlier) line (drop at text) e (simp length-drop (omega arith))) ∙ w .ahead widths t
@@ -111,7 +113,8 @@ module _ {tables : Tables} {text : List ℕ} {start : ℕ} {q : QueryValue} {s h
     unfolding queryEnds
     empty z = go (w .earlier) (sym counted ∙ z) ended
       where
-        go : (Q : List Line) → length Q ≡ 0 → queryEnds Q line [] ≡ behind widths [] start text → refused 1 line ≡ behind widths [] start text
+        go : (Q : List Line) → length Q ≡ 0 → queryEnds Q line [] ≡ behind widths [] start text
+            → refused 1 line ≡ behind widths [] start text
         go [] n e = e
         go (A ∷ Q) n e = absurd (omega arith)
 
@@ -127,7 +130,8 @@ module _ {tables : Tables} {text : List ℕ} {start : ℕ} {q : QueryValue} {s h
   -- a line that ends
   module _ {c : Cursor} (l : LineAt text at c) where
     turn : (widths : List ℕ) → tables ≡ tablesValue widths
-        → step (queryLine (front (drop at text))) line (fault widths (w .earlier)) (λ A. behind widths (w .earlier ++ A ∷ []) (suc line) (back (drop at text)))
+        → step (queryLine (front (drop at text))) line (fault widths (w .earlier))
+        (λ A. behind widths (w .earlier ++ A ∷ []) (suc line) (back (drop at text)))
         ≡ behind widths [] start text
     turn widths t = sym (behind-line widths (w .earlier) line (drop at text) (l .ended)) ∙ w .ahead widths t
 

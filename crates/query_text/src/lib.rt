@@ -3,17 +3,15 @@
 ghost use mathlib.Core.Path.{_≡_};
 ghost use mathlib.Core.Bool.{false};
 ghost use mathlib.Core.List.{List, []};
-ghost use mathlib.Core.Option.{some};
 ghost use Prim.Native.Nat.{ℕ, _<_, _^_};
 ghost use lib.ListN.{length};
-ghost use Rattle.theory.specs.Query.{Query as TheQuery, Line as TheLine};
 ghost use Rattle.model.specs.Value.{queryValue, tablesValue};
 ghost use Rattle.model.specs.Limits.{mostLines};
-ghost use Rattle.model.specs.Parsed.{parsedLine};
-ghost use Rattle.query_text.specs.Text.{refused as refusedReading, fault as faultOf, read};
-ghost use Rattle.model.specs.Variables.{Marked};
-ghost use Rattle.query_text.specs.Value.{readingValue, LinesRead, LineTabled};
+ghost use Rattle.query_text.specs.Text.{refused as refusedReading, read};
+ghost use Rattle.query_text.specs.Value.{readingValue, LinesRead, LineTabled, FaultBehind};
 use model::Line;
+use model::MOST_COLUMNS;
+use model::MOST_LINES;
 use model::Outcome;
 use model::Parsed;
 use model::Query;
@@ -22,9 +20,6 @@ use model::Term;
 
 // The most bytes of a query text.
 const MOST_BYTES: usize = 4096;
-
-// The most lines of a query.
-const MOST_LINES: usize = 8;
 
 // How reading ends, and the query: that of the text, or one without a line.
 pub struct Reading {
@@ -37,11 +32,11 @@ fn no_query() -> Query
 {
     let unused = Line {
         table: 0,
-        terms: [Term { mark: 0, number: 0 }; 8],
+        terms: [Term { mark: 0, number: 0 }; MOST_COLUMNS],
     };
     Query {
         count: 0,
-        lines: [unused; 8],
+        lines: [unused; MOST_LINES],
     }
 }
 
@@ -58,7 +53,7 @@ fn refused(number: u64, line: u64) -> Reading
 // bits; or 0.
 fn fault(tables: Tables, count: usize, shown: u64, hidden: u64, p: Parsed) -> u64
     requires { ⌜ LineTabled p ⌝ }
-    ensures { λ r. ⌜ ((widths : List ℕ) (earlier : TheQuery) (A : TheLine) → tables ≡ tablesValue widths → count ≡ length earlier → Marked earlier shown hidden → p ≡ parsedLine (some A) → r ≡ faultOf widths earlier A) ⌝ }
+    ensures { λ r. ⌜ FaultBehind tables count shown hidden p r ⌝ }
     ensures { λ r. ⌜ (r ≡ 0 → (count < mostLines) × (p .outside ≡ false)) ⌝ }
 {
     if MOST_LINES <= count {

@@ -9,7 +9,7 @@ use lib.Dec.{T, leb, ltb, leb→le, ltb→lt, eqb}
 use lib.ListN.{length, length-append}
 use mir.Facts.{and-yes}
 use borrow.Author.Tests.{eqb-true}
-use Rattle.text.specs.Lines.{Split, push, split, lines, fields}
+use Rattle.text.specs.Lines.{newline, space, Split, push, split, lines, fields}
 use Rattle.text.specs.Names.{bytes, tableColumns, viewTableTerms, partitionViews, tableTerms}
 use Rattle.text.specs.Print.{decimal, joined, endEach}
 use Rattle.text.proofs.Each.{Each, each-nil, each-cons, each-append}
@@ -18,60 +18,64 @@ use Rattle.text.proofs.Decimals.{decimal-digits}
 
 -- ---- the bytes of what is written
 
--- a byte of ASCII that is printed, from b on: from 33 on it parts no fields, from 32 on no lines
-abbrev pub Printable : ℕ → ℕ → Type 0
-Printable b x = (b ≤ x) × (x < 127)
+-- a byte of ASCII that is printed and parts no lines
+abbrev pub LineByte : ℕ → Type 0
+LineByte x = (space ≤ x) × (x < 127)
 
-pub decimal-clean : (n : ℕ) → Each (Printable 33) (decimal n)
+-- and no fields either
+abbrev pub FieldByte : ℕ → Type 0
+FieldByte x = (space < x) × (x < 127)
+
+pub decimal-clean : (n : ℕ) → Each FieldByte (decimal n)
 decimal-clean n x m = let h = decimal-digits n x m in (omega arith, omega arith)
 
 -- fields of which each is clean
 abbrev pub Clean : List (List ℕ) → Type 0
-Clean fs = Each (Each (Printable 33)) fs
+Clean fs = Each (Each FieldByte) fs
 
-pub joined-clean : (fs : List (List ℕ)) → Clean fs → Each (Printable 32) (joined fs)
+pub joined-clean : (fs : List (List ℕ)) → Clean fs → Each LineByte (joined fs)
 unfolding joined
-joined-clean [] h = each-nil (Printable 32)
+joined-clean [] h = each-nil LineByte
 joined-clean (f ∷ []) h = λ x m. let k = h f (List·Memᴰ·head refl) x m in (omega arith, k .1)
 joined-clean (f ∷ g ∷ gs) h =
-    each-append (Printable 32) f (32 ∷ joined (g ∷ gs)) (λ x m. let k = h f (List·Memᴰ·head refl) x m in (omega arith, k .1))
-    (each-cons (Printable 32) 32 (joined (g ∷ gs)) (omega arith, omega arith) (joined-clean (g ∷ gs) (λ l n. h l (List·Memᴰ·tail n))))
+    each-append LineByte f (space ∷ joined (g ∷ gs)) (λ x m. let k = h f (List·Memᴰ·head refl) x m in (omega arith, k .1))
+    (each-cons LineByte space (joined (g ∷ gs)) (omega arith, omega arith) (joined-clean (g ∷ gs) (λ l n. h l (List·Memᴰ·tail n))))
 
 -- lines of which each is clean are ended as bytes
-pub ended-bytes : (ls : List (List ℕ)) → Each (Each (Printable 32)) ls → Each (λ x. x < 256) (endEach ls)
+pub ended-bytes : (ls : List (List ℕ)) → Each (Each LineByte) ls → Each (λ x. x < 256) (endEach ls)
 unfolding endEach
 ended-bytes [] h = each-nil (λ x. x < 256)
 ended-bytes (l ∷ ls) h =
-    each-append (λ x. x < 256) l (10 ∷ endEach ls) (λ x m. let k = h l (List·Memᴰ·head refl) x m in omega arith)
-    (each-cons (λ x. x < 256) 10 (endEach ls) (omega arith) (ended-bytes ls (λ k m. h k (List·Memᴰ·tail m))))
+    each-append (λ x. x < 256) l (newline ∷ endEach ls) (λ x m. let k = h l (List·Memᴰ·head refl) x m in omega arith)
+    (each-cons (λ x. x < 256) newline (endEach ls) (omega arith) (ended-bytes ls (λ k m. h k (List·Memᴰ·tail m))))
 
 -- ---- the names lines
 
 allPrintable : List ℕ → Bool
 allPrintable [] = true
-allPrintable (b ∷ l) = (leb 32 b && ltb b 127) && allPrintable l
+allPrintable (b ∷ l) = (leb space b && ltb b 127) && allPrintable l
 
-printable : (l : List ℕ) → T (allPrintable l) → Each (Printable 32) l
+printable : (l : List ℕ) → T (allPrintable l) → Each LineByte l
 unfolding allPrintable
-printable [] h = each-nil (Printable 32)
+printable [] h = each-nil LineByte
 printable (b ∷ l) h =
-    let k = and-yes (leb 32 b && ltb b 127) (allPrintable l) h in
-    let j = and-yes (leb 32 b) (ltb b 127) (k .0) in
-    each-cons (Printable 32) b l (leb→le 32 b (j .0), ltb→lt b 127 (j .1)) (printable l (k .1))
+    let k = and-yes (leb space b && ltb b 127) (allPrintable l) h in
+    let j = and-yes (leb space b) (ltb b 127) (k .0) in
+    each-cons LineByte b l (leb→le space b (j .0), ltb→lt b 127 (j .1)) (printable l (k .1))
 
-pub table-columns-clean : Each (Printable 32) tableColumns
+pub table-columns-clean : Each LineByte tableColumns
 unfolding allPrintable tableColumns bytes
 table-columns-clean = printable tableColumns tt
 
-pub view-table-terms-clean : Each (Printable 32) viewTableTerms
+pub view-table-terms-clean : Each LineByte viewTableTerms
 unfolding allPrintable viewTableTerms bytes
 view-table-terms-clean = printable viewTableTerms tt
 
-pub partition-views-clean : Each (Printable 32) partitionViews
+pub partition-views-clean : Each LineByte partitionViews
 unfolding allPrintable partitionViews bytes
 partition-views-clean = printable partitionViews tt
 
-pub table-terms-clean : Each (Printable 32) tableTerms
+pub table-terms-clean : Each LineByte tableTerms
 unfolding allPrintable tableTerms bytes
 table-terms-clean = printable tableTerms tt
 
@@ -80,17 +84,17 @@ table-terms-clean = printable tableTerms tt
 pub fields-joined : (f : List ℕ) (fs : List (List ℕ)) → Clean (f ∷ fs) → fields (joined (f ∷ fs)) ≡ f ∷ fs
 unfolding fields joined
 fields-joined f [] h =
-    rw (split-clean 32 f (λ x m e. let k = h f (List·Memᴰ·head refl) x m in omega arith))
+    rw (split-clean space f (λ x m e. let k = h f (List·Memᴰ·head refl) x m in omega arith))
 fields-joined f (g ∷ gs) h =
-    rw (split-pieces 32 f (joined (g ∷ gs)) (λ x m e. let k = h f (List·Memᴰ·head refl) x m in omega arith))
+    rw (split-pieces space f (joined (g ∷ gs)) (λ x m e. let k = h f (List·Memᴰ·head refl) x m in omega arith))
     (ap (λ (l : List (List ℕ)). f ∷ l) (fields-joined g gs (λ k m. h k (List·Memᴰ·tail m))))
 
-pub lines-ended : (ls : List (List ℕ)) → Each (Each (Printable 32)) ls → lines (endEach ls) ≡ record { ended = ls; rest = [] }
+pub lines-ended : (ls : List (List ℕ)) → Each (Each LineByte) ls → lines (endEach ls) ≡ record { ended = ls; rest = [] }
 unfolding lines endEach split
 lines-ended [] h = refl
 lines-ended (l ∷ ls) h =
     rw (
-      split-pieces 10 l (endEach ls) (λ x m e. let k = h l (List·Memᴰ·head refl) x m in omega arith),
+      split-pieces newline l (endEach ls) (λ x m e. let k = h l (List·Memᴰ·head refl) x m in omega arith),
       lines-ended ls (λ k m. h k (List·Memᴰ·tail m)),
     )
 
@@ -117,19 +121,19 @@ join-push b s = go (s .ended) (s .rest)
 pub joined-fields : (l : List ℕ) → joined (fields l) ≡ l
 unfolding fields split joined
 joined-fields [] = refl
-joined-fields (b ∷ l) = go (eqb b 32) refl (joined-fields l)
+joined-fields (b ∷ l) = go (eqb b space) refl (joined-fields l)
   where
     -- an empty field in front is a space in front
-    empty : (e : List (List ℕ)) (r : List ℕ) → joined ([] ∷ (e ++ r ∷ [])) ≡ 32 ∷ joined (e ++ r ∷ [])
+    empty : (e : List (List ℕ)) (r : List ℕ) → joined ([] ∷ (e ++ r ∷ [])) ≡ space ∷ joined (e ++ r ∷ [])
     empty [] r = refl
     empty (f ∷ e) r = refl
 
     s : Split
-    s = split 32 l
+    s = split space l
 
-    go : (t : Bool) → eqb b 32 ≡ t → joined (parts s) ≡ l
+    go : (t : Bool) → eqb b space ≡ t → joined (parts s) ≡ l
         → joined (parts (cond t (record { ended = [] ∷ s .ended; rest = s .rest }) (push b s))) ≡ b ∷ l
-    go true e rest = empty (s .ended) (s .rest) ∙ ap₂ {C = List ℕ} _∷_ (sym (eqb-true b 32 e)) rest
+    go true e rest = empty (s .ended) (s .rest) ∙ ap₂ {C = List ℕ} _∷_ (sym (eqb-true b space e)) rest
     go false e rest = join-push b s ∙ ap (λ (m : List ℕ). b ∷ m) rest
 
 -- a text is its lines, each ended, and the tail behind them
@@ -139,18 +143,18 @@ together s = endEach (s .ended) ++ s .rest
 pub ended-lines : (text : List ℕ) → endEach (lines text .ended) ++ lines text .rest ≡ text
 unfolding lines split endEach push
 ended-lines [] = refl
-ended-lines (b ∷ text) = go (eqb b 10) refl (ended-lines text)
+ended-lines (b ∷ text) = go (eqb b newline) refl (ended-lines text)
   where
     front : (e : List (List ℕ)) (r : List ℕ) → together (push b (record { ended = e; rest = r })) ≡ b ∷ endEach e ++ r
     front [] r = refl
     front (l ∷ ls) r = refl
 
     s : Split
-    s = split 10 text
+    s = split newline text
 
-    go : (t : Bool) → eqb b 10 ≡ t → together s ≡ text
+    go : (t : Bool) → eqb b newline ≡ t → together s ≡ text
         → together (cond t (record { ended = [] ∷ s .ended; rest = s .rest }) (push b s)) ≡ b ∷ text
-    go true e rest = ap₂ {C = List ℕ} _∷_ (sym (eqb-true b 10 e)) rest
+    go true e rest = ap₂ {C = List ℕ} _∷_ (sym (eqb-true b newline e)) rest
     go false e rest = front (s .ended) (s .rest) ∙ ap (λ (m : List ℕ). b ∷ m) rest
 
 -- ---- how long it is

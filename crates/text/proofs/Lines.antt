@@ -10,7 +10,7 @@ use lib.Dec.{eqb}
 use lib.ListN.{length, getD, take, drop, drop-of-length-le}
 use lib.Seq.{drop-cons}
 use borrow.Author.Tests.{eq-eqb, ne-eqb}
-use Rattle.text.specs.Lines.{Split, push, split, fields, before}
+use Rattle.text.specs.Lines.{space, Split, push, split, fields, before}
 
 -- ---- the first byte that equals b
 
@@ -58,6 +58,10 @@ passed-all {b} {i} {l} p h = let z : before b (drop i l) ≡ 0 = rw (drop-of-len
 
 -- ---- the pieces
 
+-- the first piece, and the split of what follows its end
+abbrev pub parted : ℕ → List ℕ → List ℕ → Split
+parted b p r = record { ended = p ∷ split b r .ended; rest = split b r .rest }
+
 pub split-none : (b : ℕ) (l : List ℕ) → before b l ≡ length l → split b l ≡ record { ended = []; rest = l }
 unfolding before split push
 split-none b [] e = refl
@@ -65,28 +69,25 @@ split-none b (x ∷ l) e = go (eqb x b) e (λ r. split-none b l r)
   where
     go : (t : Bool) → cond t 0 (suc (before b l)) ≡ suc (length l)
         → (before b l ≡ length l → split b l ≡ record { ended = []; rest = l })
-        → cond t (record { ended = [] ∷ split b l .ended; rest = split b l .rest }) (push x (split b l)) ≡ record { ended = []; rest = x ∷ l }
+        → cond t (parted b [] l) (push x (split b l)) ≡ record { ended = []; rest = x ∷ l }
     go true r ih = absurd (omega arith)
     go false r ih = ap (push x) (ih (suc-inj r))
 
--- the first piece, and the split of what follows its end
-abbrev parted : ℕ → List ℕ → List ℕ → Split
-parted b p r = record { ended = p ∷ split b r .ended; rest = split b r .rest }
-
 pub split-found : (b : ℕ) (l : List ℕ) → before b l < length l
-    → split b l ≡ record { ended = take (before b l) l ∷ split b (drop (suc (before b l)) l) .ended; rest = split b (drop (suc (before b l)) l) .rest }
+    → split b l ≡ parted b (take (before b l) l) (drop (suc (before b l)) l)
 unfolding before split push
 split-found b [] h = absurd (not-suc-le-zero h)
 split-found b (x ∷ l) h = go (eqb x b) h (λ r. split-found b l r)
   where
     go : (t : Bool) → cond t 0 (suc (before b l)) < suc (length l)
         → (before b l < length l → split b l ≡ parted b (take (before b l) l) (drop (suc (before b l)) l))
-        → cond t (record { ended = [] ∷ split b l .ended; rest = split b l .rest }) (push x (split b l)) ≡ parted b (take (cond t 0 (suc (before b l))) (x ∷ l)) (drop (suc (cond t 0 (suc (before b l)))) (x ∷ l))
+        → cond t (parted b [] l) (push x (split b l))
+        ≡ parted b (take (cond t 0 (suc (before b l))) (x ∷ l)) (drop (suc (cond t 0 (suc (before b l)))) (x ∷ l))
     go true r ih = refl
     go false r ih = ap (push x) (ih (le-of-suc-le-suc r))
 
 pub split-pieces : (b : ℕ) (p r : List ℕ) → ((x : ℕ) → List·Memᴰ x p → x ≡ b → ⊥)
-    → split b (p ++ b ∷ r) ≡ record { ended = p ∷ split b r .ended; rest = split b r .rest }
+    → split b (p ++ b ∷ r) ≡ parted b p r
 unfolding split push
 split-pieces b [] r n = ap (λ (t : Bool). cond t (parted b [] r) (push b (split b r))) (eq-eqb b b refl)
 split-pieces b (x ∷ p) r n =
@@ -103,10 +104,10 @@ split-clean b p n = split-none b p (before-clean b p n)
 
 -- ---- fields
 
-pub fields-last : (l : List ℕ) → before 32 l ≡ length l → fields l ≡ l ∷ []
+pub fields-last : (l : List ℕ) → before space l ≡ length l → fields l ≡ l ∷ []
 unfolding fields
-fields-last l e = ap (λ (s : Split). s .ended ++ s .rest ∷ []) (split-none 32 l e)
+fields-last l e = ap (λ (s : Split). s .ended ++ s .rest ∷ []) (split-none space l e)
 
-pub fields-more : (l : List ℕ) → before 32 l < length l → fields l ≡ take (before 32 l) l ∷ fields (drop (suc (before 32 l)) l)
+pub fields-more : (l : List ℕ) → before space l < length l → fields l ≡ take (before space l) l ∷ fields (drop (suc (before space l)) l)
 unfolding fields
-fields-more l h = ap (λ (s : Split). s .ended ++ s .rest ∷ []) (split-found 32 l h)
+fields-more l h = ap (λ (s : Split). s .ended ++ s .rest ∷ []) (split-found space l h)

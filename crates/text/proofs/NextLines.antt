@@ -6,7 +6,7 @@ use Prim.Native.Nat.{ℕ, suc, _+_, _-_, _≤_, _<_}
 use native.Mathlib.Omega.{arith}
 use lib.ListN.{length, take, drop, length-drop}
 use lib.Seq.{drop-drop}
-use Rattle.text.specs.Lines.{Split, lines, before, sameBytes}
+use Rattle.text.specs.Lines.{newline, Split, lines, before, sameBytes}
 use Rattle.text.specs.Cursors.{NextLine, startsWith, AfterNames}
 use Rattle.text.specs.declared.Cursor.{Cursor}
 use Rattle.text.proofs.Lines.{before-le, split-none, split-found}
@@ -16,34 +16,34 @@ use Rattle.text.proofs.Parts.{to-end}
 
 -- its bytes, and what follows its end
 abbrev pub front : List ℕ → List ℕ
-front text = take (before 10 text) text
+front text = take (before newline text) text
 
 abbrev pub back : List ℕ → List ℕ
-back text = drop (suc (before 10 text)) text
+back text = drop (suc (before newline text)) text
 
 -- what is read of all lines and the tail: of a text that stops in its first line, and of one that goes on behind it
 module _ {X : Type 0} (read : List (List ℕ) → List ℕ → X) (text : List ℕ) where
-  pub of-tail : before 10 text ≡ length text → read (lines text .ended) (lines text .rest) ≡ read [] text
+  pub of-tail : before newline text ≡ length text → read (lines text .ended) (lines text .rest) ≡ read [] text
   unfolding lines
-  of-tail e = ap (λ (s : Split). read (s .ended) (s .rest)) (split-none 10 text e)
+  of-tail e = ap (λ (s : Split). read (s .ended) (s .rest)) (split-none newline text e)
 
-  pub of-line : before 10 text < length text
+  pub of-line : before newline text < length text
       → read (lines text .ended) (lines text .rest) ≡ read (front text ∷ lines (back text) .ended) (lines (back text) .rest)
   unfolding lines
-  of-line h = ap (λ (s : Split). read (s .ended) (s .rest)) (split-found 10 text h)
+  of-line h = ap (λ (s : Split). read (s .ended) (s .rest)) (split-found newline text h)
 
 module _ {text : List ℕ} {k : ℕ} {c : Cursor} (n : NextLine text k c) where
-  no-end : length text < c .at → before 10 text ≡ length text
-  no-end h = omega (arith, n .place, before-le 10 text)
+  no-end : length text < c .at → before newline text ≡ length text
+  no-end h = omega (arith, n .place, before-le newline text)
 
-  has-end : c .at ≤ length text → before 10 text < length text
+  has-end : c .at ≤ length text → before newline text < length text
   has-end h = omega (arith, n .place)
 
   line-bytes : take (c .at - 1) text ≡ front text
-  line-bytes = let e : c .at - 1 ≡ before 10 text = omega (arith, n .place) in ap (λ (m : ℕ). take m text) e
+  line-bytes = let e : c .at - 1 ≡ before newline text = omega (arith, n .place) in ap (λ (m : ℕ). take m text) e
 
   bytes-behind : drop (c .at) text ≡ back text
-  bytes-behind = let e : c .at ≡ suc (before 10 text) = omega (arith, n .place) in ap (λ (m : ℕ). drop m text) e
+  bytes-behind = let e : c .at ≡ suc (before newline text) = omega (arith, n .place) in ap (λ (m : ℕ). drop m text) e
 
 -- ---- the line that starts at a place of a text
 
@@ -53,8 +53,8 @@ restFrom text at = take (length text - at) (drop at text)
 
 -- a line that ends starts at the place, and c says where behind it the next one starts
 pub record LineAt (text : List ℕ) (at : ℕ) (c : Cursor) : Type 0 where
-  pub ended : before 10 (drop at text) < length (drop at text)
-  pub place : c .at ≡ suc (before 10 (drop at text))
+  pub ended : before newline (drop at text) < length (drop at text)
+  pub place : c .at ≡ suc (before newline (drop at text))
   pub within : at + c .at ≤ length text
   pub bytes : take (c .at - 1) (restFrom text at) ≡ front (drop at text)
   pub behind : drop (at + c .at) text ≡ back (drop at text)
@@ -63,7 +63,7 @@ module _ (text : List ℕ) (at : ℕ) {k : ℕ} {c : Cursor} (n : NextLine (rest
   here : NextLine (drop at text) k c
   here = rw (to-end at text) at n
 
-  pub stops-here : length (restFrom text at) < c .at → before 10 (drop at text) ≡ length (drop at text)
+  pub stops-here : length (restFrom text at) < c .at → before newline (drop at text) ≡ length (drop at text)
   stops-here h = no-end here (rw (to-end at text) at h)
 
   pub ends-here : c .at ≤ length (restFrom text at) → LineAt text at c
@@ -80,11 +80,11 @@ module _ (text : List ℕ) (at : ℕ) {k : ℕ} {c : Cursor} (n : NextLine (rest
 -- ---- names lines
 
 module _ (names text : List ℕ) where
-  stops-first : before 10 text ≡ length text → startsWith names (lines text .ended) ≡ false
+  stops-first : before newline text ≡ length text → startsWith names (lines text .ended) ≡ false
   unfolding startsWith
   stops-first e = of-tail (λ ls tail. startsWith names ls) text e
 
-  first-is : before 10 text < length text → startsWith names (lines text .ended) ≡ sameBytes (front text) names
+  first-is : before newline text < length text → startsWith names (lines text .ended) ≡ sameBytes (front text) names
   unfolding startsWith
   first-is h = of-line (λ ls tail. startsWith names ls) text h
 
@@ -114,9 +114,10 @@ module _ (names text : List ℕ) where
         go true b = refl
         go false b = absurd (f (b refl))
 
-    ends-first : before 10 text < length text
+    ends-first : before newline text < length text
     ends-first =
-        let ended : before 10 text ≡ length text → ⊥ = λ e. true≢false (sym starts ∙ stops-first e) in omega (arith, before-le 10 text)
+        let ended : before newline text ≡ length text → ⊥ = λ e. true≢false (sym starts ∙ stops-first e) in
+        omega (arith, before-le newline text)
 
     pub behind-names : NextLine text 1 c
     behind-names = a .0 starts
@@ -140,7 +141,8 @@ module _ {X : Type 0} (read : List (List ℕ) → List ℕ → X) (values : ℕ 
       go (l ∷ ls) false e b = some l ls (lines text .rest) ∙ rw e
 
   pub named : (c .at ≡ 0 → ⊥)
-      → values (c .line) (lines (restFrom text (c .at)) .ended) (lines (restFrom text (c .at)) .rest) ≡ read (lines text .ended) (lines text .rest)
+      → values (c .line) (lines (restFrom text (c .at)) .ended) (lines (restFrom text (c .at)) .rest)
+      ≡ read (lines text .ended) (lines text .rest)
   named f =
       let n = behind-names names text a f in
       let h = ends-first names text a f in

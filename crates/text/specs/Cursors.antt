@@ -3,12 +3,12 @@ use mathlib.Core.Path.{_≡_}
 use mathlib.Core.Bool.{Bool, true, false}
 use mathlib.Core.List.{List, [], _∷_}
 use Prim.Native.Nat.{ℕ, _+_}
-use Rattle.text.specs.Lines.{lines, before, sameBytes}
+use Rattle.text.specs.Lines.{newline, lines, before, sameBytes}
 use Rattle.text.specs.declared.Cursor.{Cursor}
 
 -- the line behind the next one, which has the number k: it starts behind the byte 10, past the text where that is missing
 pub record NextLine (text : List ℕ) (k : ℕ) (c : Cursor) : Type 0 where
-  pub place : c .at ≡ before 10 text + 1
+  pub place : c .at ≡ before newline text + 1
   pub number : c .line ≡ k + 1
 
 -- "Each block is a line of names": the first of these lines has the bytes of this one

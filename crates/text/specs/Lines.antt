@@ -5,6 +5,14 @@ use Prim.Native.Nat.{ℕ, suc}
 use lib.Dec.{eqb, leb}
 use lib.ListN.{length, drop}
 
+-- "each line ended by byte 10 (decimal)"
+abbrev pub newline : ℕ
+newline = 10
+
+-- "Fields are parted by one space."
+abbrev pub space : ℕ
+space = 32
+
 -- the pieces of a list that a byte ends, and what is left behind the last of them
 pub record Split : Type 0 where
   pub ended : List (List ℕ)
@@ -19,15 +27,15 @@ unfolding push
 split sep [] = record { ended = []; rest = [] }
 split sep (b ∷ l) = let r = split sep l in cond (eqb b sep) (record { ended = [] ∷ r .ended; rest = r .rest }) (push b r)
 
--- "each line ended by byte 10 (decimal)": the complete lines, and a tail that lacks its end
+-- the complete lines, and a tail that lacks its end
 unfoldable pub lines : List ℕ → Split
 unfolding split
-lines text = split 10 text
+lines text = split newline text
 
--- "Fields are parted by one space."
+-- the fields of a line: what its spaces part
 unfoldable pub fields : List ℕ → List (List ℕ)
 unfolding split
-fields line = let s = split 32 line in s .ended ++ s .rest ∷ []
+fields line = let s = split space line in s .ended ++ s .rest ∷ []
 
 -- the fields from place i on: none past the end, where the last field was
 unfoldable pub fieldsFrom : List ℕ → ℕ → List (List ℕ)

@@ -8,6 +8,7 @@ use mathlib.Core.Bool.{cond}
 use mathlib.Core.List.{List, [], _∷_, _++_}
 use Prim.Native.Nat.{ℕ, zero, suc, _+_, _/_, _%_}
 use lib.Dec.{ltb}
+use Rattle.text.specs.Lines.{newline, space}
 
 -- the byte of a digit
 unfoldable pub digit : ℕ → ℕ
@@ -28,9 +29,9 @@ decimal n = digits (suc n) n
 unfoldable pub joined : List (List ℕ) → List ℕ
 joined [] = []
 joined (f ∷ []) = f
-joined (f ∷ g ∷ gs) = f ++ 32 ∷ joined (g ∷ gs)
+joined (f ∷ g ∷ gs) = f ++ space ∷ joined (g ∷ gs)
 
 -- "each line ended by byte 10"
 unfoldable pub endEach : List (List ℕ) → List ℕ
 endEach [] = []
-endEach (l ∷ ls) = l ++ 10 ∷ endEach ls
+endEach (l ∷ ls) = l ++ newline ∷ endEach ls

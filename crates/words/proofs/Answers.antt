@@ -1,7 +1,7 @@
 -- What an answer of a test says of what it was asked.
 use mathlib.Core.Path.{_≡_, refl, sym, subst, _∙_}
 use mathlib.Core.Logic.{_↔_}
-use mathlib.Core.Bool.{Bool, true, false, cond, not, false≢true}
+use mathlib.Core.Bool.{Bool, true, false, cond, not, _&&_, false≢true}
 use lib.Dec.{T}
 use borrow.Author.Tests.{not-true, not-false}
 
@@ -26,6 +26,11 @@ pub same-answer : (a b : Bool) → (a ≡ true → b ≡ true) → (b ≡ true �
 same-answer true b f g = sym (f refl)
 same-answer false true f g = g refl
 same-answer false false f g = refl
+
+-- two tests that are true together are each true
+pub both-true : (a b : Bool) → (a && b) ≡ true → (a ≡ true) × (b ≡ true)
+both-true true b e = (refl, e)
+both-true false b e = absurd (false≢true e)
 
 -- what holds in both cases holds
 pub either : {X : Type 0} (P : X → Type 0) (b : Bool) {x y : X} → P x → P y → P (cond b x y)

@@ -1,15 +1,15 @@
 -- Numerals: how long they are, and their digits written one behind the other.
 use mathlib.Core.List.{List, [], _∷_}
-use Prim.Native.Nat.{ℕ, _+_, _/_, _%_, _^_, _≤_, _<_}
+use Prim.Native.Nat.{ℕ, _+_, _-_, _^_, _/_, _%_, _≤_, _<_}
 use native.Mathlib.Omega.{arith}
 use lib.ListN.{length}
 use Rattle.text.specs.Print.{digit, decimal}
 use Rattle.text.proofs.Decimals.{decimal-one, decimal-more, length-iff}
-use Rattle.writing.specs.Wrote.{Wrote}
+use Rattle.writing.specs.Wrote.{mostWordDigits, Wrote}
 use Rattle.writing.proofs.Wrote.{wrote-more}
 
-pub length-word : (n : ℕ) → n < 2 ^ 64 → length (decimal n) ≤ 20
-length-word n h = length-iff 19 n .0 (omega arith)
+pub length-word : (n : ℕ) → n < 2 ^ 64 → length (decimal n) ≤ mostWordDigits
+length-word n h = length-iff (mostWordDigits - 1) n .0 (omega arith)
 
 -- ---- digits written
 

@@ -1,2 +1,3 @@
+-- The laws of what writing leaves in a buffer.
 pub mod Wrote
 pub mod Decimal

@@ -34,8 +34,8 @@ wrote-more {a} {b} {bs = bs} {cs = cs} {i = i} {j = j} v w =
     }
 
 -- the byte of `bs` at place i behind those before it
-pub wrote-next : {a b c : List ℕ} {at j k : ℕ} (bs : List ℕ) (i : ℕ) → Wrote a at (take i bs) b j → Wrote b j (getD bs i 0 ∷ []) c k → i < length bs
-    → Wrote a at (take (i + 1) bs) c k
+pub wrote-next : {a b c : List ℕ} {at j k : ℕ} (bs : List ℕ) (i : ℕ) → Wrote a at (take i bs) b j → Wrote b j (getD bs i 0 ∷ []) c k
+    → i < length bs → Wrote a at (take (i + 1) bs) c k
 wrote-next bs i v w h = rw (add-one i, take-suc bs i 0) (wrote-more v w)
 
 pub wrote-all : {a b : List ℕ} {at j : ℕ} (bs : List ℕ) (i : ℕ) → Wrote a at (take i bs) b j → length bs ≤ i → Wrote a at bs b j

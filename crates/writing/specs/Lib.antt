@@ -1,1 +1,2 @@
+-- What writing to a buffer leaves in it.
 pub mod Wrote

@@ -5,7 +5,7 @@ ghost use mathlib.Core.List.{[], _∷_, _++_};
 ghost use Prim.Native.Nat.{_+_, _≤_, _<_};
 ghost use lib.ListN.{length, set};
 ghost use Rattle.text.specs.Print.{decimal};
-ghost use Rattle.writing.specs.Wrote.{Wrote};
+ghost use Rattle.writing.specs.Wrote.{mostFieldBytes, Wrote};
 
 // One byte.
 pub fn put_byte(out: &mut [u8], at: usize, b: u8) -> usize
@@ -42,10 +42,10 @@ fn put_decimal(out: &mut [u8], at: usize, n: u64) -> usize
     put_byte(out, to, 48 + (n % 10) as u8)
 }
 
-// A number and the byte that ends its field. The largest number has 20 digits.
+// A number and the byte that ends its field.
 pub fn put_field(out: &mut [u8], at: usize, n: u64, end: u8) -> usize
-    requires { ⌜ at + 21 ≤ length (now out) ⌝ }
-    ensures { λ r. ⌜ Wrote (now (out .entry)) at (decimal n ++ end ∷ []) (now (out .exit)) r × (r ≤ at + 21) ⌝ }
+    requires { ⌜ at + mostFieldBytes ≤ length (now out) ⌝ }
+    ensures { λ r. ⌜ Wrote (now (out .entry)) at (decimal n ++ end ∷ []) (now (out .exit)) r × (r ≤ at + mostFieldBytes) ⌝ }
 {
     let to = put_decimal(out, at, n);
     put_byte(out, to, end)

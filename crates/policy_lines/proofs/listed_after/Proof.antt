@@ -1,12 +1,12 @@
--- `entries::listed_after`: behind the last field there is none.
+-- `policy_lines::listed_after`: behind the last field there is none.
 use mathlib.Core.List.{List}
 use mathlib.Core.Path.{sym, ap, _∙_}
 use Prim.Native.Nat.{ℕ}
 use borrow.Author.Needs.{needs}
 use Rattle.text.specs.Numeral.{numeral}
+use Rattle.text.proofs.FieldsFrom.{from-end, from-rest}
 use Rattle.model.specs.Fields.{every}
 use Rattle.policy_lines.specs.Value.{viewListValue}
-use Rattle.policy_lines.proofs.Numbered.{from-end, from-rest}
 use Rattle.policy_lines.proofs.ViewsRead.{none-said}
 use Rattle.policy_lines.proofs.listed_after.Statement.{statement}
 use Rattle.policy_lines.proofs.listed_after.Tie as tie
@@ -36,7 +36,8 @@ none-listed-requires c κs = search needs
 
 returns-2 : tie.Need-returns-2
 returns-2 c =
-    c .none-listed .ensures ∙ none-said ∙ ap (λ (fs : List (List ℕ)). viewListValue (every numeral fs)) (sym (from-end _ _ (c .before .if1 .left)))
+    c .none-listed .ensures ∙ none-said
+    ∙ ap (λ (fs : List (List ℕ)). viewListValue (every numeral fs)) (sym (from-end _ _ (c .before .if1 .left)))
 
 pub listed-after-spec : {M : Type 1} → statement M
 listed-after-spec =

@@ -1,13 +1,13 @@
--- `entries::read_table`: the first space parts the number from the columns.
+-- `policy_lines::read_table`: the first space parts the number from the columns.
 use mathlib.Core.Path.{_∙_}
 use Prim.Native.Nat.{_+_, _-_, _<_}
 use native.Mathlib.Omega.{arith}
 use borrow.Author.Needs.{needs}
 use lib.ListN.{length, take, drop}
-use Rattle.text.proofs.Lines.{before-le}
 use Rattle.text.specs.Numeral.{numeral}
 use Rattle.text.specs.Value.{numeralValue}
-use Rattle.text.proofs.Parts.{first-length}
+use Rattle.text.specs.Lines.{space}
+use Rattle.text.proofs.Parts.{first-length, first-inside}
 use Rattle.model.proofs.Tags.{tag-formed}
 use Rattle.model.specs.Fields.{tableLine}
 use Rattle.policy_lines.proofs.Numbered.{NumberRead}
@@ -25,7 +25,7 @@ returns : tie.Need-returns
 returns c = c .no-table .ensures ∙ table-alone _ (c .before .before .first .ensures) (c .before .if1 .taken)
 
 slice-aggregate-read-numeral : tie.Need-slice-aggregate-read-numeral
-slice-aggregate-read-numeral c = first-length 32 _ _ (c .before .before .first .ensures)
+slice-aggregate-read-numeral c = first-length space _ _ (c .before .before .first .ensures)
 
 read-numeral-requires : tie.Need-read-numeral-requires
 read-numeral-requires c κs = search needs
@@ -43,10 +43,10 @@ returns-2 c =
     ∙ table-unnumbered _ (d .before .before .before .first .ensures) (d .read-numeral .ensures) (c .before .enum-told .given .1)
 
 -- the columns follow the first space
-parted : (c : tie.At-match-keys2) → c .before .before .before .before .first .result < length (c .before .before .before .before .before .before .args .line .now)
-parted c =
+parted : (c : tie.At-match-keys2) →
     let f = c .before .before .before .before in
-    omega (arith, f .first .ensures, before-le 32 (f .before .before .args .line .now), c .before .before .before .if1 .left)
+    f .first .result < length (f .before .before .args .line .now)
+parted c = let t = c .before .before .before in first-inside space _ _ (t .before .first .ensures) (t .if1 .left)
 
 add-from : tie.Need-add-from
 add-from c = omega (arith, parted c)
@@ -70,9 +70,11 @@ no-table-requires-3 : tie.Need-no-table-requires-3
 no-table-requires-3 c κs = search needs
 
 whole : (c : tie.After-read-numeral2) →
-    let s = c .before .before .before .before .before .before .before .before .args .line .now in
-    let n = c .before .before .before .before .before .before .first .result in
-    NumberRead (tableLine s) (c .before .before .before .read-numeral .result) (numeral (take (length s - (n + 1)) (drop (n + 1) s)))
+    let d = c .before .before .before in
+    let f = d .before .before .before in
+    let s = f .before .before .args .line .now in
+    let n = f .first .result in
+    NumberRead (tableLine s) (d .read-numeral .result) (numeral (take (length s - (n + 1)) (drop (n + 1) s)))
 whole c =
     let d = c .before .before .before in
     table-read _ (d .before .before .before .first .ensures) (d .read-numeral .ensures) (parted (c .before .before))
@@ -94,8 +96,8 @@ unfolding numeralValue
 returns-4 c =
     let d = c .before .before .before in
     c .no-table4 .ensures
-    ∙ table-past (whole (d .before)) (d .before .read-numeral2 .ensures) (tag-formed _ (d .before .before .before .match .keys2)) (tag-formed _ (d .match2 .keys2))
-    (c .before .before .up-to .ensures) (c .before .if2 .taken)
+    ∙ table-past (whole (d .before)) (d .before .read-numeral2 .ensures) (tag-formed _ (d .before .before .before .match .keys2))
+    (tag-formed _ (d .match2 .keys2)) (c .before .before .up-to .ensures) (c .before .if2 .taken)
 
 up-to-requires-2 : tie.Need-up-to-requires-2
 up-to-requires-2 c κs = search needs
@@ -108,8 +110,8 @@ unfolding numeralValue
 returns-5 c =
     let d = c .before .before .before .before .before in
     c .no-table5 .ensures
-    ∙ columns-past (whole (d .before)) (d .before .read-numeral2 .ensures) (tag-formed _ (d .before .before .before .match .keys2)) (tag-formed _ (d .match2 .keys2))
-    (c .before .before .up-to2 .ensures) (c .before .if3 .taken)
+    ∙ columns-past (whole (d .before)) (d .before .read-numeral2 .ensures) (tag-formed _ (d .before .before .before .match .keys2))
+    (tag-formed _ (d .match2 .keys2)) (c .before .before .up-to2 .ensures) (c .before .if3 .taken)
 
 returns-6 : tie.Need-returns-6
 unfolding numeralValue

@@ -1,12 +1,12 @@
--- `entries::read_view`: the first space parts the number from the line of terms.
+-- `policy_lines::read_view`: the first space parts the number from the line of terms.
 use mathlib.Core.Path.{_∙_}
 use Prim.Native.Nat.{_+_, _-_, _<_}
 use native.Mathlib.Omega.{arith}
 use borrow.Author.Needs.{needs}
 use borrow.Author.Tests.{not-true, not-false}
 use lib.ListN.{length, take, drop}
-use Rattle.text.proofs.Lines.{before-le}
-use Rattle.text.proofs.Parts.{first-length}
+use Rattle.text.specs.Lines.{space}
+use Rattle.text.proofs.Parts.{first-length, first-inside}
 use Rattle.model.proofs.Tags.{tag-formed}
 use Rattle.model.specs.Fields.{queryLine, viewLine}
 use Rattle.policy_lines.proofs.Numbered.{NumberRead}
@@ -24,7 +24,7 @@ returns : tie.Need-returns
 returns c = c .no-view .ensures ∙ view-alone _ (c .before .before .first .ensures) (c .before .if1 .taken)
 
 slice-aggregate-read-numeral : tie.Need-slice-aggregate-read-numeral
-slice-aggregate-read-numeral c = first-length 32 _ _ (c .before .before .first .ensures)
+slice-aggregate-read-numeral c = first-length space _ _ (c .before .before .first .ensures)
 
 read-numeral-requires : tie.Need-read-numeral-requires
 read-numeral-requires c κs = search needs
@@ -42,10 +42,10 @@ returns-2 c =
     ∙ view-unnumbered _ (d .before .before .before .first .ensures) (d .read-numeral .ensures) (c .before .enum-told .given .1)
 
 -- a line of terms follows the first space
-parted : (c : tie.At-match-keys2) → c .before .before .before .before .first .result < length (c .before .before .before .before .before .before .args .line .now)
-parted c =
+parted : (c : tie.At-match-keys2) →
     let f = c .before .before .before .before in
-    omega (arith, f .first .ensures, before-le 32 (f .before .before .args .line .now), c .before .before .before .if1 .left)
+    f .first .result < length (f .before .before .args .line .now)
+parted c = let t = c .before .before .before in first-inside space _ _ (t .before .first .ensures) (t .if1 .left)
 
 add-from : tie.Need-add-from
 add-from c = omega (arith, parted c)
@@ -66,9 +66,11 @@ no-view-requires-3 : tie.Need-no-view-requires-3
 no-view-requires-3 c κs = search needs
 
 whole : (c : tie.After-read-line) →
-    let s = c .before .before .before .before .before .before .before .before .args .line .now in
-    let n = c .before .before .before .before .before .before .first .result in
-    NumberRead (viewLine s) (c .before .before .before .read-numeral .result) (queryLine (take (length s - (n + 1)) (drop (n + 1) s)))
+    let d = c .before .before .before in
+    let f = d .before .before .before in
+    let s = f .before .before .args .line .now in
+    let n = f .first .result in
+    NumberRead (viewLine s) (d .read-numeral .result) (queryLine (take (length s - (n + 1)) (drop (n + 1) s)))
 whole c =
     let d = c .before .before .before in
     view-read _ (d .before .before .before .first .ensures) (d .read-numeral .ensures) (parted (c .before .before))
@@ -96,9 +98,10 @@ no-view-requires-5 c κs = search needs
 
 returns-5 : tie.Need-returns-5
 returns-5 c =
-    let d = c .before .before .before .before .before .before in
+    let ok = c .before .before .before .before in
+    let d = ok .before .before in
     c .no-view5 .ensures
-    ∙ view-past (whole d) (d .read-line .ensures) (not-false _ (c .before .before .before .before .if2 .left)) (tag-formed _ (d .before .before .match .keys2))
+    ∙ view-past (whole d) (d .read-line .ensures) (not-false _ (ok .if2 .left)) (tag-formed _ (d .before .before .match .keys2))
     (c .before .before .up-to .ensures) (c .before .if4 .taken)
 
 returns-6 : tie.Need-returns-6

@@ -1,15 +1,17 @@
--- `entries::read_views`: the views passed are those of the fields before `at`; each turn passes one field.
+-- `policy_lines::read_views`: the views passed are those of the fields before `at`; each turn passes one field.
 use mathlib.Core.Logic.{⊎-elim}
 use mathlib.Core.Path.{_∙_}
 use Prim.Native.Nat.{suc, _-_}
 use native.Mathlib.Omega.{arith}
 use borrow.Author.Needs.{needs}
 use lib.ListN.{length, take, drop}
+use Rattle.text.specs.Lines.{space}
 use Rattle.text.proofs.Parts.{first-length}
+use Rattle.text.proofs.FieldsFrom.{field-at, field-room}
 use Rattle.model.proofs.Tags.{tag-formed}
 use Rattle.text.specs.Numeral.{numeral}
 use Rattle.model.specs.Limits.{mostViews, upTo}
-use Rattle.model.proofs.FieldsRead.{read-none, next-field, next-room}
+use Rattle.model.proofs.FieldsRead.{read-none}
 use Rattle.policy_lines.specs.Value.{viewList}
 use Rattle.policy_lines.proofs.ViewsRead.{ViewsRead, NextView, next-malformed, next-outside, next-bounds, next-within, all-outside, all-within}
 use Rattle.policy_lines.proofs.read_views.Statement.{statement}
@@ -40,7 +42,7 @@ first-requires : tie.Need-first-requires Inv-loop μ-loop
 first-requires c κs = search needs
 
 slice-aggregate-read-numeral : tie.Need-slice-aggregate-read-numeral Inv-loop μ-loop
-slice-aggregate-read-numeral c = first-length 32 _ _ (c .before .first .ensures)
+slice-aggregate-read-numeral c = first-length space _ _ (c .before .first .ensures)
 
 read-numeral-requires : tie.Need-read-numeral-requires Inv-loop μ-loop
 read-numeral-requires c κs = search needs
@@ -58,7 +60,7 @@ next : (c : tie.After-first Inv-loop μ-loop) →
     NextView s (l .loop .l) (l .loop .outside) (l .loop .at) n (take n (take (length s - l .loop .at) (drop (l .loop .at) s)))
 next c =
     let t = c .before .before in
-    next-field numeral (upTo mostViews) viewList (t .before .loop .inv) (omega (arith, t .loop-test .taken)) (c .first .ensures)
+    record { passed = t .before .loop .inv; here = field-at (omega (arith, t .loop-test .taken)) (c .first .ensures) }
 
 returns : tie.Need-returns Inv-loop μ-loop
 returns c =
@@ -72,20 +74,21 @@ with-view-requires : tie.Need-with-view-requires Inv-loop μ-loop
 with-view-requires c κs = next-bounds _ (c .before .up-to .ensures) (c .if1 .left)
 
 add-at : tie.Need-add-at Inv-loop μ-loop
-add-at c = omega (arith, next-room numeral (upTo mostViews) viewList (next (c .before .before .before .before .before)))
+add-at c = omega (arith, field-room (next (c .before .before .before .before .before) .here))
 
 add-at-2 : tie.Need-add-at-2 Inv-loop μ-loop
-add-at-2 c = omega (arith, next-room numeral (upTo mostViews) viewList (next (c .before .before .before .before .before)))
+add-at-2 c = omega (arith, field-room (next (c .before .before .before .before .before) .here))
 
 loop-less : tie.Need-loop-less Inv-loop μ-loop
-loop-less c = omega (arith, next-room numeral (upTo mostViews) viewList (next (c .before .before .before .before .before)))
+loop-less c = omega (arith, field-room (next (c .before .before .before .before .before) .here))
 
 loop-again : tie.Need-loop-again Inv-loop μ-loop
 loop-again c =
     let f = c .before .before .before in
     let x = next (f .before .before) in
     ⊎-elim
-    (λ w. rw (w .1, w .2) (next-outside x (f .read-numeral .ensures) (tag-formed _ (c .before .before .match .keys2)) (c .before .up-to .ensures) (w .0 .taken)))
+    (λ w. rw (w .1, w .2)
+    (next-outside x (f .read-numeral .ensures) (tag-formed _ (c .before .before .match .keys2)) (c .before .up-to .ensures) (w .0 .taken)))
     (λ w. rw (w .2, w .3) (next-within x (f .read-numeral .ensures) (c .before .up-to .ensures) (w .0 .left) (w .1 .ensures)))
     (c .if1 .came)
 
@@ -93,7 +96,9 @@ no-views-requires-2 : tie.Need-no-views-requires-2 Inv-loop μ-loop
 no-views-requires-2 c κs = search needs
 
 returns-2 : tie.Need-returns-2 Inv-loop μ-loop
-returns-2 c = c .no-views2 .ensures ∙ all-outside (c .before .before .before .loop .inv) (c .before .before .loop-test .left) (c .before .if2 .taken)
+returns-2 c =
+    let t = c .before .before in
+    c .no-views2 .ensures ∙ all-outside (t .before .loop .inv) (t .loop-test .left) (c .before .if2 .taken)
 
 returns-3 : tie.Need-returns-3 Inv-loop μ-loop
 returns-3 c = all-within (c .before .before .loop .inv) (c .before .loop-test .left) (c .if2 .left)

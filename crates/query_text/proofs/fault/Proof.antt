@@ -1,7 +1,6 @@
--- Each answer is the first check that the line fails; without one, it is no ninth line and within its limits.
+-- `query_text::fault`: each answer is the first check that the line fails; without one, it is no ninth line and within its limits.
 use mathlib.Core.Path.{_∙_}
 use native.Mathlib.Omega.{arith}
-use Rattle.model.specs.Limits.{mostLines}
 use Rattle.query_text.proofs.Faults.{ninth, past-limit, checked, is-within, is-good}
 use Rattle.query_text.proofs.fault.Statement.{statement}
 use Rattle.query_text.proofs.fault.Tie as tie

@@ -80,7 +80,8 @@ fault-is c widths t =
     c .fault .ensures .0 widths (w .earlier) (says (c .before) .0) t (counted w) (w .marked) (line-says (c .before))
 
 -- without a fault it is no ninth line, and within its limits
-faultless : (c : tie.Else3 Inv-loop μ-loop) → (start (c .before) .loop .q .count < mostLines) × (of-well (c .before .before) .read-line .result .outside ≡ false)
+faultless : (c : tie.Else3 Inv-loop μ-loop)
+    → (start (c .before) .loop .q .count < mostLines) × (of-well (c .before .before) .read-line .result .outside ≡ false)
 faultless c = c .before .fault .ensures .1 (c .if3 .left)
 
 abbrev of-last : tie.After-struct-known6 Inv-loop μ-loop → tie.Else3 Inv-loop μ-loop
@@ -150,7 +151,9 @@ returns-3 c =
     let a = says (f .before) in
     λ widths t.
     c .refused3 .ensures
-    ∙ ap readingValue (faulty (start f .loop .inv) (ends (of-fault f)) (a .0) (a .1) (f .fault .result) (c .before .if3 .taken) widths t (fault-is f widths t))
+    ∙ ap readingValue
+    (faulty (start f .loop .inv) (ends (of-fault f)) (a .0) (a .1) (f .fault .result) (c .before .if3 .taken) widths t
+    (fault-is f widths t))
 
 mul-t18 : tie.Need-mul-t18 Inv-loop μ-loop
 mul-t18 c = omega (arith, faultless (c .before) .0)
@@ -183,7 +186,8 @@ refused-requires-4 c κs = search needs
 
 returns-4 : tie.Need-returns-4 Inv-loop μ-loop
 returns-4 c = λ widths t.
-    c .refused4 .ensures ∙ ap readingValue (empty (c .before .before .before .loop .inv) widths t (c .before .before .loop-test .left) (c .before .if4 .taken))
+    let l = c .before .before in
+    c .refused4 .ensures ∙ ap readingValue (empty (l .before .loop .inv) widths t (l .loop-test .left) (c .before .if4 .taken))
 
 returns-5 : tie.Need-returns-5 Inv-loop μ-loop
 returns-5 c = λ widths t. done (c .before .before .loop .inv) widths t (c .before .loop-test .left) (c .if4 .left)

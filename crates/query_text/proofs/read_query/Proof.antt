@@ -51,7 +51,8 @@ refused-requires-2 c κs = search needs
 returns-2 : tie.Need-returns-2
 returns-2 c =
     let d = c .before .before .before in
-    λ widths t. c .refused2 .ensures ∙ ap readingValue (misnamed widths (text d) (d .before .before .if1 .left) (after d) (c .before .if2 .taken))
+    λ widths t.
+    c .refused2 .ensures ∙ ap readingValue (misnamed widths (text d) (d .before .before .if1 .left) (after d) (c .before .if2 .taken))
 
 sub-read-lines : tie.Need-sub-read-lines
 sub-read-lines c = within c
@@ -72,7 +73,8 @@ returns-3 : tie.Need-returns-3
 returns-3 c =
     let e = c .before .before in
     let d = of-names e in
-    λ widths t. c .read-lines .ensures widths t ∙ ap readingValue (well-named widths (text d) (d .before .before .if1 .left) (after d) (e .if2 .left))
+    λ widths t.
+    c .read-lines .ensures widths t ∙ ap readingValue (well-named widths (text d) (d .before .before .if1 .left) (after d) (e .if2 .left))
 
 pub read-query-spec : {M : Type 1} → statement M
 read-query-spec =

@@ -2,6 +2,7 @@
 use mathlib.Core.Path.{refl}
 use native.Mathlib.Omega.{arith}
 use borrow.Author.Needs.{needs}
+use Rattle.text.specs.Lines.{newline}
 use Rattle.text.proofs.Lines.{before-le}
 use Rattle.text.proofs.behind_line.Statement.{statement}
 use Rattle.text.proofs.behind_line.Tie as tie
@@ -10,7 +11,7 @@ first-requires : tie.Need-first-requires
 first-requires c κs = search needs
 
 add-t4 : tie.Need-add-t4
-add-t4 c = omega (arith, c .first .ensures, before-le 10 (c .before .before .args .rest .now))
+add-t4 c = omega (arith, c .first .ensures, before-le newline (c .before .before .args .rest .now))
 
 add-t5 : tie.Need-add-t5
 add-t5 c = search needs

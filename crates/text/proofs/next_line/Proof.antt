@@ -137,7 +137,8 @@ module _ {M : Type 1} (𝓤 : URA M) (H : Heap 𝓤) (A : Atoms 𝓤) (W : Given
         pass1 ! (init ! 4 refl typed) $
         pass1 ! (init ! 2 refl (tt, record { fits = fits })) $ pass0 ! $
         -- [the locals from _3 down, each with what frees it; what the function has on entry]: the reader is made, and the call
-        assigns ! (agg ! (and-then ! (load ! (from ! (stop !)) (look ! 4 refl)) (and-then ! (load ! (from ! (stop !)) (look ! 2 refl)) (no-more !))))
+        assigns ! (agg ! (and-then ! (load ! (from ! (stop !)) (look ! 4 refl))
+        (and-then ! (load ! (from ! (stop !)) (look ! 2 refl)) (no-more !))))
         (from ! (stop !)) (init ! 0 refl (tt, (typed .1, (record { fits = fits }, tt)))) $
         move ! (8 ∷ []) $ use1 W (raw (Next 𝓤 H A at-mem run .pre to-next)) (asked ok) $
         calls-at ! fm (Next 𝓤 H A at-mem run) known to-next

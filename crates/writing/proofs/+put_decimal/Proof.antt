@@ -83,7 +83,8 @@ put-decimal-put-decimal-requires : (t : ℕ) → put-decimal-lts.Need-put-decima
 put-decimal-put-decimal-requires t c κs =
     let s = c .before .before .before in
     let p : s .args .at + length (decimal (s .args .n)) ≤ length (s .args .out .now) = s .pre .1 in
-    let h : s .args .at + length (decimal (s .args .n / 10)) ≤ length (s .args .out .now) = omega (arith, length-more (s .args .n) (c .before .if1 .left)) in
+    let h : s .args .at + length (decimal (s .args .n / 10)) ≤ length (s .args .out .now)
+    = omega (arith, length-more (s .args .n) (c .before .if1 .left)) in
     (omega arith, h)
 
 put-decimal-cast-put-byte-2 : (t : ℕ) → put-decimal-lts.Need-cast-put-byte-2 (

@@ -1,4 +1,4 @@
--- The loop's invariant: the first i bytes are written.
+-- `writing::put_bytes`, by its loop's invariant: the first i bytes are written.
 use Prim.Native.Nat.{_+_, _-_, _≤_, _<_}
 use native.Mathlib.Omega.{arith}
 use mathlib.Core.Path.{_≡_}
@@ -16,15 +16,18 @@ abbrev μ-loop : tie.MeasureT-loop
 μ-loop out₀ at bytes i₀ to₀ out i to = length bytes - i
 
 -- as many bytes are written as are passed, and the next has room
-room : (c : tie.After-shared-slice-known2 Inv-loop μ-loop) → c .before .before .before .loop .to < length (c .before .before .before .loop .out)
+room : (c : tie.After-shared-slice-known2 Inv-loop μ-loop) →
+    let l = c .before .before .before in
+    l .loop .to < length (l .loop .out)
 room c =
     let l = c .before .before .before in
     let s = l .before .before .before in
-    let p : s .args .at + length (s .args .bytes .now) ≤ length (s .args .out .now) = s .pre in
-    let n : length (take (l .loop .i) (s .args .bytes .now)) ≡ l .loop .i = length-take-le (l .loop .i) (s .args .bytes .now) (l .loop .inv .1) in
+    let bytes = s .args .bytes .now in
+    let p : s .args .at + length bytes ≤ length (s .args .out .now) = s .pre in
+    let n : length (take (l .loop .i) bytes) ≡ l .loop .i = length-take-le (l .loop .i) bytes (l .loop .inv .1) in
     let z : length (l .loop .out) ≡ length (s .args .out .now) = l .loop .inv .0 .size in
-    let t : l .loop .to ≡ s .args .at + length (take (l .loop .i) (s .args .bytes .now)) = l .loop .inv .0 .next in
-    let h : l .loop .i < length (s .args .bytes .now) = c .before .before .loop-test .taken in
+    let t : l .loop .to ≡ s .args .at + length (take (l .loop .i) bytes) = l .loop .inv .0 .next in
+    let h : l .loop .i < length bytes = c .before .before .loop-test .taken in
     omega arith
 
 loop-holds : tie.Need-loop-holds Inv-loop μ-loop
@@ -46,7 +49,8 @@ loop-again : tie.Need-loop-again Inv-loop μ-loop
 loop-again c =
     let k = c .before .before .before in
     let t = k .before .before in
-    (wrote-next _ _ (t .before .loop .inv .0) (wrote-byte (room k) (c .before .before .put-byte .ensures)) (t .loop-test .taken), omega arith)
+    let byte = wrote-byte (room k) (c .before .before .put-byte .ensures) in
+    (wrote-next _ _ (t .before .loop .inv .0) byte (t .loop-test .taken), omega arith)
 
 same-length : tie.Need-same-length Inv-loop μ-loop
 same-length c = c .before .loop .inv .0 .size

@@ -5,13 +5,16 @@ use native.Mathlib.Omega.{arith}
 use borrow.Author.Needs.{needs}
 use lib.ListN.{length}
 use Rattle.text.specs.Print.{decimal}
+use Rattle.writing.specs.Wrote.{mostFieldBytes}
 use Rattle.writing.proofs.Wrote.{wrote-byte, wrote-more}
 use Rattle.writing.proofs.Decimal.{length-word}
 use Rattle.writing.proofs.put_field.Statement.{statement}
 use Rattle.writing.proofs.put_field.Tie as tie
 
 room : (c : tie.Start) → c .args .at + length (decimal (c .args .n)) ≤ length (c .args .out .now)
-room c = let p : c .args .at + 21 ≤ length (c .args .out .now) = c .pre in omega (arith, length-word (c .args .n) (c .fits .n .fits))
+room c =
+    let p : c .args .at + mostFieldBytes ≤ length (c .args .out .now) = c .pre in
+    omega (arith, length-word (c .args .n) (c .fits .n .fits))
 
 put-decimal-requires : tie.Need-put-decimal-requires
 put-decimal-requires c κs = room (c .before .before)
@@ -20,7 +23,7 @@ put-byte-requires : tie.Need-put-byte-requires
 put-byte-requires c κs =
     let d = c .before .before .before in
     let s = d .before .before .before in
-    let p : s .args .at + 21 ≤ length (s .args .out .now) = s .pre in
+    let p : s .args .at + mostFieldBytes ≤ length (s .args .out .now) = s .pre in
     let e : d .put-decimal .result ≡ s .args .at + length (decimal (s .args .n)) = d .put-decimal .ensures .next in
     let z = d .put-decimal .ensures .size in
     omega (arith, length-word (s .args .n) (s .fits .n .fits))

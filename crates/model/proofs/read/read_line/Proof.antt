@@ -5,8 +5,8 @@ use native.Mathlib.Omega.{arith}
 use borrow.Author.Needs.{needs}
 use borrow.Author.Tests.{not-true, not-false}
 use lib.ListN.{length}
-use Rattle.text.proofs.Lines.{before-le}
-use Rattle.text.proofs.Parts.{first-length}
+use Rattle.text.specs.Lines.{space}
+use Rattle.text.proofs.Parts.{first-length, first-inside}
 use Rattle.model.proofs.Tags.{tag-formed}
 use Rattle.model.proofs.LineRead.{LineRead, line-alone, line-unnumbered, line-read, line-malformed, line-table-past, line-terms-past, line-within}
 use Rattle.model.proofs.read.read_line.Statement.{statement}
@@ -22,7 +22,7 @@ returns : tie.Need-returns
 returns c = c .blank .ensures ∙ line-alone _ (sym (c .before .before .first .ensures) ∙ c .before .if1 .taken)
 
 slice-aggregate-read-numeral : tie.Need-slice-aggregate-read-numeral
-slice-aggregate-read-numeral c = first-length 32 _ _ (c .before .before .first .ensures)
+slice-aggregate-read-numeral c = first-length space _ _ (c .before .before .first .ensures)
 
 read-numeral-requires : tie.Need-read-numeral-requires
 read-numeral-requires c κs = search needs
@@ -41,10 +41,10 @@ returns-2 c =
     (c .before .enum-told .given .1)
 
 -- terms follow the first space
-parted : (c : tie.At-match-keys2) → c .before .before .before .before .first .result < length (c .before .before .before .before .before .before .args .s .now)
-parted c =
+parted : (c : tie.At-match-keys2) →
     let f = c .before .before .before .before in
-    omega (arith, f .first .ensures, before-le 32 (f .before .before .args .s .now), c .before .before .before .if1 .left)
+    f .first .result < length (f .before .before .args .s .now)
+parted c = let t = c .before .before .before in first-inside space _ _ (t .before .first .ensures) (t .if1 .left)
 
 add-from : tie.Need-add-from
 add-from c = omega (arith, parted c)
@@ -62,11 +62,12 @@ read-terms-requires : tie.Need-read-terms-requires
 read-terms-requires c κs = search needs
 
 whole : (c : tie.After-read-terms) →
-    LineRead (c .before .before .before .before .before .before .before .before .args .s .now)
-    (c .before .before .before .read-numeral .result) (c .read-terms .result)
+    let d = c .before .before .before in
+    LineRead (d .before .before .before .before .before .args .s .now) (d .read-numeral .result) (c .read-terms .result)
 whole c =
     let d = c .before .before .before in
-    line-read _ (d .before .before .before .first .ensures) (d .before .before .if1 .left) (d .read-numeral .ensures) (c .read-terms .ensures)
+    let t = d .before .before in
+    line-read _ (t .before .first .ensures) (t .if1 .left) (d .read-numeral .ensures) (c .read-terms .ensures)
 
 returns-3 : tie.Need-returns-3
 returns-3 c = line-malformed (whole (c .before .before)) (not-true _ (c .if2 .taken))
@@ -80,8 +81,9 @@ blank-requires-3 c κs = search needs
 returns-4 : tie.Need-returns-4
 returns-4 c =
     let d = c .before .before .before in
+    let r = d .before .before in
     c .blank3 .ensures
-    ∙ line-table-past (whole (d .before .before)) (not-false _ (d .if2 .left)) (tag-formed _ (d .before .before .before .before .match .keys2))
+    ∙ line-table-past (whole r) (not-false _ (d .if2 .left)) (tag-formed _ (r .before .before .match .keys2))
     (c .before .before .up-to .ensures) (c .before .if3 .taken)
 
 returns-5 : tie.Need-returns-5

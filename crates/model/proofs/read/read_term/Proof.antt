@@ -49,10 +49,13 @@ within-requires : tie.Need-within-requires
 within-requires c κs = search needs
 
 -- the field by what `mark_of` and `read_numeral` gave
-by-mark : (c : tie.After-read-numeral) → marked (c .before .before .before .mark-of .result) (c .read-numeral .result) ≡ fieldValue (term (c .before .before .before .before .before .before .before .args .field .now))
+by-mark : (c : tie.After-read-numeral) →
+    let k = c .before .before .before in
+    marked (k .mark-of .result) (c .read-numeral .result) ≡ fieldValue (term (k .before .before .before .before .args .field .now))
 by-mark c =
-    let f = c .before .before .before .before .before .before .before .args .field .now in
-    let m : c .before .before .before .mark-of .result ≡ markOf (getD f 0 0) = c .before .before .before .mark-of .ensures in
+    let k = c .before .before .before in
+    let f = k .before .before .before .before .args .field .now in
+    let m : k .mark-of .result ≡ markOf (getD f 0 0) = k .mark-of .ensures in
     ap₂ marked m (c .read-numeral .ensures ∙ ap numeralValue (to-end 1 f))
     ∙ marked-read f (omega arith) (λ e. c .before .before .if2 .left (m ∙ e))
 

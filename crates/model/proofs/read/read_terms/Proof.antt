@@ -5,11 +5,9 @@ use Prim.Native.Nat.{suc, _-_}
 use native.Mathlib.Omega.{arith}
 use borrow.Author.Needs.{needs}
 use lib.ListN.{length, take, drop}
+use Rattle.text.specs.Lines.{space}
 use Rattle.text.proofs.Parts.{first-length}
-use Rattle.model.specs.Fields.{term}
-use Rattle.model.specs.Limits.{termWithin}
-use Rattle.model.specs.Parsed.{goodValue}
-use Rattle.model.proofs.FieldsRead.{next-field, next-room}
+use Rattle.text.proofs.FieldsFrom.{field-at, field-room}
 use Rattle.model.proofs.TermsRead.{TermsRead, NextTerm, no-terms, next-malformed, next-outside, next-small, next-within, all-outside, all-within}
 use Rattle.model.proofs.read.read_terms.Statement.{statement}
 use Rattle.model.proofs.read.read_terms.Tie as tie
@@ -39,7 +37,7 @@ first-requires : tie.Need-first-requires Inv-loop μ-loop
 first-requires c κs = search needs
 
 slice-aggregate-read-term : tie.Need-slice-aggregate-read-term Inv-loop μ-loop
-slice-aggregate-read-term c = first-length 32 _ _ (c .before .first .ensures)
+slice-aggregate-read-term c = first-length space _ _ (c .before .first .ensures)
 
 read-term-requires : tie.Need-read-term-requires Inv-loop μ-loop
 read-term-requires c κs = search needs
@@ -55,7 +53,9 @@ next : (c : tie.After-first Inv-loop μ-loop) →
     let s = l .before .before .before .args .s .now in
     let n = c .first .result in
     NextTerm s (l .loop .p) (l .loop .outside) (l .loop .at) n (take n (take (length s - l .loop .at) (drop (l .loop .at) s)))
-next c = next-field term termWithin (goodValue 0) (c .before .before .before .loop .inv .terms) (omega (arith, c .before .before .loop-test .taken)) (c .first .ensures)
+next c =
+    let t = c .before .before in
+    record { passed = t .before .loop .inv .terms; here = field-at (omega (arith, t .loop-test .taken)) (c .first .ensures) }
 
 returns : tie.Need-returns Inv-loop μ-loop
 returns c =
@@ -71,16 +71,17 @@ enum-known-t c = search needs
 with-term-requires : tie.Need-with-term-requires Inv-loop μ-loop
 with-term-requires c κs =
     let f = c .before .before .before in
-    let x = next (f .before .before) in (
-      omega (arith, f .before .before .before .before .before .loop .inv .few, x .inside, f .before .before .before .before .before .before .before .before .pre),
+    let x = next (f .before .before) in
+    let l = f .before .before .before .before .before in (
+      omega (arith, l .loop .inv .few, x .here .inside, l .before .before .before .pre),
       next-small x (sym (c .before .t .given .1) ∙ f .read-term .ensures),
     )
 
 add-at : tie.Need-add-at Inv-loop μ-loop
-add-at c = omega (arith, next-room term termWithin (goodValue 0) (next (c .before .before .before)))
+add-at c = omega (arith, field-room (next (c .before .before .before) .here))
 
 add-at-2 : tie.Need-add-at-2 Inv-loop μ-loop
-add-at-2 c = omega (arith, next-room term termWithin (goodValue 0) (next (c .before .before .before)))
+add-at-2 c = omega (arith, field-room (next (c .before .before .before) .here))
 
 loop-less : tie.Need-loop-less Inv-loop μ-loop
 loop-less c = omega (arith, c .before .before .before .before .before .loop-test .taken)
@@ -98,7 +99,8 @@ blank-requires-3 : tie.Need-blank-requires-3 Inv-loop μ-loop
 blank-requires-3 c κs = search needs
 
 returns-2 : tie.Need-returns-2 Inv-loop μ-loop
-returns-2 c = c .blank3 .ensures ∙ all-outside (c .before .before .before .loop .inv) (c .before .before .loop-test .left) (c .before .if1 .taken)
+returns-2 c =
+    let t = c .before .before in c .blank3 .ensures ∙ all-outside (t .before .loop .inv) (t .loop-test .left) (c .before .if1 .taken)
 
 returns-3 : tie.Need-returns-3 Inv-loop μ-loop
 returns-3 c = all-within (c .before .before .loop .inv) (c .before .loop-test .left) (c .if1 .left)

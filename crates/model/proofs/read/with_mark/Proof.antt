@@ -1,12 +1,13 @@
 -- `model::read::with_mark`: the bit is set where the marks are the same.
 use mathlib.Core.Path.{_∙_}
+use native.Mathlib.Omega.{arith}
 use borrow.Author.Tests.{eq-eqb, ne-eqb}
 use Rattle.model.specs.Marks.{withMark}
 use Rattle.model.proofs.read.with_mark.Statement.{statement}
 use Rattle.model.proofs.read.with_mark.Tie as tie
 
 set-bit-requires : tie.Need-set-bit-requires
-set-bit-requires c κs = c .before .before .pre (c .if1 .taken)
+set-bit-requires c κs = omega (arith, c .before .before .pre (c .if1 .taken))
 
 returns : tie.Need-returns
 unfolding withMark
