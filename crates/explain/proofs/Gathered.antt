@@ -12,11 +12,28 @@ use Rattle.words.specs.Sets.{meet}
 use Rattle.labelling.specs.Posed.{wordsValue}
 use Rattle.labelling.specs.declared.Words.{Words}
 use Rattle.labelling.specs.Settled.{holdsOne}
-use Rattle.explain.specs.Explanation.{viewsOf, keep, insert, ascending, distinct, exceeds, least, lacking}
+use Rattle.explain.specs.Explanation.{viewsOf, keep, insert, ascending, distinct, least, lacking}
+use Rattle.explain.specs.Telling.{isLeast, isTold}
 use Rattle.explain.proofs.Distinct.{distinct-more}
 use Rattle.explain.proofs.Lacking.{passes, keep-lacking}
 use Rattle.explain.proofs.Search.{from-place}
 use Rattle.explain.proofs.Value.{count-is, word-is}
+
+-- ---- the words so far
+
+-- the words that are made of the labels from place i on, and no more of them than labels are behind it
+pub record Gathered (from : List ℕ → ℕ → List ℕ) (l r : Words) (i : ℕ) : Type 0 where
+  pub few : r .count + i ≤ l .count
+  pub words : (ws : List ℕ) → l ≡ wordsValue ws → r ≡ wordsValue (from ws i)
+
+-- none past the last label
+pub gathered-none : {from : List ℕ → ℕ → List ℕ} {l r : Words} → r ≡ wordsValue []
+    → ((ws : List ℕ) → l ≡ wordsValue ws → from ws (l .count) ≡ []) → Gathered from l r (l .count)
+unfolding wordsValue
+gathered-none none empty =
+    record { few = omega (arith, ap (λ (w : Words). w .count) none); words = λ ws e. none ∙ ap wordsValue (sym (empty ws e)) }
+
+-- ---- what is gathered
 
 module _ (granted : ℕ) (ws : List ℕ) where
   -- of the labels from place i on, the granted views
@@ -24,13 +41,9 @@ module _ (granted : ℕ) (ws : List ℕ) where
   unfolding ascending viewsOf
   grantedFrom i = ascending (map (λ w. bitAnd (viewsOf w) granted) (drop i ws))
 
-  -- a word strictly includes no views of a label that holds no granted view
-  abbrev pub isLeast : ℕ → Bool
-  isLeast v = not (any (exceeds v) (lacking granted ws))
-
   -- of the labels from place i on, the least views of those that hold no granted view
   abbrev pub leastFrom : ℕ → List ℕ
-  leastFrom i = keep isLeast (lacking granted (drop i ws))
+  leastFrom i = keep (isLeast granted ws) (lacking granted (drop i ws))
 
   unfoldable pub lackingFrom : ℕ → List ℕ
   unfolding ascending distinct
@@ -88,22 +101,22 @@ module _ (granted : ℕ) (l : Words) (ws : List ℕ) (e : l ≡ wordsValue ws) w
         ∙ ap (λ (x : ℕ). insert (bitAnd x granted) (grantedFrom granted ws i)) views-are
 
     next : leastFrom granted ws (i - 1)
-        ≡ cond (not (meet 64 views granted) && isLeast granted ws views) (views ∷ leastFrom granted ws i) (leastFrom granted ws i)
+        ≡ cond (isTold granted ws views) (views ∷ leastFrom granted ws i) (leastFrom granted ws i)
     next =
         let f = isLeast granted ws in
         let rest = leastFrom granted ws i in
         ap (λ (t : List ℕ). keep f (lacking granted t)) one-more
         ∙ keep-lacking granted f (getD ws (i - 1) 0) (drop i ws)
         ∙ ap (λ (b : Bool). cond b (viewsOf (getD ws (i - 1) 0) ∷ rest) rest) (label-passes f (i - 1) views v)
-        ∙ ap (λ (x : ℕ). cond (not (meet 64 views granted) && f views) (x ∷ rest) rest) views-are
+        ∙ ap (λ (x : ℕ). cond (isTold granted ws views) (x ∷ rest) rest) views-are
 
-    pub lacking-told : (not (meet 64 views granted) && isLeast granted ws views) ≡ true →
+    pub lacking-told : isTold granted ws views ≡ true →
         let r = lackingFrom granted ws i in
         lackingFrom granted ws (i - 1) ≡ cond (any (eqb views) r) r (insert views r)
     unfolding lackingFrom
     lacking-told t = ap (λ (x : List ℕ). ascending (distinct x)) (rw t at next) ∙ distinct-more views (leastFrom granted ws i)
 
-    pub lacking-untold : (not (meet 64 views granted) && isLeast granted ws views) ≡ false
+    pub lacking-untold : isTold granted ws views ≡ false
         → lackingFrom granted ws (i - 1) ≡ lackingFrom granted ws i
     unfolding lackingFrom
     lacking-untold t = ap (λ (x : List ℕ). ascending (distinct x)) (rw t at next)

@@ -1,2 +1,3 @@
 pub mod Explanation
+pub mod Telling
 pub mod Worked

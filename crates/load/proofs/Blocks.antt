@@ -4,6 +4,7 @@ use mathlib.Core.Bool.{Bool, true, false, _&&_, false≢true}
 use mathlib.Core.List.{List}
 use Prim.Native.Nat.{ℕ, _+_}
 use native.Mathlib.Omega.{arith}
+use Rattle.words.proofs.Answers.{both-true}
 use Rattle.text.specs.Names.{viewTableTerms, partitionViews}
 use Rattle.text.specs.Lines.{sameBytes}
 use Rattle.policy_text.specs.Text.{Block, tables, views, partitions, isNext, nextBlock, enter, faulty, entered}
@@ -84,10 +85,6 @@ next-number tables l e = refl
 next-number views l e = refl
 next-number partitions l e = absurd (false≢true e)
 
-both-true : (a : Bool) {b : Bool} → a && b ≡ true → b ≡ true
-both-true true e = e
-both-true false e = absurd (false≢true e)
-
 module _ (b : Block) (started : Bool) (d : Declared) (g : Progress) (value : g ≡ progressValue b started d) where
   pub block-of : g .block ≡ blockNumber b
   unfolding progressValue
@@ -107,7 +104,8 @@ module _ (b : Block) (started : Bool) (d : Declared) (g : Progress) (value : g �
       (steppedValue b started d l)
   unfolding steppedValue progressValue
   goes-on l e =
-      let block : g .block + 1 ≡ blockNumber (nextBlock b) = ap (λ (n : ℕ). n + 1) block-of ∙ next-number b l (both-true (g .started) e) in
+      let next = both-true (g .started) (isNext b l) e .1 in
+      let block : g .block + 1 ≡ blockNumber (nextBlock b) = ap (λ (n : ℕ). n + 1) block-of ∙ next-number b l next in
       (λ i. record { fault = 0; progress = record { block = block i; started = false; policy = policy-of i } })
       ∙ rw (sym (ap (λ (s : Bool). s && isNext b l) started-of) ∙ e)
 
@@ -121,8 +119,8 @@ module _ (b : Block) (started : Bool) (d : Declared) (g : Progress) (value : g �
       ∙ by-entry (enter b d l) ∙ rw (sym (ap (λ (t : Bool). t && isNext b l) started-of) ∙ s)
     where
       by-entry : (t : TheEntered)
-          → _≡_ {A = Stepped}
-          (record { fault = enteredValue d t .fault; progress = record { block = blockNumber b; started = true; policy = enteredValue d t .policy } })
+          → let e = enteredValue d t in
+          _≡_ {A = Stepped} (record { fault = e .fault; progress = record { block = blockNumber b; started = true; policy = e .policy } })
           (afterEntry b d t)
       by-entry (faulty n) = refl
       by-entry (entered f) = refl

@@ -19,7 +19,8 @@ use Rattle.policy_text.specs.Declared.{Declared}
 use Rattle.policy_text.specs.Policy.{lists, grantsOf, policyValue}
 use Rattle.policy_text.proofs.Grants.{grants-at, word-says}
 use Rattle.policy_lines.specs.Value.{viewList}
-use Rattle.load.specs.Steps.{moreTables, moreViews, morePartitions, Granting}
+use Rattle.load.specs.Steps.{moreTables, moreViews, morePartitions}
+use Rattle.load.specs.Entering.{Granting}
 
 -- an entry more behind entries that are made of a list
 entry-more : {X Y : Type 0} (n : ℕ) (none : Y) (f : X → Y) (l : List X) (x : X) → length l < n

@@ -1,6 +1,6 @@
 -- The checks of a partition's line in the order of the code's tests.
 use mathlib.Core.Path.{_≡_, refl, sym, ap, ap₂, _∙_}
-use mathlib.Core.Bool.{Bool, true, false, cond, not, _&&_, _||_, false≢true}
+use mathlib.Core.Bool.{Bool, true, false, cond, not, _&&_, _||_}
 use mathlib.Core.Option.{Option, none, some}
 use mathlib.Core.List.{List, [], _∷_}
 use Prim.Native.Nat.{ℕ, suc, _-_, _≤_, _<_}
@@ -9,6 +9,7 @@ use native.Mathlib.Omega.{arith}
 use lib.Dec.{eqb, ltb}
 use lib.ListN.{length}
 use borrow.Author.Tests.{ltb-true, lt-ltb, le-ltb}
+use Rattle.words.proofs.Answers.{both-true}
 use Rattle.theory.specs.Executable.Test.{all, any}
 use Rattle.model.specs.Fields.{Numbered, partitionLine}
 use Rattle.model.specs.Limits.{upTo, mostViews, mostPartitions}
@@ -19,19 +20,16 @@ use Rattle.policy_text.specs.Declared.{Declared}
 use Rattle.policy_lines.specs.Value.{partitionValue, noPartition, viewList, lastAfter}
 use Rattle.policy_lines.specs.declared.PartitionLine.{PartitionLine}
 use Rattle.load.specs.Steps.{lineFault, morePartitions}
-use Rattle.load.proofs.Lines.{Kind, Within, reading, within, malformed-fault, outside-fault, within-fault, in-turn, out-of-turn, taken, taken-entered, faulty-entered}
+use Rattle.load.proofs.Lines.{Kind, Within, reading, within, malformed-fault, outside-fault, within-fault, in-turn, out-of-turn}
+use Rattle.load.proofs.Lines.{taken, taken-entered, faulty-entered}
 
 -- ---- the last of views that ascend is the largest
-
-both : (a : Bool) {b : Bool} → a && b ≡ true → (a ≡ true) × (b ≡ true)
-both true e = (refl, e)
-both false e = absurd (false≢true e)
 
 at-most-last : (v : ℕ) (vs : List ℕ) → ascend (v ∷ vs) ≡ true → v ≤ lastAfter v vs
 unfolding ascend lastAfter
 at-most-last v [] e = le-refl v
 at-most-last v (w ∷ vs) e =
-    let k = both (ltb v w) e in
+    let k = both-true (ltb v w) _ e in
     let l = at-most-last w vs (k .1) in omega (arith, ltb-true v w (k .0), l)
 
 or-under : (n v m : ℕ) → v ≤ m → (ltb n v || ltb n m) ≡ ltb n m
@@ -50,7 +48,7 @@ any-past n v [] e = or-false (ltb n v)
     or-false true = refl
     or-false false = refl
 any-past n v (w ∷ vs) e =
-    let k = both (ltb v w) e in
+    let k = both-true (ltb v w) _ e in
     let l = at-most-last w vs (k .1) in
     ap (λ (b : Bool). ltb n v || b) (any-past n w vs (k .1)) ∙ or-under n v (lastAfter w vs) (omega (arith, ltb-true v w (k .0), l))
 

@@ -16,7 +16,8 @@ use Rattle.policy_text.specs.Declared.{Declared}
 use Rattle.policy_lines.specs.Value.{tableValue, noTable}
 use Rattle.policy_lines.specs.declared.TableLine.{TableLine}
 use Rattle.load.specs.Steps.{lineFault, moreTables}
-use Rattle.load.proofs.Lines.{Kind, Within, reading, within, malformed-fault, outside-fault, within-fault, in-turn, out-of-turn, taken, taken-entered, faulty-entered}
+use Rattle.load.proofs.Lines.{Kind, Within, reading, within, malformed-fault, outside-fault, within-fault, in-turn, out-of-turn}
+use Rattle.load.proofs.Lines.{taken, taken-entered, faulty-entered}
 
 unfoldable pub tableKind : Kind ℕ TableLine
 unfolding noTable
@@ -98,5 +99,6 @@ module _ (d : Declared) (l : List ℕ) (tables : Tables) (t : TableLine) (known 
       let r = read d o tables t known value in
       let f = after d o tables t known value in
       let s = shape d o tables t known value in
+      let w = taken tableKind o t r (tableFault d) f s z in
       taken-entered tableKind o t r (tableFault d) f s z (moreTables d)
-      ∙ ap (λ (w : ℕ). entered (moreTables d w)) (sym (ap (λ (k : TableLine). k .columns) (taken tableKind o t r (tableFault d) f s z .line)))
+      ∙ ap (λ (w : ℕ). entered (moreTables d w)) (sym (ap (λ (k : TableLine). k .columns) (w .line)))

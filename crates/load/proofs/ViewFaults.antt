@@ -1,11 +1,12 @@
 -- The checks of a view's line in the order of the code's tests.
 use mathlib.Core.Path.{_≡_, refl, sym, ap, _∙_}
-use mathlib.Core.Bool.{Bool, true, false, cond, not, _&&_, false≢true}
+use mathlib.Core.Bool.{true, false, cond, not, _&&_}
 use mathlib.Core.List.{List, []}
 use mathlib.Core.Option.{Option, none, some}
 use Prim.Native.Nat.{ℕ, suc, _-_, _≤_}
 use lib.Dec.{eqb}
 use lib.ListN.{length}
+use Rattle.words.proofs.Answers.{both-true}
 use Rattle.theory.specs.Query.{Line}
 use Rattle.model.specs.Fields.{Numbered, viewLine}
 use Rattle.model.specs.Limits.{upTo, mostViews, lineWithin}
@@ -16,7 +17,8 @@ use Rattle.policy_text.specs.Declared.{Declared}
 use Rattle.policy_lines.specs.Value.{viewValue, noView}
 use Rattle.policy_lines.specs.declared.ViewLine.{ViewLine}
 use Rattle.load.specs.Steps.{lineFault, moreViews}
-use Rattle.load.proofs.Lines.{Kind, Within, reading, within, malformed-fault, outside-fault, within-fault, in-turn, out-of-turn, taken, taken-entered, faulty-entered}
+use Rattle.load.proofs.Lines.{Kind, Within, reading, within, malformed-fault, outside-fault, within-fault, in-turn, out-of-turn}
+use Rattle.load.proofs.Lines.{taken, taken-entered, faulty-entered}
 
 unfoldable pub viewKind : Kind Line ViewLine
 unfolding noView
@@ -39,10 +41,6 @@ pub view-reading : (o : Option (Numbered Line)) → viewValue o ≡ reading view
 unfolding viewValue reading viewKind
 view-reading none = refl
 view-reading (some e) = refl
-
-both : (a : Bool) {b : Bool} → a && b ≡ true → b ≡ true
-both true e = e
-both false e = absurd (false≢true e)
 
 module _ (d : Declared) (o : Option (Numbered Line)) (views : ℕ) (t : ViewLine) (count : views ≡ length (d .views))
     (value : t ≡ viewValue o) where
@@ -71,7 +69,7 @@ module _ (d : Declared) (o : Option (Numbered Line)) (views : ℕ) (t : ViewLine
 
     pub view-line-within : lineWithin (view-within .entry .value) ≡ true
     unfolding viewKind
-    view-line-within = both (upTo mostViews (view-within .entry .number)) (view-within .tested)
+    view-line-within = both-true (upTo mostViews (view-within .entry .number)) _ (view-within .tested) .1
 
     pub view-line : t .view ≡ goodValue (view-within .entry .value .table) (view-within .entry .value .columns)
     unfolding viewKind
@@ -96,7 +94,8 @@ module _ (d : Declared) (o : Option (Numbered Line)) (views : ℕ) (t : ViewLine
 
 -- ---- what the line declares
 
-module _ (d : Declared) (l : List ℕ) (views : ℕ) (t : ViewLine) (count : views ≡ length (d .views)) (value : t ≡ viewValue (viewLine l)) where
+module _ (d : Declared) (l : List ℕ) (views : ℕ) (t : ViewLine) (count : views ≡ length (d .views))
+    (value : t ≡ viewValue (viewLine l)) where
   pub view-turned-back : (n : ℕ) → n ≡ lineFault (viewLine l) (viewFault d) → (n ≡ 0 → ⊥) → enter viewBlock d l ≡ faulty n
   unfolding enter
   view-turned-back n e ne = faulty-entered (viewLine l) (viewFault d) _ n e ne

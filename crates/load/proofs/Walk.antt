@@ -13,7 +13,9 @@ use Rattle.text.specs.Lines.{lines, split, before}
 use Rattle.text.specs.declared.Cursor.{Cursor}
 use Rattle.text.proofs.NextLines.{front, back, of-tail, of-line, LineAt}
 use Rattle.model.specs.Fields.{Numbered, tableLine, viewLine, partitionLine}
-use Rattle.policy_text.specs.Text.{nothing, refused, accepted, faulty, entered, Block, tables, views, partitions, unless, entry, enter, tableFault, viewFault, partitionFault, isNext, nextBlock, policyEnds, goOn, loadFrom}
+use Rattle.policy_text.specs.Text.{Block, tables, views, partitions, isNext, nextBlock}
+use Rattle.policy_text.specs.Text.{faulty, entered, unless, entry, enter, tableFault, viewFault, partitionFault}
+use Rattle.policy_text.specs.Text.{nothing, refused, accepted, policyEnds, goOn, loadFrom}
 use Rattle.policy_text.specs.Declared.{Declared}
 use Rattle.policy_text.specs.Text.{Loading as TheLoading, Entered as TheEntered}
 use Rattle.load.specs.Steps.{blockNumber, progressValue, afterEntry, steppedValue, moreTables, moreViews, morePartitions}
@@ -202,7 +204,8 @@ module _ {text : List ℕ} {start : ℕ} {g : Progress} {line at : ℕ} (w : Wal
     unfolding policyEnds blockNumber
     all-declared p s = go (w .block) (w .begun) (sym (block-of (w .block) (w .begun) (w .declared) g (w .held)) ∙ p) (is-begun ∙ s) ended
       where
-        go : (b : Block) (t : Bool) → blockNumber b ≡ 2 → t ≡ true → policyEnds b t (w .declared) line [] ≡ behind tables false nothing start text
+        go : (b : Block) (t : Bool) → blockNumber b ≡ 2 → t ≡ true
+            → policyEnds b t (w .declared) line [] ≡ behind tables false nothing start text
             → accepted (w .declared) ≡ behind tables false nothing start text
         go tables t e f q = absurd (omega (arith, e))
         go views t e f q = absurd (omega (arith, e))

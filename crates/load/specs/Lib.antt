@@ -1,2 +1,3 @@
 pub mod Value
 pub mod Steps
+pub mod Entering

@@ -3,13 +3,10 @@ use mathlib.Core.Path.{_≡_}
 use mathlib.Core.Bool.{Bool, true, false, cond, _&&_}
 use mathlib.Core.List.{List, [], _∷_, _++_}
 use mathlib.Core.Option.{Option, none, some}
-use Prim.Native.Nat.{ℕ, _≤_, _<_}
-use lib.ListN.{getD}
-use Rattle.words.specs.Bits.{isSet}
-use Rattle.words.specs.Sets.{setBit}
+use Prim.Native.Nat.{ℕ, _≤_}
 use Rattle.text.specs.Lines.{lines}
 use Rattle.theory.specs.Query.{Line}
-use Rattle.model.specs.Limits.{mostTables, mostViews}
+use Rattle.model.specs.Limits.{mostTables}
 use Rattle.model.specs.Fields.{Numbered}
 use Rattle.model.specs.declared.Parsed.{Parsed}
 use Rattle.policy_text.specs.Text.{nothing, faulty, entered, tables, views, partitions, Block, enter, isNext, nextBlock, loadFrom}
@@ -43,11 +40,6 @@ moreTables d w = record { widths = d .widths ++ w ∷ []; views = d .views; part
 
 unfoldable pub moreViews : Declared → Line → Declared
 moreViews d A = record { widths = d .widths; views = d .views ++ A ∷ []; partitions = d .partitions }
-
--- the words of the views with partition i in those that it grants, the views of a word
-abbrev pub Granting : List ℕ → ℕ → ℕ → List ℕ → Type 0
-Granting grants word i r =
-    (k : ℕ) → k < mostViews → getD r k 0 ≡ cond (isSet word k) (setBit (getD grants k 0) i) (getD grants k 0)
 
 unfoldable pub morePartitions : Declared → List ℕ → Declared
 morePartitions d vs = record { widths = d .widths; views = d .views; partitions = d .partitions ++ vs ∷ [] }

@@ -1,20 +1,13 @@
 // What a line of values declares, behind what is declared so far.
 
 ghost use mathlib.Core.Path.{_≡_};
-ghost use mathlib.Core.List.{List};
-ghost use mathlib.Core.Option.{Option};
-ghost use Prim.Native.Nat.{ℕ, _<_, _^_};
+ghost use Prim.Native.Nat.{_<_, _^_};
 ghost use lib.ListN.{length};
-ghost use Rattle.theory.specs.Query.{Line as TheLine};
 ghost use Rattle.model.specs.Limits.{mostTables, mostViews, mostPartitions};
-ghost use Rattle.model.specs.Fields.{Numbered};
-ghost use Rattle.model.specs.Value.{tablesValue};
-ghost use Rattle.model.specs.Parsed.{goodValue};
-ghost use Rattle.policy_text.specs.Text.{enter, tables as tableBlock, views as viewBlock, partitions as partitionBlock, tableFault, viewFault, partitionFault};
-ghost use Rattle.policy_text.specs.Declared.{Declared};
-ghost use Rattle.policy_text.specs.Policy.{policyValue};
-ghost use Rattle.policy_lines.specs.Value.{tableValue, viewValue, partitionValue, viewList};
-ghost use Rattle.load.specs.Steps.{Granting, enteredValue, lineFault, ViewTabled, Numbering, moreTables, moreViews, morePartitions};
+ghost use Rattle.policy_text.specs.Text.{tables as tableBlock, views as viewBlock, partitions as partitionBlock};
+ghost use Rattle.load.specs.Steps.{ViewTabled, Numbering};
+ghost use Rattle.load.specs.Entering.{FaultOfTable, FaultOfView, FaultOfPartition, Entering};
+ghost use Rattle.load.specs.Entering.{WithTable, WithView, WithPartition, Granting};
 use model::Line;
 use model::MOST_VIEWS;
 use model::Parsed;
@@ -35,7 +28,7 @@ pub struct Entered {
 
 fn table_fault(tables: Tables, t: TableLine) -> u64
     requires { ⌜ Numbering mostTables (t .ok) (t .outside) (t .number) ⌝ }
-    ensures { λ r. ⌜ ((d : Declared) (o : Option (Numbered ℕ)) → tables ≡ tablesValue (d .widths) → t ≡ tableValue o → r ≡ lineFault o (tableFault d)) ⌝ }
+    ensures { λ r. ⌜ FaultOfTable tables t r ⌝ }
     ensures { λ r. ⌜ (r ≡ 0 → tables .count < mostTables) ⌝ }
 {
     if !t.ok {
@@ -52,7 +45,7 @@ fn table_fault(tables: Tables, t: TableLine) -> u64
 
 fn with_table(p: Policy, columns: u64) -> Policy
     requires { ⌜ p .tables .count < mostTables ⌝ }
-    ensures { λ r. ⌜ ((d : Declared) → p ≡ policyValue d → r ≡ policyValue (moreTables d columns)) ⌝ }
+    ensures { λ r. ⌜ WithTable p columns r ⌝ }
 {
     let mut r = p;
     let mut t = p.tables;
@@ -64,7 +57,7 @@ fn with_table(p: Policy, columns: u64) -> Policy
 }
 
 pub fn enter_table(p: Policy, line: &[u8]) -> Entered
-    ensures { λ r. ⌜ ((d : Declared) → p ≡ policyValue d → r ≡ enteredValue d (enter tableBlock d (now (line .entry)))) ⌝ }
+    ensures { λ r. ⌜ Entering tableBlock p (now (line .entry)) r ⌝ }
 {
     let t = read_table(line);
     let tables = p.tables;
@@ -82,7 +75,7 @@ pub fn enter_table(p: Policy, line: &[u8]) -> Entered
 // The checks of a view's line against the tables and the number of views so far.
 fn view_fault(tables: Tables, views: usize, e: ViewLine) -> u64
     requires { ⌜ Numbering mostViews (e .ok) (e .outside) (e .number) × ViewTabled (e .ok) (e .outside) (e .view) ⌝ }
-    ensures { λ r. ⌜ ((d : Declared) (o : Option (Numbered TheLine)) → tables ≡ tablesValue (d .widths) → views ≡ length (d .views) → e ≡ viewValue o → r ≡ lineFault o (viewFault d)) ⌝ }
+    ensures { λ r. ⌜ FaultOfView tables views e r ⌝ }
     ensures { λ r. ⌜ (r ≡ 0 → views < mostViews) ⌝ }
 {
     if !e.ok {
@@ -100,7 +93,7 @@ fn view_fault(tables: Tables, views: usize, e: ViewLine) -> u64
 
 fn with_view(p: Policy, v: Parsed) -> Policy
     requires { ⌜ p .«view_count» < mostViews ⌝ }
-    ensures { λ r. ⌜ ((d : Declared) (A : TheLine) → p ≡ policyValue d → v ≡ goodValue (A .table) (A .columns) → r ≡ policyValue (moreViews d A)) ⌝ }
+    ensures { λ r. ⌜ WithView p v r ⌝ }
 {
     let mut r = p;
     let terms = v.terms;
@@ -115,7 +108,7 @@ fn with_view(p: Policy, v: Parsed) -> Policy
 
 pub fn enter_view(p: Policy, line: &[u8]) -> Entered
     requires { ⌜ length (now line) < 2 ^ 32 ⌝ }
-    ensures { λ r. ⌜ ((d : Declared) → p ≡ policyValue d → r ≡ enteredValue d (enter viewBlock d (now (line .entry)))) ⌝ }
+    ensures { λ r. ⌜ Entering viewBlock p (now (line .entry)) r ⌝ }
 {
     let e = read_view(line);
     let tables = p.tables;
@@ -134,7 +127,7 @@ pub fn enter_view(p: Policy, line: &[u8]) -> Entered
 // The checks of a partition's line against the numbers of views and of partitions so far.
 fn partition_fault(views: usize, partitions: usize, e: PartitionLine) -> u64
     requires { ⌜ Numbering mostPartitions (e .ok) (e .outside) (e .number) ⌝ }
-    ensures { λ r. ⌜ ((d : Declared) (o : Option (Numbered (List ℕ))) → views ≡ length (d .views) → partitions ≡ length (d .partitions) → e ≡ partitionValue o → r ≡ lineFault o (partitionFault d)) ⌝ }
+    ensures { λ r. ⌜ FaultOfPartition views partitions e r ⌝ }
     ensures { λ r. ⌜ (r ≡ 0 → partitions < mostPartitions) ⌝ }
 {
     if !e.ok {
@@ -174,7 +167,7 @@ fn granting(grants: [u64; MOST_VIEWS], views: u64, i: u64) -> [u64; MOST_VIEWS]
 
 fn with_partition(p: Policy, views: u64) -> Policy
     requires { ⌜ p .«partition_count» < mostPartitions ⌝ }
-    ensures { λ r. ⌜ ((d : Declared) (vs : List ℕ) → p ≡ policyValue d → views ≡ viewList vs .views → r ≡ policyValue (morePartitions d vs)) ⌝ }
+    ensures { λ r. ⌜ WithPartition p views r ⌝ }
 {
     let mut r = p;
     let at = p.partition_count;
@@ -187,7 +180,7 @@ fn with_partition(p: Policy, views: u64) -> Policy
 
 pub fn enter_partition(p: Policy, line: &[u8]) -> Entered
     requires { ⌜ length (now line) < 2 ^ 32 ⌝ }
-    ensures { λ r. ⌜ ((d : Declared) → p ≡ policyValue d → r ≡ enteredValue d (enter partitionBlock d (now (line .entry)))) ⌝ }
+    ensures { λ r. ⌜ Entering partitionBlock p (now (line .entry)) r ⌝ }
 {
     let e = read_partition(line);
     let fault = partition_fault(p.view_count, p.partition_count, e);

@@ -3,14 +3,14 @@
 mod enter;
 
 ghost use mathlib.Core.Path.{_≡_};
-ghost use mathlib.Core.Bool.{Bool, _&&_};
+ghost use mathlib.Core.Bool.{_&&_};
 ghost use Prim.Native.Nat.{_≤_, _<_, _^_};
 ghost use lib.ListN.{length};
-ghost use Rattle.policy_text.specs.Text.{Block, nothing, refused as refusedLoading, isNext, enter as enterBlock, load as loadText};
-ghost use Rattle.policy_text.specs.Declared.{Declared};
+ghost use Rattle.policy_text.specs.Text.{Block, nothing, refused as refusedLoading, isNext, load as loadText};
 ghost use Rattle.policy_text.specs.Policy.{policyValue};
 ghost use Rattle.load.specs.Value.{loadingValue};
-ghost use Rattle.load.specs.Steps.{BlocksLoaded, enteredValue, blockNumber, progressValue, steppedValue};
+ghost use Rattle.load.specs.Steps.{BlocksLoaded, blockNumber};
+ghost use Rattle.load.specs.Entering.{Entering, Stepping};
 use enter::Entered;
 use model::Line;
 use model::MOST_COLUMNS;
@@ -92,7 +92,7 @@ fn is_next(started: bool, block: u8, line: &[u8]) -> bool
 // What a line of values of a block declares.
 fn enter_line(block: u8, p: Policy, line: &[u8]) -> Entered
     requires { ⌜ length (now line) < 2 ^ 32 ⌝ }
-    ensures { λ r. ⌜ ((b : Block) (d : Declared) → block ≡ blockNumber b → p ≡ policyValue d → r ≡ enteredValue d (enterBlock b d (now (line .entry)))) ⌝ }
+    ensures { λ r. ⌜ ((b : Block) → block ≡ blockNumber b → Entering b p (now (line .entry)) r) ⌝ }
 {
     if block == TABLES {
         return enter::enter_table(p, line);
@@ -111,7 +111,7 @@ struct Stepped {
 
 fn step(g: Progress, line: &[u8]) -> Stepped
     requires { ⌜ (g .block ≤ 2) × (length (now line) < 2 ^ 32) ⌝ }
-    ensures { λ r. ⌜ ((b : Block) (started : Bool) (d : Declared) → g ≡ progressValue b started d → r ≡ steppedValue b started d (now (line .entry))) ⌝ }
+    ensures { λ r. ⌜ Stepping g (now (line .entry)) r ⌝ }
 {
     let policy = g.policy;
     if is_next(g.started, g.block, line) {

@@ -1,7 +1,7 @@
 // Loading: the policy of the text, "all of them, in file order and nothing else", or a refusal beside the empty policy.
 
 use crate::policies::with_columns;
-use crate::policies::with_partition;
+use crate::policies::with_grants;
 use crate::policies::with_partition_count;
 use crate::policies::with_table_count;
 use crate::policies::with_term;
@@ -11,6 +11,9 @@ use crate::values;
 use model::CONSTANT;
 use model::HIDDEN;
 use model::Line;
+use model::MOST_COLUMNS;
+use model::MOST_TABLES;
+use model::MOST_VIEWS;
 use model::Outcome;
 use model::Policy;
 use model::SHOWN;
@@ -22,17 +25,17 @@ use test_expect::Said;
 fn empty() -> Policy {
     let unused = Line {
         table: 0,
-        terms: [Term { mark: 0, number: 0 }; 8],
+        terms: [Term { mark: 0, number: 0 }; MOST_COLUMNS],
     };
     Policy {
         tables: Tables {
             count: 0,
-            columns: [0; 16],
+            columns: [0; MOST_TABLES],
         },
         view_count: 0,
-        views: [unused; 32],
+        views: [unused; MOST_VIEWS],
         partition_count: 0,
-        partitions: [0; 32],
+        grants: [0; MOST_VIEWS],
     }
 }
 
@@ -74,7 +77,7 @@ fn counts(tables: usize, first: u64, second: u64, views: usize, partitions: usiz
     with_partition_count(p, partitions)
 }
 
-// Document 01's policy: partition 1 has views 2 and 3 (2 + 4), partition 2 views 1 and 4 (1 + 8).
+// Document 01's policy: partition 1 stands at bit 0 (1) of views 2 and 3, partition 2 at bit 1 (2) of views 1 and 4.
 fn example() -> Policy {
     let mut p = counts(2, 3, 2, 4, 2);
     p = with_view_table(p, 0, 1);
@@ -91,11 +94,13 @@ fn example() -> Policy {
     p = with_view_table(p, 3, 2);
     p = with_term(p, 3, 0, SHOWN, 1);
     p = with_term(p, 3, 1, CONSTANT, 7);
-    p = with_partition(p, 0, 6);
-    with_partition(p, 1, 9)
+    p = with_grants(p, 0, 2);
+    p = with_grants(p, 1, 1);
+    p = with_grants(p, 2, 1);
+    with_grants(p, 3, 2)
 }
 
-// Eight columns, numbers at their limits, and a partition without views before one with view 1.
+// Eight columns, numbers at their limits, and a partition without views before one with view 1, at its bit 1 (2).
 fn limits() -> Policy {
     let mut p = counts(1, 8, 0, 1, 2);
     p = with_view_table(p, 0, 1);
@@ -107,7 +112,7 @@ fn limits() -> Policy {
     p = with_term(p, 0, 5, CONSTANT, 4294967295);
     p = with_term(p, 0, 6, HIDDEN, 1);
     p = with_term(p, 0, 7, SHOWN, 0);
-    with_partition(p, 1, 1)
+    with_grants(p, 0, 2)
 }
 
 pub fn taken(start: u64) -> u64 {

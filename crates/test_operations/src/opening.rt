@@ -1,7 +1,7 @@
 // Opening a session: every partition open, partition n at bit n - 1, or 8 with none open.
 
 use crate::policies::with_columns;
-use crate::policies::with_partition;
+use crate::policies::with_grants;
 use crate::policies::with_partition_count;
 use crate::policies::with_table_count;
 use crate::policies::with_term;
@@ -45,14 +45,14 @@ fn turned_back(n: u64, p: Policy) -> u64 {
 }
 
 // Two, three and 32 partitions; and values made by hand that a text gives: a third partition without views, view 4 with
-// another constant, view 3 in partition 2 too, and eight columns for a table without views.
+// another constant, view 3 in partition 2 too (1 + 2), and eight columns for a table without views.
 pub fn of_loaded(p: Policy, wider: Policy, widest: Policy, start: u64) -> u64 {
     let mut n = opens(start, p, 3);
     n = opens(n, wider, 7);
     n = opens(n, widest, 4294967295);
     n = opens(n, with_partition_count(p, 3), 7);
     n = opens(n, with_term(p, 3, 1, 1, 4294967295), 3);
-    n = opens(n, with_partition(p, 1, 13), 3);
+    n = opens(n, with_grants(p, 2, 3), 3);
     n = opens(n, with_columns(wider, 2, 8), 7);
     n
 }
@@ -74,17 +74,17 @@ pub fn of_counts(p: Policy, start: u64) -> u64 {
     n
 }
 
-// Columns of 0 and 9, with views and without, and where there is no table; a partition with view 5, which is not declared (2 + 4 +
-// 16), with every bit, and behind the last.
+// Columns of 0 and 9, with views and without, and where there is no table; partition 1 with view 5, which is not declared; view 1
+// with every bit, and in partition 3, which is not declared, beside partition 2 (2 + 4).
 pub fn of_tables_and_partitions(p: Policy, wider: Policy, start: u64) -> u64 {
     let mut n = turned_back(start, with_columns(p, 0, 0));
     n = turned_back(n, with_columns(p, 0, 9));
     n = turned_back(n, with_columns(wider, 2, 0));
     n = turned_back(n, with_columns(wider, 2, 9));
     n = turned_back(n, with_columns(p, 2, 1));
-    n = turned_back(n, with_partition(p, 0, 22));
-    n = turned_back(n, with_partition(p, 0, 18446744073709551615));
-    n = turned_back(n, with_partition(p, 2, 1));
+    n = turned_back(n, with_grants(p, 4, 1));
+    n = turned_back(n, with_grants(p, 0, 18446744073709551615));
+    n = turned_back(n, with_grants(p, 0, 6));
     n
 }
 

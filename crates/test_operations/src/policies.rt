@@ -1,6 +1,7 @@
 // The policies that the operations are called under.
 
 ghost use Prim.Native.Nat.{_<_};
+ghost use Rattle.model.specs.Limits.{mostTables, mostColumns, mostViews};
 use model::Policy;
 use model::Term;
 
@@ -65,7 +66,7 @@ pub fn with_partition_count(p: Policy, count: usize) -> Policy {
 
 // The policy with other columns for the table in place i.
 pub fn with_columns(p: Policy, i: usize, columns: u64) -> Policy
-    requires { ⌜ i < 16 ⌝ }
+    requires { ⌜ i < mostTables ⌝ }
 {
     let mut q = p;
     let mut t = p.tables;
@@ -74,18 +75,18 @@ pub fn with_columns(p: Policy, i: usize, columns: u64) -> Policy
     q
 }
 
-// The policy with another partition in place i.
-pub fn with_partition(p: Policy, i: usize, views: u64) -> Policy
-    requires { ⌜ i < 32 ⌝ }
+// The policy with other partitions that grant the view in place i: partition n at bit n - 1.
+pub fn with_grants(p: Policy, i: usize, partitions: u64) -> Policy
+    requires { ⌜ i < mostViews ⌝ }
 {
     let mut q = p;
-    q.partitions[i] = views;
+    q.grants[i] = partitions;
     q
 }
 
 // The policy with another table for the view in place i.
 pub fn with_view_table(p: Policy, i: usize, table: u64) -> Policy
-    requires { ⌜ i < 32 ⌝ }
+    requires { ⌜ i < mostViews ⌝ }
 {
     let mut q = p;
     let mut v = p.views[i];
@@ -96,7 +97,7 @@ pub fn with_view_table(p: Policy, i: usize, table: u64) -> Policy
 
 // The policy with another term in a column of the view in place i.
 pub fn with_term(p: Policy, i: usize, column: usize, mark: u64, number: u64) -> Policy
-    requires { ⌜ (i < 32) × (column < 8) ⌝ }
+    requires { ⌜ (i < mostViews) × (column < mostColumns) ⌝ }
 {
     let mut q = p;
     let mut v = p.views[i];
@@ -105,7 +106,7 @@ pub fn with_term(p: Policy, i: usize, column: usize, mark: u64, number: u64) -> 
     q
 }
 
-// A value that no text gives: the partition in place 1 stands behind the last.
+// A value that no text gives: partition 2, which grants views 1 and 4, is behind the last.
 pub fn altered() -> Policy {
     with_partition_count(example(), 1)
 }

@@ -1,6 +1,9 @@
 // Whether two policy values are the same, in every entry, those behind a count too.
 
 use model::Line;
+use model::MOST_COLUMNS;
+use model::MOST_TABLES;
+use model::MOST_VIEWS;
 use model::Policy;
 use model::Tables;
 use model::same_term;
@@ -10,7 +13,7 @@ fn same_tables(a: Tables, b: Tables) -> bool {
         return false;
     }
     let mut i = 0;
-    while i < 16 {
+    while i < MOST_TABLES {
         if a.columns[i] != b.columns[i] {
             return false;
         }
@@ -24,7 +27,7 @@ fn same_line(a: Line, b: Line) -> bool {
         return false;
     }
     let mut i = 0;
-    while i < 8 {
+    while i < MOST_COLUMNS {
         let t = a.terms[i];
         let u = b.terms[i];
         if !same_term(t, u) {
@@ -40,7 +43,7 @@ fn same_views(a: Policy, b: Policy) -> bool {
         return false;
     }
     let mut i = 0;
-    while i < 32 {
+    while i < MOST_VIEWS {
         let v = a.views[i];
         let w = b.views[i];
         if !same_line(v, w) {
@@ -51,13 +54,13 @@ fn same_views(a: Policy, b: Policy) -> bool {
     true
 }
 
-fn same_partitions(a: Policy, b: Policy) -> bool {
+fn same_grants(a: Policy, b: Policy) -> bool {
     if a.partition_count != b.partition_count {
         return false;
     }
     let mut i = 0;
-    while i < 32 {
-        if a.partitions[i] != b.partitions[i] {
+    while i < MOST_VIEWS {
+        if a.grants[i] != b.grants[i] {
             return false;
         }
         i += 1;
@@ -74,5 +77,5 @@ pub fn same(a: Policy, b: Policy) -> bool {
     if !same_views(a, b) {
         return false;
     }
-    same_partitions(a, b)
+    same_grants(a, b)
 }

@@ -3,7 +3,6 @@ use mathlib.Core.Path.{ap}
 use mathlib.Core.List.{List, []}
 use Prim.Native.Nat.{ℕ}
 use native.Mathlib.Omega.{arith}
-use Rattle.model.specs.Limits.{mostViews, mostPartitions}
 use Rattle.model.specs.Value.{tablesValue}
 use Rattle.model.specs.declared.Policy.{Policy}
 use Rattle.policy_text.specs.Text.{nothing}

@@ -5,10 +5,12 @@ use Prim.Native.Nat.{ℕ, _+_, _<_}
 use native.Mathlib.Nat.{eq-or-lt-of-le}
 use native.Mathlib.Decide.{ℕ-discrete}
 use native.Mathlib.Omega.{arith}
+use borrow.Author.Tests.{eq-eqb, ne-eqb}
 use Rattle.words.specs.Bits.{bit}
 use Rattle.words.specs.Sets.{setBit}
 use Rattle.words.proofs.Bits.{bit-zero}
 use Rattle.words.proofs.SetBits.{set-bit-same, set-bit-other}
+use Rattle.model.specs.Marks.{withMark}
 use Rattle.model.specs.declared.Term.{Term}
 use Rattle.validity.proofs.Terms.{term-path}
 
@@ -52,7 +54,7 @@ module _ (mark : ℕ) (at : ℕ → Term) where
     )
 
     -- the word with the bit of the term at i set, where that has the mark
-    pub marks-more : (r : ℕ) → (at i .mark ≡ mark → r ≡ setBit m (at i .number)) → ((at i .mark ≡ mark → ⊥) → r ≡ m)
-        → Marks r (i + 1)
-    marks-more r has lacks =
-        by-cases (ℕ-discrete (at i .mark) mark) (λ e. rw (has e) (one-marked e)) (λ f. rw (lacks f) (none-marked f))
+    pub marks-more : Marks (withMark mark m (at i)) (i + 1)
+    unfolding withMark
+    marks-more =
+        by-cases (ℕ-discrete (at i .mark) mark) (λ e. rw (eq-eqb _ _ e) (one-marked e)) (λ f. rw (ne-eqb _ _ f) (none-marked f))

@@ -1,15 +1,15 @@
 -- The words of views that partitions grant: which lists of words are those of good partitions, and the partitions of such a list.
 use mathlib.Core.Path.{_≡_, sym, ap, subst, _∙_}
 use mathlib.Core.Logic.{_↔_, by-cases}
-use mathlib.Core.Bool.{Bool, true}
-use mathlib.Core.List.{List, [], map}
-use mathlib.Core.Option.{some, Option·some-injective}
+use mathlib.Core.Bool.{true}
+use mathlib.Core.List.{List, map}
+use mathlib.Core.Option.{some}
 use Prim.Native.Nat.{ℕ, _+_, _-_, _/_, _^_, _≤_, _<_}
 use native.Mathlib.Nat.{zero-add, one-mul, div-eq-of-lt, div-lt-iff-lt-mul}
 use native.Mathlib.Decide.{decLt}
 use native.Mathlib.Omega.{arith}
 use borrow.Author.Tests.{eqb-true, eq-eqb}
-use lib.Dec.{T, eqb, ltb}
+use lib.Dec.{eqb, ltb}
 use lib.ListN.{length, getD, getElem?, length-map}
 use lib.Pow.{pow-pos}
 use Rattle.theory.specs.Query.{_∈_}
@@ -46,7 +46,9 @@ module _ (views n : ℕ) (grants : List ℕ) where
   pub partitions-granted : PartitionsHeld views n grants → Granted views n grants
   partitions-granted h = record {
     counted = subst (λ (m : ℕ). (1 ≤ m) × (m ≤ mostPartitions)) (sym (h .count)) (h .listed .nonempty, h .listed .few);
-    places = λ k b. by-cases (decLt k views) (λ l. used-place _ 0 k views l (small k b)) (λ l. unused-place _ 0 k views (omega arith) (none k b l));
+    places = λ k b.
+        by-cases (decLt k views) (λ l. used-place _ 0 k views l (small k b))
+        (λ l. unused-place _ 0 k views (omega arith) (none k b l));
   }
     where
       ps : List (List ℕ)
@@ -57,7 +59,8 @@ module _ (views n : ℕ) (grants : List ℕ) where
 
       small : (k : ℕ) → k < mostViews → getD grants k 0 < 2 ^ n
       small k b =
-          subst (λ (m : ℕ). getD grants k 0 < 2 ^ m) (sym (h .count)) (subst (λ (w : ℕ). w < 2 ^ length ps) (sym (word k b)) (grants-below ps (k + 1)))
+          subst (λ (m : ℕ). getD grants k 0 < 2 ^ m) (sym (h .count))
+          (subst (λ (w : ℕ). w < 2 ^ length ps) (sym (word k b)) (grants-below ps (k + 1)))
 
       -- no partition lists a view past the last
       none : (k : ℕ) → k < mostViews → (k < views → ⊥) → getD grants k 0 ≡ 0
@@ -108,8 +111,12 @@ module _ (views n : ℕ) (grants : List ℕ) where
       listed-iff : (k i : ℕ) → (k + 1 ∈ partition i) ↔ ((k < views) × (bit (getD grants k 0) i ≡ 1))
       listed-iff k i =
           let back : k + 1 - 1 ≡ k = omega arith in (
-            λ m. let (x, y, t) = in-views (grantedAt grants i) views (k + 1) m in (omega arith, eqb-true _ _ (sym (holds-true _ (rw back at t)))),
-            λ r. views-in (grantedAt grants i) views (k + 1) (omega arith) (omega (arith, r .0)) (rw back (true-holds (is-set _ i (r .1)))),
+            λ m.
+                let (x, y, t) = in-views (grantedAt grants i) views (k + 1) m in
+                (omega arith, eqb-true _ _ (sym (holds-true _ (rw back at t)))),
+            λ r.
+                views-in (grantedAt grants i) views (k + 1) (omega arith) (omega (arith, r .0))
+                (rw back (true-holds (is-set _ i (r .1)))),
           )
 
       small : (k : ℕ) → k < mostViews → getD grants k 0 < 2 ^ n

@@ -5,7 +5,7 @@ use mathlib.Core.List.{List}
 use Prim.Native.Nat.{ℕ, _≤_}
 use lib.ListN.{length}
 use Rattle.theory.proofs.Tuples.{map-self}
-use Rattle.model.specs.Limits.{mostTables}
+use Rattle.model.specs.Limits.{mostTables, mostColumns}
 use Rattle.model.specs.Value.{pad, tablesValue}
 use Rattle.model.specs.declared.Tables.{Tables}
 use Rattle.model.proofs.Limits.{up-to-iff}
@@ -13,16 +13,16 @@ use Rattle.validity.specs.Parts.{ValueOf, HoldsList, WidthPlace, TablesO
 use Rattle.policy_text.specs.WellFormed.{GoodWidth}
 use Rattle.validity.proofs.Held.{Checked, checked-held, held-checked}
 
-pub width-iff : (w : ℕ) → ValueOf GoodWidth (λ w. w) w ↔ ((1 ≤ w) × (w ≤ 8))
+pub width-iff : (w : ℕ) → ValueOf GoodWidth (λ w. w) w ↔ ((1 ≤ w) × (w ≤ mostColumns))
 width-iff w = (
-  λ h. up-to-iff 8 w .0 (rw (h .is) (h .good)),
-  λ k. record { thing = w; good = up-to-iff 8 w .1 k; is = refl },
+  λ h. up-to-iff mostColumns w .0 (rw (h .is) (h .good)),
+  λ k. record { thing = w; good = up-to-iff mostColumns w .1 k; is = refl },
 )
 
 -- ---- the columns and their count make the value of the tables
 
 module _ (t : Tables) where
-  tables-held : ((widths : List ℕ) × TablesOf widths t) → HoldsList 16 GoodWidth (λ w. w) 0 (t .count) (t .columns)
+  tables-held : ((widths : List ℕ) × TablesOf widths t) → HoldsList mostTables GoodWidth (λ w. w) 0 (t .count) (t .columns)
   unfolding tablesValue
   tables-held r =
       record {
@@ -32,15 +32,15 @@ module _ (t : Tables) where
         is = ap (λ (s : Tables). s .columns) (r .1 .is) ∙ rw (map-self (λ w. w) (r .0) (λ w m. refl));
       }
 
-  held-tables : HoldsList 16 GoodWidth (λ w. w) 0 (t .count) (t .columns) → (widths : List ℕ) × TablesOf widths t
+  held-tables : HoldsList mostTables GoodWidth (λ w. w) 0 (t .count) (t .columns) → (widths : List ℕ) × TablesOf widths t
   unfolding tablesValue
   held-tables h =
-      let columns = h .is ∙ ap (pad 16 0) (map-self (λ w. w) (h .things) (λ w m. refl)) in
+      let columns = h .is ∙ ap (pad mostTables 0) (map-self (λ w. w) (h .things) (λ w m. refl)) in
       (h .things, record { listed = h .listed; is = λ i. record { count = h .count i; columns = columns i } })
 
-  pub tables-checked : ((widths : List ℕ) × TablesOf widths t) → Checked 16 WidthPlace 0 (t .count) (t .columns)
-  tables-checked r = held-checked GoodWidth (λ w. w) 0 16 (t .count) (t .columns) (tables-held r)
+  pub tables-checked : ((widths : List ℕ) × TablesOf widths t) → Checked mostTables WidthPlace 0 (t .count) (t .columns)
+  tables-checked r = held-checked GoodWidth (λ w. w) 0 mostTables (t .count) (t .columns) (tables-held r)
 
-  pub checked-tables : length (t .columns) ≡ 16 → Checked 16 WidthPlace 0 (t .count) (t .columns)
+  pub checked-tables : length (t .columns) ≡ mostTables → Checked mostTables WidthPlace 0 (t .count) (t .columns)
       → (widths : List ℕ) × TablesOf widths t
-  checked-tables long c = held-tables (checked-held GoodWidth (λ w. w) 0 16 (t .count) (t .columns) long c)
+  checked-tables long c = held-tables (checked-held GoodWidth (λ w. w) 0 mostTables (t .count) (t .columns) long c)

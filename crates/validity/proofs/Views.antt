@@ -8,7 +8,7 @@ use lib.ListN.{length, getD, take, length-map}
 use lib.Seq.{take-all}
 use Rattle.theory.specs.Query.{Line as TheLine}
 use Rattle.theory.proofs.Executable.Test.{and-iff, all-iff}
-use Rattle.model.specs.Limits.{mostTables, mostViews, upTo, termWithin, lineWithin}
+use Rattle.model.specs.Limits.{mostTables, mostColumns, mostViews, upTo, termWithin, lineWithin}
 use Rattle.model.specs.Checks.{known, wide}
 use Rattle.model.specs.Value.{pad, unusedTerm, termValue, termsValue, unusedLine, lineValue, tablesValue}
 use Rattle.model.specs.declared.Line.{Line}
@@ -22,12 +22,12 @@ use Rattle.validity.proofs.Held.{Checked, checked-default, checked-held
 use Rattle.validity.proofs.Tables.{width-iff, tables-checked}
 use Rattle.validity.proofs.Clash.{apart-iff}
 
--- eight terms or fewer are all kept
-kept : (l : List Term) → length l ≤ 8 → pad 8 unusedTerm (take 8 l) ≡ pad 8 unusedTerm l
-kept l h = ap (pad 8 unusedTerm) (take-all 8 l h)
+-- no more terms than a line holds are all kept
+kept : (l : List Term) → length l ≤ mostColumns → pad mostColumns unusedTerm (take mostColumns l) ≡ pad mostColumns unusedTerm l
+kept l h = ap (pad mostColumns unusedTerm) (take-all mostColumns l h)
 
 module _ (widths : List ℕ) (t : Tables) (tables : TablesOf widths t) where
-  pub tables-few : t .count ≤ 16
+  pub tables-few : t .count ≤ mostTables
   tables-few = tables-checked t (widths, tables) .counted .1
 
   tables-count : t .count ≡ length widths
@@ -36,9 +36,9 @@ module _ (widths : List ℕ) (t : Tables) (tables : TablesOf widths t) where
 
   tables-width : (k : ℕ) → getD (t .columns) k 0 ≡ getD widths k 0
   unfolding tablesValue
-  tables-width k = ap (λ (s : Tables). getD (s .columns) k 0) (tables .is) ∙ pad-get 16 0 widths k
+  tables-width k = ap (λ (s : Tables). getD (s .columns) k 0) (tables .is) ∙ pad-get mostTables 0 widths k
 
-  pub width-within : (k : ℕ) → k < t .count → (1 ≤ getD (t .columns) k 0) × (getD (t .columns) k 0 ≤ 8)
+  pub width-within : (k : ℕ) → k < t .count → (1 ≤ getD (t .columns) k 0) × (getD (t .columns) k 0 ≤ mostColumns)
   width-within k h =
       let c = tables-checked t (widths, tables) in
       width-iff (getD (t .columns) k 0) .0
@@ -61,11 +61,16 @@ module _ (widths : List ℕ) (t : Tables) (tables : TablesOf widths t) where
           thing = A;
           good =
               record {
-                within = and-iff (upTo 16 (l .table)) _ .1 (
-                  up-to-iff 16 (l .table) .1 (some, omega (arith, tables-few)),
+                within = and-iff (upTo mostTables (l .table)) _ .1 (
+                  up-to-iff mostTables (l .table) .1 (some, omega (arith, tables-few)),
                   all-iff termWithin (A .columns) .1 (d .held .listed .each),
                 );
-                fits = record { first = some; last = omega (arith, tables-count); width = sym (d .held .count) ∙ tables-width (l .table - 1) };
+                fits =
+                    record {
+                      first = some;
+                      last = omega (arith, tables-count);
+                      width = sym (d .held .count) ∙ tables-width (l .table - 1);
+                    };
                 clear = apart-iff A .1 (d .clear);
               };
           is = λ i. record { table = l .table; terms = terms i };
@@ -89,7 +94,7 @@ module _ (widths : List ℕ) (t : Tables) (tables : TablesOf widths t) where
                     record {
                       nonempty = omega (arith, w .0, count);
                       few = omega (arith, w .1, count);
-                      each = all-iff termWithin (A .columns) .0 (and-iff (upTo 16 (A .table)) _ .0 (v .good .within) .1);
+                      each = all-iff termWithin (A .columns) .0 (and-iff (upTo mostTables (A .table)) _ .0 (v .good .within) .1);
                     };
                 count = count;
                 is = ap (λ (x : Line). x .terms) (v .is)
@@ -109,10 +114,10 @@ abbrev pub noLine : Line
 noLine = record { table = 0; terms = [] }
 
 module _ (widths : List ℕ) (n : ℕ) (l : List Line) where
-  pub views-checked : ViewsHeld widths n l → Checked 32 (ViewPlace widths) noLine n l
+  pub views-checked : ViewsHeld widths n l → Checked mostViews (ViewPlace widths) noLine n l
   views-checked h =
-      checked-default noLine (held-length (GoodView widths) lineValue unusedLine 32 n l h)
-      (held-checked (GoodView widths) lineValue unusedLine 32 n l h)
+      checked-default noLine (held-length (GoodView widths) lineValue unusedLine mostViews n l h)
+      (held-checked (GoodView widths) lineValue unusedLine mostViews n l h)
 
-  pub checked-views : length l ≡ 32 → Checked 32 (ViewPlace widths) noLine n l → ViewsHeld widths n l
-  checked-views long c = checked-held (GoodView widths) lineValue unusedLine 32 n l long (checked-default unusedLine long c)
+  pub checked-views : length l ≡ mostViews → Checked mostViews (ViewPlace widths) noLine n l → ViewsHeld widths n l
+  checked-views long c = checked-held (GoodView widths) lineValue unusedLine mostViews n l long (checked-default unusedLine long c)

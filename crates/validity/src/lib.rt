@@ -4,12 +4,12 @@ ghost use mathlib.Core.Path.{_≡_};
 ghost use mathlib.Core.Logic.{_↔_};
 ghost use mathlib.Core.Bool.{true};
 ghost use mathlib.Core.List.{List};
-ghost use Prim.Native.Nat.{ℕ, _≤_, _<_};
-ghost use Rattle.words.specs.Sets.{setBit};
+ghost use Prim.Native.Nat.{ℕ, _≤_};
 ghost use Rattle.model.specs.Limits.{mostTables, mostColumns, mostViews, mostPartitions};
 ghost use Rattle.model.specs.Value.{unusedTerm, unusedLine};
 ghost use Rattle.validity.specs.Loadable.{Loadable};
-ghost use Rattle.validity.specs.Parts.{WidthPlace, TablesOf, TermOf, TermPlace, TermsHeld, ViewOf, ViewPlace, ViewsHeld, GrantPlace, PartitionsHeld};
+ghost use Rattle.validity.specs.Parts.{WidthPlace, TablesOf, TermOf, TermPlace, TermsHeld};
+ghost use Rattle.validity.specs.Parts.{ViewOf, ViewPlace, ViewsHeld, GrantPlace, PartitionsHeld};
 use model::CONSTANT;
 use model::HIDDEN;
 use model::LAST_VARIABLE;
@@ -23,9 +23,8 @@ use model::SHOWN;
 use model::Tables;
 use model::Term;
 use model::UNUSED;
-
-// The largest number of a constant.
-const CONSTANT_LIMIT: u64 = 4_294_967_295;
+use model::with_mark;
+use text::CONSTANT_LIMIT;
 
 pub fn valid(p: Policy) -> bool
     ensures { λ r. ⌜ (r ≡ true) ↔ Loadable p ⌝ }
@@ -170,18 +169,6 @@ fn unused_term(t: Term) -> bool
     ensures { λ r. ⌜ (r ≡ true) ↔ (t ≡ unusedTerm) ⌝ }
 {
     t.mark == UNUSED && t.number == 0
-}
-
-// The word with the bit of the term's number set, where the term has the mark.
-fn with_mark(mark: u64, m: u64, t: Term) -> u64
-    requires { ⌜ (t .mark ≡ mark → t .number < 64) ⌝ }
-    ensures { λ r. ⌜ (t .mark ≡ mark → r ≡ setBit m (t .number)) ⌝ }
-    ensures { λ r. ⌜ ((t .mark ≡ mark → ⊥) → r ≡ m) ⌝ }
-{
-    if t.mark == mark {
-        return words::set_bit(m, t.number);
-    }
-    m
 }
 
 fn unused_line(l: Line) -> bool

@@ -1,4 +1,4 @@
--- `explain::add_word`: the word is inserted unless `has_word` finds it.
+-- `add_word`: the word is inserted unless `has_word` finds it.
 use borrow.Author.Needs.{needs}
 use Rattle.explain.proofs.add_word.Statement.{statement}
 use Rattle.explain.proofs.add_word.Tie as tie

@@ -1,4 +1,4 @@
--- `explain::exceeds`: the two tests, one after the other.
+-- `exceeds`: the two tests, one after the other.
 use mathlib.Core.Path.{sym, ap, _∙_}
 use mathlib.Core.Bool.{Bool, not, _&&_}
 use borrow.Author.Needs.{needs}

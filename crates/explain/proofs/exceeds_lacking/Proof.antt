@@ -1,4 +1,4 @@
--- `explain::exceeds_lacking`: the two tests, one after the other.
+-- `exceeds_lacking`: the two tests, one after the other.
 use borrow.Author.Needs.{needs}
 use Rattle.explain.proofs.exceeds_lacking.Statement.{statement}
 use Rattle.explain.proofs.exceeds_lacking.Tie as tie

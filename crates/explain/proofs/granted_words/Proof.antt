@@ -1,17 +1,14 @@
 -- `granted_words`: the words are those of the labels from `i` on.
-use mathlib.Core.Path.{_≡_, sym, ap, _∙_}
-use mathlib.Core.List.{List}
-use Prim.Native.Nat.{ℕ, _+_, _≤_}
+use mathlib.Core.Path.{ap, _∙_}
 use native.Mathlib.Omega.{arith}
 use borrow.Author.Needs.{needs}
 use Rattle.labelling.specs.Posed.{wordsValue}
-use Rattle.labelling.specs.declared.Words.{Words}
-use Rattle.explain.proofs.Gathered.{grantedFrom, granted-all, granted-none, granted-more}
+use Rattle.explain.proofs.Gathered.{Gathered, gathered-none, grantedFrom, granted-all, granted-none, granted-more}
 use Rattle.explain.proofs.granted_words.Statement.{statement}
 use Rattle.explain.proofs.granted_words.Tie as tie
 
 abbrev Inv-loop : tie.InvT-loop
-Inv-loop granted l r₀ i₀ r i = (r .count + i ≤ l .count) × ((ws : List ℕ) → l ≡ wordsValue ws → r ≡ wordsValue (grantedFrom granted ws i))
+Inv-loop granted l r₀ i₀ r i = Gathered (grantedFrom granted) l r i
 
 abbrev μ-loop : tie.MeasureT-loop
 μ-loop granted l r₀ i₀ r i = i
@@ -20,20 +17,16 @@ no-words-requires : tie.Need-no-words-requires Inv-loop μ-loop
 no-words-requires c κs = search needs
 
 loop-holds : tie.Need-loop-holds Inv-loop μ-loop
-unfolding wordsValue
-loop-holds c =
-    let none = c .no-words .ensures in
-    let empty : c .no-words .result .count ≡ 0 = ap (λ (w : Words). w .count) none in
-    (omega (arith, empty), λ ws e. none ∙ ap wordsValue (sym (granted-none _ _ ws e)))
+loop-holds c = gathered-none (c .no-words .ensures) (granted-none _ _)
 
 sub-i : tie.Need-sub-i Inv-loop μ-loop
 sub-i c = omega (arith, c .loop-test .taken)
 
 mul-high-half : tie.Need-mul-high-half Inv-loop μ-loop
-mul-high-half c = omega (arith, c .loop-test .taken, c .before .loop .inv .0, c .before .before .before .pre)
+mul-high-half c = omega (arith, c .loop-test .taken, c .before .loop .inv .few, c .before .before .before .pre)
 
 element-copy-out-high-half : tie.Need-element-copy-out-high-half Inv-loop μ-loop
-element-copy-out-high-half c = omega (arith, c .loop-test .taken, c .before .loop .inv .0, c .before .before .before .pre)
+element-copy-out-high-half c = omega (arith, c .loop-test .taken, c .before .loop .inv .few, c .before .before .before .pre)
 
 high-half-requires : tie.Need-high-half-requires Inv-loop μ-loop
 high-half-requires c κs = search needs
@@ -41,7 +34,7 @@ high-half-requires c κs = search needs
 insert-word-requires : tie.Need-insert-word-requires Inv-loop μ-loop
 insert-word-requires c κs =
     let at = c .before .before in
-    omega (arith, at .loop-test .taken, at .before .loop .inv .0, at .before .before .before .pre)
+    omega (arith, at .loop-test .taken, at .before .loop .inv .few, at .before .before .before .pre)
 
 loop-less : tie.Need-loop-less Inv-loop μ-loop
 loop-less c = omega (arith, c .before .before .before .loop-test .taken)
@@ -49,15 +42,16 @@ loop-less c = omega (arith, c .before .before .before .loop-test .taken)
 loop-again : tie.Need-loop-again Inv-loop μ-loop
 loop-again c =
     let at = c .before .before .before in
-    let loop = at .before .loop in (
-      omega (arith, at .loop-test .taken, loop .inv .0, c .insert-word .ensures .0),
-      λ ws e.
-          rw (granted-more _ _ ws e (loop .i) _ (at .loop-test .taken) (omega (arith, loop .inv .0)) (c .before .high-half .ensures))
-          (c .insert-word .ensures .1 _ (loop .inv .1 ws e)),
-    )
+    let loop = at .before .loop in
+    record {
+      few = omega (arith, at .loop-test .taken, loop .inv .few, c .insert-word .ensures .0);
+      words = λ ws e.
+          rw (granted-more _ _ ws e (loop .i) _ (at .loop-test .taken) (omega (arith, loop .inv .few)) (c .before .high-half .ensures))
+          (c .insert-word .ensures .1 _ (loop .inv .words ws e));
+    }
 
 returns : tie.Need-returns Inv-loop μ-loop
-returns c = λ ws e. c .before .loop .inv .1 ws e ∙ ap wordsValue (granted-all _ ws (c .before .loop .i) (c .loop-test .left))
+returns c = λ ws e. c .before .loop .inv .words ws e ∙ ap wordsValue (granted-all _ ws (c .before .loop .i) (c .loop-test .left))
 
 pub granted-words-spec : {M : Type 1} → statement M
 granted-words-spec =

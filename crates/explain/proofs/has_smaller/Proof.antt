@@ -1,16 +1,16 @@
--- `explain::has_smaller`: the word strictly includes the views of no label before `i` that holds no granted view.
+-- `has_smaller`: the word strictly includes the views of no label before `i` that holds no granted view.
 use mathlib.Core.Path.{_≡_, refl, sym, _∙_}
 use mathlib.Core.List.{List}
-use Prim.Native.Nat.{ℕ, _-_, _≤_, _<_}
+use Prim.Native.Nat.{ℕ, _-_}
 use native.Mathlib.Omega.{arith}
 use borrow.Author.Needs.{needs}
-use lib.ListN.{length, getD}
+use lib.ListN.{getD}
 use Rattle.labelling.specs.Posed.{wordsValue}
 use Rattle.explain.specs.Explanation.{exceeds}
 use Rattle.explain.proofs.Gathered.{label-passes}
 use Rattle.explain.proofs.Lacking.{passes, any-lacking}
 use Rattle.explain.proofs.Search.{NoneBefore, none-more, one-there, none-there}
-use Rattle.explain.proofs.Value.{count-is}
+use Rattle.explain.proofs.Value.{inside, past}
 use Rattle.explain.proofs.has_smaller.Statement.{statement}
 use Rattle.explain.proofs.has_smaller.Tie as tie
 
@@ -35,9 +35,6 @@ high-half-requires c κs = search needs
 exceeds-lacking-requires : tie.Need-exceeds-lacking-requires Inv-loop μ-loop
 exceeds-lacking-requires c κs = search needs
 
-inside : (c : tie.In-loop Inv-loop μ-loop) (ws : List ℕ) → c .before .before .args .t1 ≡ wordsValue ws → c .before .loop .i < length ws
-inside c ws e = omega (arith, c .loop-test .taken, count-is (c .before .before .args .t1) ws e)
-
 -- what the test says of the label at `i`
 tested : (c : tie.After-exceeds-lacking Inv-loop μ-loop) →
     let at = c .before .before .before .before in
@@ -49,7 +46,7 @@ returns : tie.Need-returns Inv-loop μ-loop
 returns c = λ ws e.
     let at = c .before .before .before .before in
     rw any-lacking
-    (one-there (passes _ (exceeds _)) ws 0 (at .before .loop .i) (inside at ws e) (at .before .loop .inv ws e)
+    (one-there (passes _ (exceeds _)) ws 0 (at .before .loop .i) (inside _ ws e (at .loop-test .taken)) (at .before .loop .inv ws e)
     (tested (c .before) ws e ∙ c .if1 .taken))
 
 add-i : tie.Need-add-i Inv-loop μ-loop
@@ -61,13 +58,13 @@ loop-less c = omega (arith, c .before .before .before .before .loop-test .taken)
 loop-again : tie.Need-loop-again Inv-loop μ-loop
 loop-again c = λ ws e.
     let at = c .before .before .before .before in
-    none-more (passes _ (exceeds _)) ws 0 (at .before .loop .i) (inside at ws e) (at .before .loop .inv ws e)
+    none-more (passes _ (exceeds _)) ws 0 (at .before .loop .i) (inside _ ws e (at .loop-test .taken)) (at .before .loop .inv ws e)
     (tested (c .before) ws e ∙ c .if1 .left)
 
 returns-2 : tie.Need-returns-2 Inv-loop μ-loop
 returns-2 c = λ ws e.
-    let past : length ws ≤ c .before .loop .i = omega (arith, c .loop-test .left, count-is (c .before .before .args .t1) ws e) in
-    rw any-lacking (none-there (passes _ (exceeds _)) ws (c .before .loop .i) past (c .before .loop .inv ws e))
+    rw any-lacking
+    (none-there (passes _ (exceeds _)) ws (c .before .loop .i) (past _ ws e (c .loop-test .left)) (c .before .loop .inv ws e))
 
 pub has-smaller-spec : {M : Type 1} → statement M
 has-smaller-spec =

@@ -1,15 +1,14 @@
--- `explain::has_word`: no word before `i` is the word that is searched.
+-- `has_word`: no word before `i` is the word that is searched.
 use mathlib.Core.Path.{_≡_, refl, sym, ap, _∙_}
 use mathlib.Core.List.{List}
-use Prim.Native.Nat.{ℕ, _-_, _≤_, _<_}
+use Prim.Native.Nat.{ℕ, _-_}
 use native.Mathlib.Omega.{arith}
 use borrow.Author.Needs.{needs}
 use borrow.Author.Tests.{eq-eqb, ne-eqb}
 use lib.Dec.{eqb}
-use lib.ListN.{length}
 use Rattle.labelling.specs.Posed.{wordsValue}
 use Rattle.explain.proofs.Search.{NoneBefore, none-more, one-there, none-there}
-use Rattle.explain.proofs.Value.{count-is, word-is}
+use Rattle.explain.proofs.Value.{inside, past, word-is}
 use Rattle.explain.proofs.has_word.Statement.{statement}
 use Rattle.explain.proofs.has_word.Tie as tie
 
@@ -28,13 +27,10 @@ mul-if1 c = omega (arith, c .loop-test .taken, c .before .before .pre)
 element-copy-out-if1 : tie.Need-element-copy-out-if1 Inv-loop μ-loop
 element-copy-out-if1 c = omega (arith, c .loop-test .taken, c .before .before .pre)
 
-inside : (c : tie.In-loop Inv-loop μ-loop) (l : List ℕ) → c .before .before .args .t1 ≡ wordsValue l → c .before .loop .i < length l
-inside c l e = omega (arith, c .loop-test .taken, count-is (c .before .before .args .t1) l e)
-
 returns : tie.Need-returns Inv-loop μ-loop
 returns c = λ l e.
     let at = c .before .before in
-    one-there (eqb _) l 0 (at .before .loop .i) (inside at l e) (at .before .loop .inv l e)
+    one-there (eqb _) l 0 (at .before .loop .i) (inside _ l e (at .loop-test .taken)) (at .before .loop .inv l e)
     (ap (eqb _) (sym (word-is _ l e _)) ∙ eq-eqb _ _ (c .if1 .taken))
 
 add-i : tie.Need-add-i Inv-loop μ-loop
@@ -46,13 +42,12 @@ loop-less c = omega (arith, c .before .before .loop-test .taken)
 loop-again : tie.Need-loop-again Inv-loop μ-loop
 loop-again c = λ l e.
     let at = c .before .before in
-    none-more (eqb _) l 0 (at .before .loop .i) (inside at l e) (at .before .loop .inv l e)
+    none-more (eqb _) l 0 (at .before .loop .i) (inside _ l e (at .loop-test .taken)) (at .before .loop .inv l e)
     (ap (eqb _) (sym (word-is _ l e _)) ∙ ne-eqb _ _ (c .if1 .left))
 
 returns-2 : tie.Need-returns-2 Inv-loop μ-loop
 returns-2 c = λ l e.
-    let past : length l ≤ c .before .loop .i = omega (arith, c .loop-test .left, count-is (c .before .before .args .t1) l e) in
-    none-there (eqb _) l (c .before .loop .i) past (c .before .loop .inv l e)
+    none-there (eqb _) l (c .before .loop .i) (past _ l e (c .loop-test .left)) (c .before .loop .inv l e)
 
 pub has-word-spec : {M : Type 1} → statement M
 has-word-spec =

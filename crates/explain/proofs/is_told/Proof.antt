@@ -1,4 +1,4 @@
--- `explain::is_told`: the two tests, one after the other.
+-- `is_told`: the two tests, one after the other.
 use borrow.Author.Needs.{needs}
 use Rattle.explain.proofs.is_told.Statement.{statement}
 use Rattle.explain.proofs.is_told.Tie as tie

@@ -1,4 +1,4 @@
--- `explain::words_of`: the case that is handed in.
+-- `words_of`: the case that is handed in.
 use mathlib.Core.Path.{sym, _∙_}
 use borrow.Author.Needs.{needs}
 use Rattle.explain.specs.Explanation.{explained}

@@ -1,3 +1,4 @@
+-- `empty_policy`: the value of nothing declared.
 use mathlib.Core.Path.{refl}
 use Rattle.model.specs.Value.{pad, tablesValue, unusedLine, unusedTerm}
 use Rattle.policy_text.specs.Text.{nothing}

@@ -1,3 +1,4 @@
+-- `is_next`: the block's number says which names line is the next, and no block is behind the partitions.
 use borrow.Author.Needs.{needs}
 use borrow.Author.Tests.{not-true, not-false}
 use mathlib.Core.Path.{sym, _∙_}
@@ -7,7 +8,7 @@ use Rattle.load.proofs.is_next.Statement.{statement}
 use Rattle.load.proofs.is_next.Tie as tie
 
 returns : tie.Need-returns
-returns c = λ b e. next-of-none (c .before .before .args .started) b (c .before .before .args .line .now) (not-true _ (c .if1 .taken))
+returns c = let a = c .before .before .args in λ b e. next-of-none (a .started) b (a .line .now) (not-true _ (c .if1 .taken))
 
 slice-aggregate-same : tie.Need-slice-aggregate-same
 slice-aggregate-same c = search needs
@@ -17,10 +18,11 @@ same-requires c κs = search needs
 
 returns-2 : tie.Need-returns-2
 unfolding viewTableTerms
-returns-2 c = λ b e.
-    c .same .ensures
-    ∙ next-of-tables (c .before .before .before .before .before .args .started) b (c .before .before .before .before .before .args .line .now)
-    (not-false _ (c .before .before .before .if1 .left)) (sym e ∙ c .before .before .if2 .taken)
+returns-2 c =
+    let at = c .before .before in
+    let a = at .before .before .before .args in
+    λ b e. c .same .ensures
+    ∙ next-of-tables (a .started) b (a .line .now) (not-false _ (at .before .if1 .left)) (sym e ∙ at .if2 .taken)
 
 slice-aggregate-same-2 : tie.Need-slice-aggregate-same-2
 slice-aggregate-same-2 c = search needs
@@ -30,14 +32,17 @@ same-requires-2 c κs = search needs
 
 returns-3 : tie.Need-returns-3
 unfolding partitionViews
-returns-3 c = λ b e.
-    c .same2 .ensures
-    ∙ next-of-views (c .before .before .before .before .before .before .args .started) b (c .before .before .before .before .before .before .args .line .now)
-    (not-false _ (c .before .before .before .before .if1 .left)) (sym e ∙ c .before .before .if3 .taken)
+returns-3 c =
+    let at = c .before .before in
+    let a = at .before .before .before .before .args in
+    λ b e. c .same2 .ensures
+    ∙ next-of-views (a .started) b (a .line .now) (not-false _ (at .before .before .if1 .left)) (sym e ∙ at .if3 .taken)
 
 returns-4 : tie.Need-returns-4
-returns-4 c = λ b e.
-    next-of-partitions (c .before .before .before .before .args .started) b (c .before .before .before .before .args .line .now) (not-false _ (c .before .before .if1 .left)) (λ q. c .before .if2 .left (e ∙ q))
+returns-4 c =
+    let started = c .before .before in
+    let a = started .before .before .args in
+    λ b e. next-of-partitions (a .started) b (a .line .now) (not-false _ (started .if1 .left)) (λ q. c .before .if2 .left (e ∙ q))
     (λ q. c .if3 .left (e ∙ q))
 
 pub is-next-spec : {M : Type 1} → statement M

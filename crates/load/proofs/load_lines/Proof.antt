@@ -14,7 +14,8 @@ use Rattle.policy_text.specs.Text.{refused}
 use Rattle.load.specs.Value.{loadingValue}
 use Rattle.load.specs.Steps.{progressValue, blockNumber, steppedValue}
 use Rattle.load.proofs.Blocks.{policy-of}
-use Rattle.load.proofs.Walk.{Walked, walked-none, block-small, stops, turns-back, walked-more, not-partitions, not-begun, all-declared}
+use Rattle.load.proofs.Walk.{Walked, walked-none, walked-more, block-small}
+use Rattle.load.proofs.Walk.{stops, turns-back, not-partitions, not-begun, all-declared}
 use Rattle.load.proofs.load_lines.Statement.{statement}
 use Rattle.load.proofs.load_lines.Tie as tie
 
@@ -132,7 +133,8 @@ returns-3 : tie.Need-returns-3 Inv-loop μ-loop
 returns-3 c =
     c .refused3 .ensures
     ∙ ap loadingValue
-    (not-partitions (c .before .before .before .before .loop .inv) (c .before .before .before .loop-test .left) (c .before .if3 .taken))
+    (let end = c .before .before .before in
+    not-partitions (end .before .loop .inv) (end .loop-test .left) (c .before .if3 .taken))
 
 refused-requires-4 : tie.Need-refused-requires-4 Inv-loop μ-loop
 refused-requires-4 c κs = search needs
@@ -141,16 +143,18 @@ returns-4 : tie.Need-returns-4 Inv-loop μ-loop
 returns-4 c =
     c .refused4 .ensures
     ∙ ap loadingValue
-    (not-begun (c .before .before .before .before .before .before .loop .inv)
-    (c .before .before .before .before .before .loop-test .left) (not-true _ (c .before .if4 .taken)))
+    (let end = c .before .before .before .before .before in
+    not-begun (end .before .loop .inv) (end .loop-test .left) (not-true _ (c .before .if4 .taken)))
 
 returns-5 : tie.Need-returns-5 Inv-loop μ-loop
 unfolding loadingValue
 returns-5 c =
-    let w = c .before .before .before .before .before .before .loop .inv in
+    let last = c .before .before .before in
+    let end = last .before .before in
+    let w = end .before .loop .inv in
     (λ i. record { outcome = Accepted; policy = policy-of (w .block) (w .begun) (w .declared) _ (w .held) i })
     ∙ ap loadingValue
-    (all-declared w (c .before .before .before .before .before .loop-test .left) (c .before .before .before .if3 .left) (not-false _ (c .before .if4 .left)))
+    (all-declared w (end .loop-test .left) (last .if3 .left) (not-false _ (c .before .if4 .left)))
 
 pub load-lines-spec : {M : Type 1} → statement M
 load-lines-spec =

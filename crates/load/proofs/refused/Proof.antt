@@ -1,3 +1,4 @@
+-- `refused`: a refusal stands beside the empty policy.
 use borrow.Author.Needs.{needs}
 use Rattle.load.specs.Value.{loadingValue}
 use Rattle.load.proofs.refused.Statement.{statement}

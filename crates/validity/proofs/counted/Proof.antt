@@ -1,3 +1,4 @@
+-- `counted`: the two tests, one after the other.
 use native.Mathlib.Omega.{arith}
 use borrow.Author.Tests.{leb-true, le-leb}
 use Rattle.validity.proofs.counted.Statement.{statement}

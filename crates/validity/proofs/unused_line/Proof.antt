@@ -1,9 +1,11 @@
-use Prim.Native.Nat.{ℕ, _-_, _≤_, _<_}
+-- `unused_line`: the line has no table, and the terms before `i` are unused.
+use Prim.Native.Nat.{ℕ, _-_, _<_}
 use native.Mathlib.Omega.{arith}
 use mathlib.Core.Path.{_≡_}
 use borrow.Author.Count.{below-none, below-more}
 use borrow.Author.Needs.{needs}
 use lib.ListN.{getD}
+use Rattle.model.specs.Limits.{mostColumns}
 use Rattle.model.specs.Value.{unusedTerm}
 use Rattle.words.proofs.Answers.{yes-iff, no-iff, passes, fails}
 use Rattle.validity.proofs.Lists.{mapped-length}
@@ -12,16 +14,16 @@ use Rattle.validity.proofs.unused_line.Statement.{statement}
 use Rattle.validity.proofs.unused_line.Tie as tie
 
 abbrev Inv-loop : tie.InvT-loop
-Inv-loop l i₀ i = (i ≤ 8) × ((k : ℕ) → k < i → getD (l .terms) k unusedTerm ≡ unusedTerm)
+Inv-loop l i₀ i = (k : ℕ) → k < i → getD (l .terms) k unusedTerm ≡ unusedTerm
 
 abbrev μ-loop : tie.MeasureT-loop
-μ-loop l i₀ i = 8 - i
+μ-loop l i₀ i = mostColumns - i
 
 returns : tie.Need-returns Inv-loop μ-loop
 returns c = no-iff (λ e. c .if1 .taken (unused-table e))
 
 loop-holds : tie.Need-loop-holds Inv-loop μ-loop
-loop-holds c = (omega arith, below-none _)
+loop-holds c = below-none _
 
 mul-t : tie.Need-mul-t Inv-loop μ-loop
 mul-t c = omega arith
@@ -46,13 +48,12 @@ loop-less c = omega arith
 
 loop-again : tie.Need-loop-again Inv-loop μ-loop
 unfolding unusedTerm
-loop-again c =
-    (omega arith, below-more _ _ (c .before .before .before .before .loop .inv .1) (passes (c .before .unused-term .ensures) (c .if2 .left)))
+loop-again c = below-more _ _ (c .before .before .before .before .loop .inv) (passes (c .before .unused-term .ensures) (c .if2 .left))
 
 returns-3 : tie.Need-returns-3 Inv-loop μ-loop
 returns-3 c =
     yes-iff
-    (unused-line (search (needs, mapped-length)) (c .before .before .if1 .left) (λ k h. c .before .loop .inv .1 k (omega arith)))
+    (unused-line (search (needs, mapped-length)) (c .before .before .if1 .left) (λ k h. c .before .loop .inv k (omega arith)))
 
 pub unused-line-spec : {M : Type 1} → statement M
 unused-line-spec =

@@ -1,3 +1,4 @@
+-- `unused_term`: the two tests, one after the other.
 use mathlib.Core.Path.{ap}
 use borrow.Author.Tests.{eqb-true, eq-eqb}
 use Rattle.model.specs.Value.{unusedTerm}

@@ -1,3 +1,4 @@
+-- `valid`: tables, views and grants, each right beside those before it, are the parts of a loadable value.
 use mathlib.Core.Logic.{Iff·trans}
 use Rattle.words.proofs.Answers.{no-iff, passes, fails}
 use Rattle.validity.proofs.Views.{tables-few, views-checked}
@@ -26,14 +27,18 @@ returns-2 c =
 
 valid-grants-requires : tie.Need-valid-grants-requires
 valid-grants-requires c κs =
-    let t = passes (c .before .before .before .before .valid-tables .ensures) (c .before .before .before .if1 .left) in
-    views-checked (t .0) _ _ (passes (c .before .before .valid-views .ensures (t .0) (t .1)) (c .before .if2 .left)) .counted .1
+    let views = c .before in
+    let tables = views .before .before in
+    let t = passes (tables .before .valid-tables .ensures) (tables .if1 .left) in
+    views-checked (t .0) _ _ (passes (views .before .valid-views .ensures (t .0) (t .1)) (views .if2 .left)) .counted .1
 
 returns-3 : tie.Need-returns-3
 returns-3 c =
-    let p = c .before .before .before .before .before .before .before .args .p in
-    let t = passes (c .before .before .before .before .before .valid-tables .ensures) (c .before .before .before .before .if1 .left) in
-    let v = passes (c .before .before .before .valid-views .ensures (t .0) (t .1)) (c .before .before .if2 .left) in
+    let views = c .before .before in
+    let tables = views .before .before in
+    let p = tables .before .before .before .args .p in
+    let t = passes (tables .before .valid-tables .ensures) (tables .if1 .left) in
+    let v = passes (views .before .valid-views .ensures (t .0) (t .1)) (views .if2 .left) in
     Iff·trans (c .valid-grants .ensures) (
       λ h. parts-loadable p (record { widths = t .0; tables = t .1; views = v; partitions = h }),
       λ l. loadable-parts p l .partitions,

@@ -1,5 +1,5 @@
 -- `valid_grants`: the words before `k` are as they should be.
-use Prim.Native.Nat.{ℕ, _-_, _≤_, _<_}
+use Prim.Native.Nat.{ℕ, _-_, _<_}
 use native.Mathlib.Omega.{arith}
 use borrow.Author.Count.{below-none, below-more}
 use borrow.Author.Needs.{needs}
@@ -13,7 +13,7 @@ use Rattle.validity.proofs.valid_grants.Statement.{statement}
 use Rattle.validity.proofs.valid_grants.Tie as tie
 
 abbrev Inv-loop : tie.InvT-loop
-Inv-loop views n grants k₀ k = (k ≤ mostViews) × ((j : ℕ) → j < k → GrantPlace n (ltb j views) (getD grants j 0))
+Inv-loop views n grants k₀ k = (j : ℕ) → j < k → GrantPlace n (ltb j views) (getD grants j 0)
 
 abbrev μ-loop : tie.MeasureT-loop
 μ-loop views n grants k₀ k = mostViews - k
@@ -25,7 +25,7 @@ returns : tie.Need-returns Inv-loop μ-loop
 returns c = no-iff (λ h. fails (c .before .counted .ensures) (c .if1 .taken) (partitions-granted _ _ _ h .counted))
 
 loop-holds : tie.Need-loop-holds Inv-loop μ-loop
-loop-holds c = (omega arith, below-none _)
+loop-holds c = below-none _
 
 mul-g : tie.Need-mul-g Inv-loop μ-loop
 mul-g c = omega arith
@@ -50,10 +50,7 @@ loop-less : tie.Need-loop-less Inv-loop μ-loop
 loop-less c = omega arith
 
 loop-again : tie.Need-loop-again Inv-loop μ-loop
-loop-again c = (
-  omega arith,
-  below-more _ _ (c .before .before .before .loop .inv .1) (passes (c .before .valid-grant .ensures) (c .if2 .left)),
-)
+loop-again c = below-more _ _ (c .before .before .before .loop .inv) (passes (c .before .valid-grant .ensures) (c .if2 .left))
 
 returns-3 : tie.Need-returns-3 Inv-loop μ-loop
 returns-3 c =
@@ -61,7 +58,7 @@ returns-3 c =
     (granted-partitions _ _ _ (c .before .before .before .before .pre) (search needs)
     (record {
       counted = passes (c .before .before .before .counted .ensures) (c .before .before .if1 .left);
-      places = λ k h. c .before .loop .inv .1 k (omega arith);
+      places = λ k h. c .before .loop .inv k (omega arith);
     }))
 
 pub valid-grants-spec : {M : Type 1} → statement M

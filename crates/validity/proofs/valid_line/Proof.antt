@@ -1,3 +1,4 @@
+-- `valid_line`: the table is one of the tables, and the terms are right for its columns.
 use mathlib.Core.Logic.{Iff·trans}
 use native.Mathlib.Omega.{arith}
 use borrow.Author.Needs.{needs}
@@ -28,10 +29,11 @@ valid-terms-requires c κs = tt
 
 returns-3 : tie.Need-returns-3
 returns-3 c widths tables =
-    let a = c .before .before .before .before .args in
-    let w = width-within widths (a .t1) tables _ (c .before .before .if2 .left) in
+    let known = c .before .before in
+    let a = known .before .before .args in
+    let w = width-within widths (a .t1) tables _ (known .if2 .left) in
     Iff·trans (c .valid-terms .ensures (w .0) (w .1))
-    (terms-iff widths (a .t1) tables (a .l) (omega (arith, c .before .before .before .if1 .left)) (omega (arith, c .before .before .if2 .left)))
+    (terms-iff widths (a .t1) tables (a .l) (omega (arith, known .before .if1 .left)) (omega (arith, known .if2 .left)))
 
 pub valid-line-spec : {M : Type 1} → statement M
 valid-line-spec =

@@ -1,9 +1,11 @@
-use Prim.Native.Nat.{ℕ, _-_, _≤_, _<_}
+-- `valid_tables`: the widths before `i` are as they should be.
+use Prim.Native.Nat.{ℕ, _-_, _<_}
 use native.Mathlib.Omega.{arith}
 use borrow.Author.Count.{below-none, below-more}
 use borrow.Author.Needs.{needs}
 use lib.Dec.{ltb}
 use lib.ListN.{getD}
+use Rattle.model.specs.Limits.{mostTables}
 use Rattle.validity.specs.Parts.{WidthPlace}
 use Rattle.validity.proofs.Tables.{tables-checked, checked-tables}
 use Rattle.words.proofs.Answers.{yes-iff, no-iff, passes, fails}
@@ -11,10 +13,10 @@ use Rattle.validity.proofs.valid_tables.Statement.{statement}
 use Rattle.validity.proofs.valid_tables.Tie as tie
 
 abbrev Inv-loop : tie.InvT-loop
-Inv-loop t i₀ i = (i ≤ 16) × ((k : ℕ) → k < i → WidthPlace (ltb k (t .count)) (getD (t .columns) k 0))
+Inv-loop t i₀ i = (k : ℕ) → k < i → WidthPlace (ltb k (t .count)) (getD (t .columns) k 0)
 
 abbrev μ-loop : tie.MeasureT-loop
-μ-loop t i₀ i = 16 - i
+μ-loop t i₀ i = mostTables - i
 
 counted-requires : tie.Need-counted-requires Inv-loop μ-loop
 counted-requires c κs = tt
@@ -24,7 +26,7 @@ returns c =
     no-iff (λ r. fails (c .before .counted .ensures) (c .if1 .taken) (tables-checked (c .before .before .args .t1) r .counted))
 
 loop-holds : tie.Need-loop-holds Inv-loop μ-loop
-loop-holds c = (omega arith, below-none _)
+loop-holds c = below-none _
 
 mul-w : tie.Need-mul-w Inv-loop μ-loop
 mul-w c = omega arith
@@ -37,10 +39,10 @@ valid-width-requires c κs = tt
 
 returns-2 : tie.Need-returns-2 Inv-loop μ-loop
 returns-2 c =
+    let inside = c .before .before .before in
     no-iff (λ r.
     fails (c .before .valid-width .ensures) (c .if2 .taken)
-    (tables-checked (c .before .before .before .before .before .before .before .args .t1) r .places _
-    (c .before .before .before .loop-test .taken)))
+    (tables-checked (inside .before .before .before .before .args .t1) r .places _ (inside .loop-test .taken)))
 
 add-i : tie.Need-add-i Inv-loop μ-loop
 add-i c = omega arith
@@ -49,7 +51,7 @@ loop-less : tie.Need-loop-less Inv-loop μ-loop
 loop-less c = omega arith
 
 loop-again : tie.Need-loop-again Inv-loop μ-loop
-loop-again c = (omega arith, below-more _ _ (c .before .before .before .before .loop .inv .1) (passes (c .before .valid-width .ensures) (c .if2 .left)))
+loop-again c = below-more _ _ (c .before .before .before .before .loop .inv) (passes (c .before .valid-width .ensures) (c .if2 .left))
 
 returns-3 : tie.Need-returns-3 Inv-loop μ-loop
 returns-3 c =
@@ -57,7 +59,7 @@ returns-3 c =
     (checked-tables (c .before .before .before .before .args .t1) (search needs)
     (record {
       counted = passes (c .before .before .before .counted .ensures) (c .before .before .if1 .left);
-      places = λ k h. c .before .loop .inv .1 k (omega arith);
+      places = λ k h. c .before .loop .inv k (omega arith);
     }))
 
 pub valid-tables-spec : {M : Type 1} → statement M

@@ -1,3 +1,4 @@
+-- `valid_term`: a good term where it is used, the unused one behind the columns.
 use Rattle.model.specs.Value.{unusedTerm}
 use Rattle.validity.specs.Parts.{TermOf}
 use Rattle.validity.proofs.Held.{used-iff, unused-iff}

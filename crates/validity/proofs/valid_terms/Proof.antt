@@ -1,8 +1,10 @@
+-- `valid_terms`: the terms before `i` are as they should be, and the words hold their variables.
 use Prim.Native.Nat.{_-_}
 use native.Mathlib.Omega.{arith}
 use borrow.Author.Needs.{needs}
 use lib.Dec.{ltb}
 use lib.ListN.{getD}
+use Rattle.model.specs.Limits.{mostColumns}
 use Rattle.model.specs.Value.{unusedTerm}
 use Rattle.validity.specs.Parts.{TermPlace}
 use Rattle.words.proofs.Answers.{no-iff, passes, fails}
@@ -15,7 +17,7 @@ abbrev Inv-loop : tie.InvT-loop
 Inv-loop w l shown₀ hidden₀ i₀ shown hidden i = Looked w (l .terms) shown hidden i
 
 abbrev μ-loop : tie.MeasureT-loop
-μ-loop w l shown₀ hidden₀ i₀ shown hidden i = 8 - i
+μ-loop w l shown₀ hidden₀ i₀ shown hidden i = mostColumns - i
 
 loop-holds : tie.Need-loop-holds Inv-loop μ-loop
 loop-holds c = looked-none (c .args .w) (c .args .t2 .terms)
@@ -37,22 +39,23 @@ returns c some few =
 
 -- the term at the place is as it should be
 right : (c : tie.Else1 Inv-loop μ-loop)
-    → (let a = c .before .before .before .before .before .args in
-    let i = c .before .before .before .before .loop .i in TermPlace (ltb i (a .w)) (getD (a .t2 .terms) i unusedTerm))
+    → (let at = c .before .before .before .before in
+    let a = at .before .args in
+    let i = at .loop .i in TermPlace (ltb i (a .w)) (getD (a .t2 .terms) i unusedTerm))
 unfolding unusedTerm
 right c = passes (c .before .valid-term .ensures) (c .if1 .left)
 
 with-mark-requires : tie.Need-with-mark-requires Inv-loop μ-loop
 unfolding unusedTerm
-with-mark-requires c κs =
-    let used = ltb (c .before .before .before .before .loop .i) (c .before .before .before .before .before .args .w) in
-    variable-small used _ (right c) 2 (omega arith)
+with-mark-requires c κs e =
+    let at = c .before .before .before .before in
+    omega (arith, variable-small (ltb (at .loop .i) (at .before .args .w)) _ (right c) 2 (omega arith) e)
 
 with-mark-requires-2 : tie.Need-with-mark-requires-2 Inv-loop μ-loop
 unfolding unusedTerm
-with-mark-requires-2 c κs =
-    let used = ltb (c .before .before .before .before .before .loop .i) (c .before .before .before .before .before .before .args .w) in
-    variable-small used _ (right (c .before)) 3 (omega arith)
+with-mark-requires-2 c κs e =
+    let at = c .before .before .before .before .before in
+    omega (arith, variable-small (ltb (at .loop .i) (at .before .args .w)) _ (right (c .before)) 3 (omega arith) e)
 
 add-i : tie.Need-add-i Inv-loop μ-loop
 add-i c = omega arith
@@ -63,9 +66,9 @@ loop-less c = omega arith
 loop-again : tie.Need-loop-again Inv-loop μ-loop
 unfolding unusedTerm
 loop-again c =
-    looked-more _ _ (c .before .before .before .before .before .before .loop .inv)
-    (c .before .before .before .before .before .loop-test .taken) (right (c .before .before)) _ _
-    (c .before .with-mark .ensures) (c .with-mark2 .ensures)
+    let inside = c .before .before .before .before .before in
+    looked-more _ _ (inside .before .loop .inv) (inside .loop-test .taken) (right (c .before .before)) (c .before .with-mark .ensures)
+    (c .with-mark2 .ensures)
 
 meets-requires : tie.Need-meets-requires Inv-loop μ-loop
 meets-requires c κs = tt

@@ -1,3 +1,4 @@
+-- `valid_view`: a good line where it is used, the unused one behind the last view.
 use borrow.Author.Needs.{needs}
 use Rattle.model.specs.Value.{unusedLine}
 use Rattle.validity.specs.Parts.{ViewOf}

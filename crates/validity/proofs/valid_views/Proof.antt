@@ -1,10 +1,12 @@
-use Prim.Native.Nat.{ℕ, _-_, _≤_, _<_}
+-- `valid_views`: the views before `i` are as they should be, whatever the widths of the tables are.
+use Prim.Native.Nat.{ℕ, _-_, _<_}
 use mathlib.Core.List.{List}
 use native.Mathlib.Omega.{arith}
 use borrow.Author.Count.{below-none, below-more}
 use borrow.Author.Needs.{needs}
 use lib.Dec.{ltb}
 use lib.ListN.{getD}
+use Rattle.model.specs.Limits.{mostViews}
 use Rattle.validity.specs.Parts.{TablesOf, ViewPlace}
 use Rattle.words.proofs.Answers.{yes-iff, no-iff, passes, fails}
 use Rattle.validity.proofs.Lists.{mapped-length}
@@ -14,12 +16,11 @@ use Rattle.validity.proofs.valid_views.Tie as tie
 
 abbrev Inv-loop : tie.InvT-loop
 Inv-loop p n t i₀ i =
-    (i ≤ 32)
-    × ((widths : List ℕ) → TablesOf widths (p .tables) → (k : ℕ) → k < i
-    → ViewPlace widths (ltb k (p .«view_count»)) (getD (p .views) k noLine))
+    (widths : List ℕ) → TablesOf widths (p .tables) → (k : ℕ) → k < i
+    → ViewPlace widths (ltb k (p .«view_count»)) (getD (p .views) k noLine)
 
 abbrev μ-loop : tie.MeasureT-loop
-μ-loop p n t i₀ i = 32 - i
+μ-loop p n t i₀ i = mostViews - i
 
 counted-requires : tie.Need-counted-requires Inv-loop μ-loop
 counted-requires c κs = tt
@@ -29,7 +30,7 @@ returns c widths tables =
     no-iff (λ h. fails (c .before .counted .ensures) (c .if1 .taken) (views-checked widths _ _ h .counted))
 
 loop-holds : tie.Need-loop-holds Inv-loop μ-loop
-loop-holds c = (omega arith, λ widths tables. below-none _)
+loop-holds c widths tables = below-none _
 
 mul-l : tie.Need-mul-l Inv-loop μ-loop
 mul-l c = omega arith
@@ -53,12 +54,9 @@ loop-less : tie.Need-loop-less Inv-loop μ-loop
 loop-less c = omega arith
 
 loop-again : tie.Need-loop-again Inv-loop μ-loop
-loop-again c = (
-  omega arith,
-  λ widths tables.
-      below-more _ _ (c .before .before .before .before .loop .inv .1 widths tables)
-      (passes (c .before .valid-view .ensures widths tables) (c .if2 .left)),
-)
+loop-again c widths tables =
+    below-more _ _ (c .before .before .before .before .loop .inv widths tables)
+    (passes (c .before .valid-view .ensures widths tables) (c .if2 .left))
 
 returns-3 : tie.Need-returns-3 Inv-loop μ-loop
 returns-3 c widths tables =
@@ -66,7 +64,7 @@ returns-3 c widths tables =
     (checked-views widths _ _ (search (needs, mapped-length))
     (record {
       counted = passes (c .before .before .before .before .counted .ensures) (c .before .before .before .if1 .left);
-      places = λ k h. c .before .loop .inv .1 widths tables k (omega arith);
+      places = λ k h. c .before .loop .inv widths tables k (omega arith);
     }))
 
 pub valid-views-spec : {M : Type 1} → statement M

@@ -1,5 +1,7 @@
+-- `valid_width`: a width within the limit where it is used, 0 behind the last table.
 use native.Mathlib.Omega.{arith}
 use borrow.Author.Tests.{leb-true, le-leb, eqb-true, eq-eqb}
+use Rattle.model.specs.Limits.{mostColumns}
 use Rattle.validity.proofs.Held.{used-iff, unused-iff}
 use Rattle.validity.proofs.Tables.{width-iff}
 use Rattle.validity.proofs.valid_width.Statement.{statement}
@@ -9,7 +11,7 @@ returns : tie.Need-returns
 returns c =
     let w = c .before .before .args .w in
     used-iff _ _ _ (c .before .if1 .taken)
-    (λ e. width-iff w .1 (c .if2 .taken, leb-true w 8 e), λ h. le-leb w 8 (width-iff w .0 h .1))
+    (λ e. width-iff w .1 (c .if2 .taken, leb-true w mostColumns e), λ h. le-leb w mostColumns (width-iff w .0 h .1))
 
 returns-2 : tie.Need-returns-2
 returns-2 c =

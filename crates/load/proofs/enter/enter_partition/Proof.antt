@@ -1,3 +1,4 @@
+-- `enter_partition`: the line is turned back by the first of its checks, or its partition is declared.
 use borrow.Author.Needs.{needs}
 use mathlib.Core.Path.{sym, _∙_}
 use Rattle.model.specs.Fields.{partitionLine}
@@ -30,11 +31,12 @@ with-partition-requires c κs = c .before .before .partition-fault .ensures .1 (
 
 returns-2 : tie.Need-returns-2
 returns-2 c = λ d e.
-    let l = c .before .before .before .before .before .before .args .line .now in
-    let line = c .before .before .before .before .read-partition .ensures in
+    let checked = c .before .before .before in
+    let l = checked .before .before .before .args .line .now in
+    let line = checked .before .read-partition .ensures in
     let views = view-count-of d _ e in
     let count = partition-count-of d _ e in
-    let fault = sym (c .before .before .if1 .left) ∙ c .before .before .before .partition-fault .ensures .0 d (partitionLine l) views count line in
+    let fault = sym (c .before .before .if1 .left) ∙ checked .partition-fault .ensures .0 d (partitionLine l) views count line in
     entered-more d l partitionBlock _ _
     (c .with-partition .ensures d (new-partition d l _ _ _ views count line fault) e (new-partition-value d l _ _ _ views count line fault))
     (partition-declared d l _ _ _ views count line fault)

@@ -1,3 +1,4 @@
+-- `enter_table`: the line is turned back by the first of its checks, or its table is declared.
 use borrow.Author.Needs.{needs}
 use mathlib.Core.Path.{sym, _∙_}
 use Rattle.model.specs.Fields.{tableLine}
@@ -28,10 +29,11 @@ with-table-requires c κs = c .before .table-fault .ensures .1 (c .if1 .left)
 
 returns-2 : tie.Need-returns-2
 returns-2 c = λ d e.
-    let l = c .before .before .before .before .before .before .args .line .now in
-    let line = c .before .before .before .before .read-table .ensures in
+    let checked = c .before .before in
+    let l = checked .before .before .before .before .args .line .now in
+    let line = checked .before .before .read-table .ensures in
     let known = tables-of d _ e in
-    let fault = c .before .before .table-fault .ensures .0 d (tableLine l) known line in
+    let fault = checked .table-fault .ensures .0 d (tableLine l) known line in
     entered-more d l tableBlock _ _ (c .with-table .ensures d e)
     (table-declared d l _ _ known line (sym (c .before .if1 .left) ∙ fault))
 

@@ -1,3 +1,4 @@
+-- `enter_view`: the line is turned back by the first of its checks, or its view is declared.
 use borrow.Author.Needs.{needs}
 use mathlib.Core.Path.{sym, _∙_}
 use Rattle.model.specs.Fields.{viewLine}
@@ -30,10 +31,11 @@ with-view-requires c κs = c .before .before .view-fault .ensures .1 (c .before 
 
 returns-2 : tie.Need-returns-2
 returns-2 c = λ d e.
-    let l = c .before .before .before .before .before .before .before .args .line .now in
-    let line = c .before .before .before .before .before .read-view .ensures in
+    let checked = c .before .before .before in
+    let l = checked .before .before .before .before .args .line .now in
+    let line = checked .before .before .read-view .ensures in
     let count = view-count-of d _ e in
-    let fault = sym (c .before .before .if1 .left) ∙ c .before .before .before .view-fault .ensures .0 d (viewLine l) (tables-of d _ e) count line in
+    let fault = sym (c .before .before .if1 .left) ∙ checked .view-fault .ensures .0 d (viewLine l) (tables-of d _ e) count line in
     entered-more d l viewBlock _ _
     (c .with-view .ensures d (new-view d l _ _ count line fault) e (new-view-value d l _ _ count line fault))
     (view-declared d l _ _ count line fault)

@@ -1,6 +1,6 @@
 -- `granting`: the words before `k` have the partition.
 use mathlib.Core.Path.{_≡_}
-use Prim.Native.Nat.{_-_, _≤_}
+use Prim.Native.Nat.{_-_}
 use native.Mathlib.Omega.{arith}
 use borrow.Author.Needs.{needs}
 use lib.ListN.{length}
@@ -10,13 +10,13 @@ use Rattle.load.proofs.enter.granting.Statement.{statement}
 use Rattle.load.proofs.enter.granting.Tie as tie
 
 abbrev Inv-loop : tie.InvT-loop
-Inv-loop views i r₀ k₀ r k = (k ≤ mostViews) × Partly views i k r₀ r
+Inv-loop views i r₀ k₀ r k = Partly views i k r₀ r
 
 abbrev μ-loop : tie.MeasureT-loop
 μ-loop views i r₀ k₀ r k = mostViews - k
 
 loop-holds : tie.Need-loop-holds Inv-loop μ-loop
-loop-holds c = (omega arith, partly-none _ _ _)
+loop-holds c = partly-none _ _ _
 
 has-bit-requires : tie.Need-has-bit-requires Inv-loop μ-loop
 has-bit-requires c κs = omega arith
@@ -46,10 +46,10 @@ loop-again : tie.Need-loop-again Inv-loop μ-loop
 loop-again c =
     let at = c .before .before .before .loop in
     let long : length (c .before .before .before .before .args .grants) ≡ mostViews = search needs in
-    (omega arith, partly-more _ _ _ _ (omega (arith, long)) (at .inv .1) (rw (c .before .has-bit .ensures) at (c .set-bit-if .ensures)))
+    partly-more _ _ _ _ (omega (arith, long)) (at .inv) (rw (c .before .has-bit .ensures) at (c .set-bit-if .ensures))
 
 returns : tie.Need-returns Inv-loop μ-loop
-returns c = λ k h. c .before .loop .inv .1 .done k (omega (arith, h, c .loop-test .left))
+returns c = λ k h. c .before .loop .inv .done k (omega (arith, h, c .loop-test .left))
 
 pub granting-spec : {M : Type 1} → statement M
 granting-spec =

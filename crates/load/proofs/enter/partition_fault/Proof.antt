@@ -1,6 +1,8 @@
+-- `partition_fault`: each test is the next check of a partition's line; behind them all there is room for the partition.
 use native.Mathlib.Omega.{arith}
 use borrow.Author.Tests.{not-true, not-false}
-use Rattle.load.proofs.PartitionFaults.{partition-malformed, partition-outside, partition-out-of-turn, partition-not-ascending, partition-unknown, partition-taken}
+use Rattle.load.proofs.PartitionFaults.{partition-malformed, partition-outside, partition-out-of-turn, partition-not-ascending}
+use Rattle.load.proofs.PartitionFaults.{partition-unknown, partition-taken}
 use Rattle.load.proofs.enter.partition_fault.Statement.{statement}
 use Rattle.load.proofs.enter.partition_fault.Tie as tie
 
@@ -23,31 +25,34 @@ returns-3 c =
 
 returns-4 : tie.Need-returns-4
 returns-4 c =
-    let ok = not-false _ (c .before .before .before .before .before .if1 .left) in
-    let inside = c .before .before .before .before .if2 .left in
-    let limits = c .before .before .before .before .before .before .before .pre ok inside in (
-      λ d o v e f. partition-not-ascending d o _ _ _ v e f ok inside (limits .0) (c .before .before .before .if3 .left) (not-true _ (c .if4 .taken)),
+    let turn = c .before .before .before in
+    let ok = not-false _ (turn .before .before .if1 .left) in
+    let inside = turn .before .if2 .left in
+    let limits = turn .before .before .before .before .pre ok inside in (
+      λ d o v e f. partition-not-ascending d o _ _ _ v e f ok inside (limits .0) (turn .if3 .left) (not-true _ (c .if4 .taken)),
       λ z. omega arith,
     )
 
 returns-5 : tie.Need-returns-5
 returns-5 c =
-    let ok = not-false _ (c .before .before .before .before .before .before .if1 .left) in
-    let inside = c .before .before .before .before .before .if2 .left in
-    let limits = c .before .before .before .before .before .before .before .before .pre ok inside in (
-      λ d o v e f. partition-unknown d o _ _ _ v e f ok inside (limits .0) (c .before .before .before .before .if3 .left) (not-false _ (c .before .if4 .left))
-          (c .if5 .taken),
+    let turn = c .before .before .before .before in
+    let ok = not-false _ (turn .before .before .if1 .left) in
+    let inside = turn .before .if2 .left in
+    let limits = turn .before .before .before .before .pre ok inside in
+    let ascending = not-false _ (c .before .if4 .left) in (
+      λ d o v e f. partition-unknown d o _ _ _ v e f ok inside (limits .0) (turn .if3 .left) ascending (c .if5 .taken),
       λ z. omega arith,
     )
 
 returns-6 : tie.Need-returns-6
 returns-6 c =
-    let ok = not-false _ (c .before .before .before .before .before .before .if1 .left) in
-    let inside = c .before .before .before .before .before .if2 .left in
-    let limits = c .before .before .before .before .before .before .before .before .pre ok inside in (
-      λ d o v e f. partition-taken d o _ _ _ v e f ok inside (limits .0) (c .before .before .before .before .if3 .left) (not-false _ (c .before .if4 .left))
-          (c .if5 .left),
-      λ z. omega (arith, limits .0, limits .1, c .before .before .before .before .if3 .left),
+    let turn = c .before .before .before .before in
+    let ok = not-false _ (turn .before .before .if1 .left) in
+    let inside = turn .before .if2 .left in
+    let limits = turn .before .before .before .before .pre ok inside in
+    let ascending = not-false _ (c .before .if4 .left) in (
+      λ d o v e f. partition-taken d o _ _ _ v e f ok inside (limits .0) (turn .if3 .left) ascending (c .if5 .left),
+      λ z. omega (arith, limits .0, limits .1, turn .if3 .left),
     )
 
 pub partition-fault-spec : {M : Type 1} → statement M

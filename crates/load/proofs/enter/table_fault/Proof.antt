@@ -1,3 +1,4 @@
+-- `table_fault`: each test is the next check of a table's line; behind them all there is room for the table.
 use native.Mathlib.Omega.{arith}
 use borrow.Author.Tests.{not-true, not-false}
 use Rattle.load.proofs.TableFaults.{table-malformed, table-outside, table-out-of-turn, table-taken}

@@ -1,9 +1,11 @@
+-- `view_fault`: each test is the next check of a view's line; behind them all there is room for the view.
 use mathlib.Core.Path.{_∙_}
 use mathlib.Core.List.{[]}
 use native.Mathlib.Omega.{arith}
 use borrow.Author.Tests.{not-true, not-false}
 use Rattle.model.proofs.Variables.{marked-none}
-use Rattle.load.proofs.ViewFaults.{view-malformed, view-outside, view-out-of-turn, view-within, view-line-within, view-line, view-checked}
+use Rattle.load.proofs.ViewFaults.{view-malformed, view-outside, view-out-of-turn, view-checked}
+use Rattle.load.proofs.ViewFaults.{view-within, view-line-within, view-line}
 use Rattle.load.proofs.enter.view_fault.Statement.{statement}
 use Rattle.load.proofs.enter.view_fault.Tie as tie
 
@@ -25,17 +27,19 @@ returns-3 c =
     (λ d o t n e. view-out-of-turn d o _ _ n e ok inside (limits .0) (c .if3 .taken), λ z. omega arith)
 
 check-line-requires : tie.Need-check-line-requires
-check-line-requires c κs = c .before .before .before .before .before .pre .1 (not-false _ (c .before .before .before .if1 .left)) (c .before .before .if2 .left)
+check-line-requires c κs =
+    let at = c .before .before in at .before .before .before .pre .1 (not-false _ (at .before .if1 .left)) (at .if2 .left)
 
 returns-4 : tie.Need-returns-4
 returns-4 c =
-    let ok = not-false _ (c .before .before .before .before .if1 .left) in
-    let inside = c .before .before .before .if2 .left in
-    let limits = c .before .before .before .before .before .before .pre .0 ok inside in (
+    let turn = c .before .before in
+    let ok = not-false _ (turn .before .before .if1 .left) in
+    let inside = turn .before .if2 .left in
+    let limits = turn .before .before .before .before .pre .0 ok inside in (
       λ d o t n e. c .check-line .ensures (d .widths) [] (view-within d o _ _ n e ok inside .entry .value) t marked-none
           (view-line-within d o _ _ n e ok inside) (view-line d o _ _ n e ok inside)
-          ∙ view-checked d o _ _ n e ok inside (limits .0) (c .before .before .if3 .left),
-      λ z. omega (arith, limits .0, limits .1, c .before .before .if3 .left),
+          ∙ view-checked d o _ _ n e ok inside (limits .0) (turn .if3 .left),
+      λ z. omega (arith, limits .0, limits .1, turn .if3 .left),
     )
 
 pub view-fault-spec : {M : Type 1} → statement M

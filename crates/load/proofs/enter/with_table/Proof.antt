@@ -1,3 +1,4 @@
+-- `with_table`: the value with one table more.
 use borrow.Author.Needs.{needs}
 use Rattle.load.proofs.More.{table-more}
 use Rattle.load.proofs.enter.with_table.Statement.{statement}

@@ -1,3 +1,4 @@
+-- `with_view`: the value with one view more.
 use borrow.Author.Needs.{needs}
 use Rattle.load.proofs.More.{view-more}
 use Rattle.load.proofs.enter.with_view.Statement.{statement}

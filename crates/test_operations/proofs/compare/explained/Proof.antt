@@ -1,4 +1,4 @@
--- `operations::compare::explained`: as many cells are lent as there is room.
+-- `compare::explained`: as many cells are lent as there is room.
 use native.Mathlib.Omega.{arith}
 use lib.ListN.{length-take}
 use borrow.Author.Needs.{needs}

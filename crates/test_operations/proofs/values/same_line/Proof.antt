@@ -1,14 +1,15 @@
--- `operations::values::same_line` reads the eight terms of each.
+-- `values::same_line` reads the terms of both lines.
 use Prim.Native.Nat.{_-_, _≤_}
 use borrow.Author.Needs.{needs}
+use Rattle.model.specs.Limits.{mostColumns}
 use Rattle.test_operations.proofs.values.same_line.Statement.{statement}
 use Rattle.test_operations.proofs.values.same_line.Tie as tie
 
 abbrev Inv-loop : tie.InvT-loop
-Inv-loop a b i₀ i = i ≤ 8
+Inv-loop a b i₀ i = i ≤ mostColumns
 
 abbrev μ-loop : tie.MeasureT-loop
-μ-loop a b i₀ i = 8 - i
+μ-loop a b i₀ i = mostColumns - i
 
 returns : tie.Need-returns Inv-loop μ-loop
 returns c = search needs

@@ -1,14 +1,15 @@
--- `operations::values::same_tables` reads the 16 entries of each.
+-- `values::same_tables` reads the columns of each table of both.
 use Prim.Native.Nat.{_-_, _≤_}
 use borrow.Author.Needs.{needs}
+use Rattle.model.specs.Limits.{mostTables}
 use Rattle.test_operations.proofs.values.same_tables.Statement.{statement}
 use Rattle.test_operations.proofs.values.same_tables.Tie as tie
 
 abbrev Inv-loop : tie.InvT-loop
-Inv-loop a b i₀ i = i ≤ 16
+Inv-loop a b i₀ i = i ≤ mostTables
 
 abbrev μ-loop : tie.MeasureT-loop
-μ-loop a b i₀ i = 16 - i
+μ-loop a b i₀ i = mostTables - i
 
 returns : tie.Need-returns Inv-loop μ-loop
 returns c = search needs

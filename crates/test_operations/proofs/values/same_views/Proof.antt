@@ -1,14 +1,15 @@
--- `operations::values::same_views` reads the 32 views of each.
+-- `values::same_views` reads the views of both policies.
 use Prim.Native.Nat.{_-_, _≤_}
 use borrow.Author.Needs.{needs}
+use Rattle.model.specs.Limits.{mostViews}
 use Rattle.test_operations.proofs.values.same_views.Statement.{statement}
 use Rattle.test_operations.proofs.values.same_views.Tie as tie
 
 abbrev Inv-loop : tie.InvT-loop
-Inv-loop a b i₀ i = i ≤ 32
+Inv-loop a b i₀ i = i ≤ mostViews
 
 abbrev μ-loop : tie.MeasureT-loop
-μ-loop a b i₀ i = 32 - i
+μ-loop a b i₀ i = mostViews - i
 
 returns : tie.Need-returns Inv-loop μ-loop
 returns c = search needs

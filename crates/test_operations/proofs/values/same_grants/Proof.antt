@@ -1,14 +1,15 @@
--- `operations::values::same_partitions` reads the 32 entries of each.
+-- `values::same_grants` reads the word of each view of both policies.
 use Prim.Native.Nat.{_-_, _≤_}
 use borrow.Author.Needs.{needs}
-use Rattle.test_operations.proofs.values.same_partitions.Statement.{statement}
-use Rattle.test_operations.proofs.values.same_partitions.Tie as tie
+use Rattle.model.specs.Limits.{mostViews}
+use Rattle.test_operations.proofs.values.same_grants.Statement.{statement}
+use Rattle.test_operations.proofs.values.same_grants.Tie as tie
 
 abbrev Inv-loop : tie.InvT-loop
-Inv-loop a b i₀ i = i ≤ 32
+Inv-loop a b i₀ i = i ≤ mostViews
 
 abbrev μ-loop : tie.MeasureT-loop
-μ-loop a b i₀ i = 32 - i
+μ-loop a b i₀ i = mostViews - i
 
 returns : tie.Need-returns Inv-loop μ-loop
 returns c = search needs
@@ -43,8 +44,8 @@ loop-again c = search needs
 returns-3 : tie.Need-returns-3 Inv-loop μ-loop
 returns-3 c = search needs
 
-pub same-partitions-spec : {M : Type 1} → statement M
-same-partitions-spec =
+pub same-grants-spec : {M : Type 1} → statement M
+same-grants-spec =
     tie.close
     (tie.spec
     Inv-loop
