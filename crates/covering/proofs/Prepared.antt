@@ -1,5 +1,5 @@
 -- What is prepared of a policy, view by view: the rows, the words of the tables and the grants of the views before place k.
-use mathlib.Core.Path.{_≡_, refl, ap, subst, _∙_}
+use mathlib.Core.Path.{_≡_, refl, sym, ap, subst, _∙_}
 use mathlib.Core.Bool.{cond}
 use mathlib.Core.List.{List, []}
 use Prim.Native.Nat.{ℕ, _+_, _-_, _^_, _≤_, _<_}
@@ -18,7 +18,8 @@ use Rattle.model.specs.declared.Line.{Line}
 use Rattle.model.specs.declared.Policy.{Policy}
 use Rattle.model.proofs.Pad.{pad-length, pad-get}
 use Rattle.model.proofs.LaidTerms.{RowsTo, row-kept, rows-none, rows-more}
-use Rattle.covering.specs.Prepared.{tableWords, grantWords, everyWord, preparedLong, tableWord, grantWord, Prepared, Entered}
+use Rattle.covering.specs.Prepared.{tableWords, grantWords, everyWord, widthWords, preparedLong, tableWord, grantWord, tableWidth}
+use Rattle.covering.specs.Prepared.{Prepared, Entered, WidthsEntered}
 use Rattle.covering.proofs.Masks.{Mask, mask-none, mask-more, mask-all}
 use Rattle.covering.proofs.Views.{noLine, view-value}
 
@@ -107,20 +108,53 @@ module _ (p : Policy) where
         go j h (yes q) = rw q (e .granted)
         go j h (no n) = e .others j (omega (arith, h, n)) ∙ l .grant j (omega (arith, h, n))
 
-    -- the last word behind the views
-    pub partly-all : mostViews ≤ k → (w : ℕ) → w ≡ 2 ^ p .«partition_count» - 1 → Prepared p (set r everyWord w)
-    partly-all all w e =
-        let other : (i : ℕ) → (i ≡ everyWord → ⊥) → getD (set r everyWord w) i 0 ≡ getD r i 0 =
-        λ i n. getD-set-other r everyWord i w 0 n in
+    -- the word of every partition behind the views, and the columns behind it
+    pub partly-all : mostViews ≤ k → (w : ℕ) → w ≡ 2 ^ p .«partition_count» - 1 → {r′ : List ℕ}
+        → WidthsEntered (p .tables .columns) (set r everyWord w) r′ → Prepared p r′
+    partly-all all w e {r′} widths =
+        let other : (i : ℕ) → i < everyWord → getD r′ i 0 ≡ getD r i 0 =
+        λ i h. widths .kept i (omega (arith, h)) ∙ getD-set-other r everyWord i w 0 (λ q. omega (arith, q, h)) in
         record {
-          long = length-set r everyWord w ∙ l .long;
+          long = widths .long ∙ length-set r everyWord w ∙ l .long;
           laid = λ views held. record {
             row = λ n v at.
                 let b = place-below views n at in
-                row-kept (λ i h. other i (λ q. omega (arith, q, h, b, held .few)))
+                row-kept (λ i h. other i (omega (arith, h, b, held .few)))
                 (subst (LaidAt r n) (view-value held n v at) (l .row n (omega (arith, b, held .few, all))));
           };
-          table = λ t h. rw (other (tableWords + t) (λ q. omega (arith, q, h))) (mask-all p (l .table t h) all);
-          grant = λ j h. other (grantWords + j) (λ q. omega (arith, q, h)) ∙ l .grant j (omega (arith, h, all));
-          every = getD-set-same r everyWord w 0 (omega (arith, l .long)) ∙ e;
+          table = λ t h. rw (other (tableWords + t) (omega (arith, h))) (mask-all p (l .table t h) all);
+          grant = λ j h. other (grantWords + j) (omega (arith, h)) ∙ l .grant j (omega (arith, h, all));
+          every = widths .kept everyWord (omega arith) ∙ getD-set-same r everyWord w 0 (omega (arith, l .long)) ∙ e;
+          width = widths .width;
         }
+
+-- ---- the columns, one by one
+
+pub record WidthsTo (columns : List ℕ) (k : ℕ) (before after : List ℕ) : Type 0 where
+  pub long : length after ≡ length before
+  pub kept : (i : ℕ) → i < widthWords → getD after i 0 ≡ getD before i 0
+  pub width : (t : ℕ) → t < k → tableWidth after (1 + t) ≡ getD columns t 0
+
+module _ (columns before : List ℕ) where
+  pub widths-none : WidthsTo columns 0 before before
+  widths-none = record { long = refl; kept = λ i h. refl; width = λ t h. absurd (omega arith) }
+
+  pub widths-more : {k : ℕ} {after : List ℕ} → WidthsTo columns k before after → widthWords + 1 + k < length before
+      → WidthsTo columns (k + 1) before (set after (widthWords + 1 + k) (getD columns k 0))
+  widths-more {k} {after} w room = record {
+    long = length-set after (widthWords + 1 + k) (getD columns k 0) ∙ w .long;
+    kept = λ i h. getD-set-other after (widthWords + 1 + k) i (getD columns k 0) 0 (λ q. omega (arith, q, h)) ∙ w .kept i h;
+    width = λ t h. go t h (ℕ-discrete t k);
+  }
+    where
+      go : (t : ℕ) → t < k + 1 → Dec (t ≡ k)
+          → tableWidth (set after (widthWords + 1 + k) (getD columns k 0)) (1 + t) ≡ getD columns t 0
+      go t h (yes q) =
+          let here : widthWords + (1 + t) ≡ widthWords + 1 + k = omega (arith, q) in
+          rw (here, getD-set-same after (widthWords + 1 + k) (getD columns k 0) 0 (omega (arith, w .long, room))) (ap (λ (n : ℕ). getD columns n 0) (sym q))
+      go t h (no n) =
+          getD-set-other after (widthWords + 1 + k) (widthWords + (1 + t)) (getD columns k 0) 0 (λ q. n (omega (arith, q)))
+          ∙ w .width t (omega (arith, h, n))
+
+  pub widths-all : {k : ℕ} {after : List ℕ} → WidthsTo columns k before after → mostTables ≤ k → WidthsEntered columns before after
+  widths-all w all = record { long = w .long; kept = w .kept; width = λ t h. w .width t (omega (arith, h, all)) }

@@ -24,7 +24,7 @@ use Rattle.model.specs.Rows.{laidTable, LaidAt}
 use Rattle.model.specs.declared.Line.{Line}
 use Rattle.model.specs.declared.Policy.{Policy}
 use Rattle.covering.specs.Views.{Holds, OfTable}
-use Rattle.covering.specs.Prepared.{tableWord, grantWord}
+use Rattle.covering.specs.Prepared.{tableWord, grantWord, tableWidth}
 use Rattle.covering.specs.Labelled.{Labelled, Reached}
 use Rattle.words.proofs.Answers.{true-holds, holds-true}
 use Rattle.words.proofs.Marks.{upto-set, Picked, picked-all}
@@ -82,18 +82,18 @@ module _ {p : Policy} {views : List TheLine} (h : Holds p views) where
 abbrev pub Covering : List TheLine → TheLine → ℕ → Type 0
 Covering views A k = (v : TheLine) × (getElem? views k ≡ some v) × Covers v A
 
-module _ {r : List ℕ} {width : ℕ} {lines : List ℕ} {a : ℕ} {views : List TheLine} {A : TheLine} (l : Labelled r width lines a views A) where
+module _ {r lines : List ℕ} {a : ℕ} {views : List TheLine} {A : TheLine} (l : Labelled r lines a views A) where
   abbrev mask : ℕ
   mask = tableWord r (A .table)
 
   -- what the test of covering says at a place of the table's word
-  pub answered : (k : ℕ) (b : Bool) → bit mask k ≡ 1
+  pub answered : (width : ℕ) → width ≡ tableWidth r (A .table) → (k : ℕ) (b : Bool) → bit mask k ≡ 1
       → ((view line : TheLine) → LaidAt r k (lineValue view) → LaidAt lines a (lineValue line)
       → view .table ≡ line .table → length (view .columns) ≡ width → length (line .columns) ≡ width → b ≡ covers view line)
       → (b ≡ true) ↔ Covering views A k
-  answered k b e test =
+  answered width w k b e test =
       let (v, at, t) = l .bits k .0 e in
-      let same : b ≡ covers v A = test v A (l .laid .row k v at) (l .line) t (l .viewWidths v (at-place views k at) t) (l .lineWidth) in (
+      let same : b ≡ covers v A = test v A (l .laid .row k v at) (l .line) t (l .viewWidths v (at-place views k at) t ∙ sym w) (l .lineWidth ∙ sym w) in (
         λ h. (v, at, covers-iff v A .0 (true-holds (sym same ∙ h))),
         λ s.
             let here = subst (λ (w : TheLine). Covers w A) (Option·some-injective (s .0) v (sym (s .1) ∙ at)) (s .2) in

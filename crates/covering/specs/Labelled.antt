@@ -14,18 +14,17 @@ use Rattle.model.specs.Limits.{mostViews}
 use Rattle.model.specs.Value.{lineValue}
 use Rattle.model.specs.Rows.{LaidAt}
 use Rattle.covering.specs.Views.{OfTable, LaidViews}
-use Rattle.covering.specs.Prepared.{tableWord, grantWord}
+use Rattle.covering.specs.Prepared.{tableWord, grantWord, tableWidth}
 use Rattle.covering.specs.declared.LineLabel.{LineLabel}
 
--- what is prepared has the rows of the views and the word of the line's table, and row a of lines has the line; it and the views of its
--- table have `width` columns
-pub record Labelled (r : List ℕ) (width : ℕ) (lines : List ℕ) (a : ℕ) (views : List TheLine) (A : TheLine) : Type 0 where
+-- what is prepared has the rows of the views, and the word and the columns of the line's table; row a of lines has the line
+pub record Labelled (r lines : List ℕ) (a : ℕ) (views : List TheLine) (A : TheLine) : Type 0 where
   pub few : length views ≤ mostViews
   pub laid : LaidViews r views
   pub line : LaidAt lines a (lineValue A)
   pub bits : OfTable views (A .table) (tableWord r (A .table))
-  pub lineWidth : length (A .columns) ≡ width
-  pub viewWidths : (v : TheLine) → v ∈ views → v .table ≡ A .table → length (v .columns) ≡ width
+  pub lineWidth : length (A .columns) ≡ tableWidth r (A .table)
+  pub viewWidths : (v : TheLine) → v ∈ views → v .table ≡ A .table → length (v .columns) ≡ tableWidth r (A .table)
 
 -- the word has the partitions that grant one of the views which cover the line
 abbrev pub Reached : List ℕ → List TheLine → TheLine → ℕ → Type 0
@@ -34,6 +33,6 @@ Reached r views A w =
     ↔ ((k : ℕ) × (v : TheLine) × (getElem? views k ≡ some v) × Covers v A × (bit (grantWord r k) i ≡ 1))
 
 -- the label of the line in row a, and the partitions that can answer it
-abbrev pub LabelGiven : List ℕ → ℕ → List ℕ → ℕ → LineLabel → Type 0
-LabelGiven r width lines a l =
-    (views : List TheLine) (A : TheLine) → Labelled r width lines a views A → (l .label ≡ label views A) × Reached r views A (l .grants)
+abbrev pub LabelGiven : List ℕ → List ℕ → ℕ → LineLabel → Type 0
+LabelGiven r lines a l =
+    (views : List TheLine) (A : TheLine) → Labelled r lines a views A → (l .label ≡ label views A) × Reached r views A (l .grants)

@@ -4,12 +4,12 @@ mod preparing;
 
 ghost use mathlib.Core.Path.{_≡_};
 ghost use mathlib.Core.Bool.{not, _||_};
-ghost use Prim.Native.Nat.{_+_, _^_, _≤_, _<_};
+ghost use Prim.Native.Nat.{_+_, _≤_, _<_};
 ghost use lib.ListN.{length};
-ghost use Rattle.model.specs.Limits.{mostTables, mostColumns, mostViews, mostLines};
+ghost use Rattle.model.specs.Limits.{mostColumns, mostLines};
 ghost use Rattle.model.specs.Rows.{queryRowsLong, HasRow, laidTable};
 ghost use Rattle.covering.specs.Rules.{Obeys, CoversRow};
-ghost use Rattle.covering.specs.Prepared.{preparedLong, tableWord};
+ghost use Rattle.covering.specs.Prepared.{preparedLong, Tabled};
 ghost use Rattle.covering.specs.Labelled.{LabelGiven};
 ghost use Rattle.covering.specs.Order.{atOrBelow};
 use model::CONSTANT;
@@ -21,6 +21,7 @@ use model::same_term;
 use preparing::GRANT_WORDS;
 pub use preparing::Prepared;
 use preparing::TABLE_WORDS;
+use preparing::WIDTH_WORDS;
 pub use preparing::every_partition;
 pub use preparing::prepare;
 
@@ -83,13 +84,14 @@ pub struct LineLabel {
     pub grants: u64,
 }
 
-// The label of the line in row `a`, of a table of `width` columns.
-pub fn label_line(ready: &Prepared, width: usize, lines: &QueryRows, a: usize) -> LineLabel
-    requires { ⌜ (length (now ready) ≡ preparedLong) × (length (now lines) ≡ queryRowsLong) × (width ≤ mostColumns) × (a < mostLines) ⌝ }
-    requires { ⌜ (laidTable (now lines) a ≤ mostTables) × (tableWord (now ready) (laidTable (now lines) a) < 2 ^ mostViews) ⌝ }
-    ensures { λ l. ⌜ LabelGiven (now (ready .entry)) width (now (lines .entry)) a l ⌝ }
+// The label of the line in row `a`, of one of the tables.
+pub fn label_line(ready: &Prepared, lines: &QueryRows, a: usize) -> LineLabel
+    requires { ⌜ (length (now ready) ≡ preparedLong) × (length (now lines) ≡ queryRowsLong) × (a < mostLines) ⌝ }
+    requires { ⌜ Tabled (now ready) (laidTable (now lines) a) ⌝ }
+    ensures { λ l. ⌜ LabelGiven (now (ready .entry)) (now (lines .entry)) a l ⌝ }
 {
     let table = model::table_at(lines, a);
+    let width = ready[WIDTH_WORDS + table as usize] as usize;
     let mut word = 0;
     let mut grants = 0;
     let mut left = ready[TABLE_WORDS + table as usize];

@@ -18,7 +18,6 @@ use Rattle.theory.proofs.Executable.Reduce.{reduce-reduces}
 use Rattle.theory.proofs.Tuples.{getD-mem, fits-over}
 use Rattle.words.specs.Bits.{bit, isSet}
 use Rattle.model.specs.Limits.{mostTables, mostColumns}
-use Rattle.model.specs.Checks.{wide}
 use Rattle.model.specs.Rows.{laidTable, LaidAt}
 use Rattle.model.specs.Value.{lineValue}
 use Rattle.model.specs.declared.Tables.{Tables}
@@ -27,7 +26,7 @@ use Rattle.policy_text.specs.Declared.{Declared}
 use Rattle.model.proofs.Limits.{up-to-iff}
 use Rattle.policy_text.specs.Policy.{grantsOf}
 use Rattle.policy_text.proofs.Grants.{grants-bit, good-below}
-use Rattle.covering.specs.Prepared.{grantWord}
+use Rattle.covering.specs.Prepared.{grantWord, tableWidth, Tabled}
 use Rattle.covering.specs.Labelled.{Labelled, Reached}
 use Rattle.reduce.specs.Agree.{lineAt}
 use Rattle.reduce.specs.Left.{linesAt}
@@ -43,38 +42,44 @@ use Rattle.labelling.proofs.Granted.{covering-answers, answers-covering
 
 -- ---- a line
 
--- its table, as it was read from its row
+-- its table is one of the policy's, with the width that is prepared
 module _ {d : Declared} {tables : Tables} {r : List ℕ} (ready : Ready d tables r) {lines : List ℕ} {i : ℕ} {A : Line}
-    (l : LineOf d lines i A) {table : ℕ} (read : table ≡ laidTable lines i) where
-  table-is : table ≡ A .table
-  unfolding lineValue
-  table-is = read ∙ l .line .table
+    (l : LineOf d lines i A) where
+  last-table : A .table ≤ mostTables
+  last-table = omega (arith, l .fits .last, ready .good .tables .few)
 
-  pub first-table : 1 ≤ table
-  first-table = rw table-is (l .fits .first)
+  -- the columns of the table with number t
+  width-is : (t : ℕ) → 1 ≤ t → t ≤ mostTables → tableWidth r t ≡ getD (d .widths) (t - 1) 0
+  width-is t from to =
+      let next : 1 + (t - 1) ≡ t = omega (arith, from) in
+      ap (tableWidth r) (sym next) ∙ ready .width (t - 1) (omega (arith, from, to))
 
-  pub last-table : table ≤ mostTables
-  last-table = rw table-is (omega (arith, l .fits .last, ready .good .tables .few))
-
-  width-is : getD (d .widths) (table - 1) 0 ≡ length (A .columns)
-  width-is = ap (λ (t : ℕ). getD (d .widths) (t - 1) 0) table-is ∙ sym (l .fits .width)
-
-  pub narrow : getD (d .widths) (table - 1) 0 ≤ mostColumns
+  narrow : getD (d .widths) (A .table - 1) 0 ≤ mostColumns
   narrow =
-      let m = getD-mem (d .widths) (table - 1) 0 (omega (arith, first-table, table-is, l .fits .last)) in
+      let m = getD-mem (d .widths) (A .table - 1) 0 (omega (arith, l .fits .first, l .fits .last)) in
       up-to-iff mostColumns _ .0 (ready .good .tables .each _ m) .1
 
-  pub line-labelled : (width : ℕ) → width ≡ getD (d .widths) (table - 1) 0 → Labelled r width lines i (d .views) A
-  unfolding wide
-  line-labelled width w =
+  pub line-tabled : Tabled r (laidTable lines i)
+  unfolding lineValue
+  line-tabled =
+      subst (Tabled r) (sym (l .line .table))
+      (record {
+        last = last-table;
+        views = ready .below (A .table) last-table;
+        columns = rw (width-is (A .table) (l .fits .first) last-table) narrow;
+      })
+
+  pub line-labelled : Labelled r lines i (d .views) A
+  line-labelled =
+      let here = width-is (A .table) (l .fits .first) last-table in
       record {
         few = ready .good .views .few;
         laid = ready .laid;
         line = l .line;
-        bits = rw (sym table-is) (ready .bits table first-table last-table);
-        lineWidth = sym (w ∙ width-is);
+        bits = ready .bits (A .table) (l .fits .first) last-table;
+        lineWidth = l .fits .width ∙ sym here;
         viewWidths = λ v m e.
-            ready .good .views .each v m .fits .width ∙ ap (λ (t : ℕ). getD (d .widths) (t - 1) 0) (e ∙ sym table-is) ∙ sym w;
+            ready .good .views .each v m .fits .width ∙ ap (λ (t : ℕ). getD (d .widths) (t - 1) 0) e ∙ sym here;
       }
 
 -- a partition grants a view that covers the line exactly when one of its views does

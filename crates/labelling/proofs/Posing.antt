@@ -19,7 +19,9 @@ use Rattle.theory.proofs.Executable.Test.{and-iff, all-iff}
 use Rattle.model.specs.Limits.{mostTables, mostColumns, mostViews, mostPartitions, mostLines, lastVariable, upTo, termWithin, lineWithin}
 use Rattle.model.specs.Value.{queryValue, tablesValue}
 use Rattle.model.specs.declared.Policy.{Policy}
+use Rattle.model.specs.declared.Tables.{Tables}
 use Rattle.model.specs.declared.Query.{Query as QueryValue}
+use Rattle.model.proofs.Pad.{pad-get}
 use Rattle.model.proofs.Values.{few-terms}
 use Rattle.query_text.specs.Text.{read, accepted}
 use Rattle.query_text.specs.WellRead.{WellRead}
@@ -63,6 +65,10 @@ grants-are : {p : Policy} {d : Declared} → LoadedTo p d → (k : ℕ) → k < 
 unfolding policyValue
 grants-are {d = d} l k h = ap (λ (x : Policy). getD (x .grants) k 0) (l .policy) ∙ grants-at (d .partitions) k h
 
+columns-are : {p : Policy} {d : Declared} → LoadedTo p d → (t : ℕ) → getD (p .tables .columns) t 0 ≡ getD (d .widths) t 0
+unfolding tablesValue
+columns-are {d = d} l t = ap (λ (x : Tables). getD (x .columns) t 0) (tables-of l) ∙ pad-get mostTables 0 (d .widths) t
+
 -- what is made of a loaded policy once
 pub ready : {p : Policy} {d : Declared} {r : List ℕ} → LoadedTo p d → Prepared p r → Ready d (p .tables) r
 ready {d = d} l made =
@@ -76,6 +82,7 @@ ready {d = d} l made =
       bits = λ t first h. made .table t h .bits first (d .views) held;
       grant = λ k h. made .grant k h ∙ grants-are l k h;
       every = made .every ∙ ap (λ (n : ℕ). 2 ^ n - 1) (few-partitions l);
+      width = λ t h. made .width t h ∙ columns-are l t;
     }
 
 pub posed : {q : QueryValue} (d : Declared) (text : List ℕ) (Q : Query) → WellFormed d → read (d .widths) text ≡ accepted Q

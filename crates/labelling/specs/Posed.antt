@@ -17,13 +17,12 @@ use Rattle.policy_text.specs.Declared.{Declared}
 use Rattle.policy_text.specs.WellFormed.{WellFormed}
 use Rattle.policy_text.specs.Policy.{grantsOf}
 use Rattle.covering.specs.Views.{OfTable, LaidViews}
-use Rattle.covering.specs.Prepared.{everyWord, preparedLong, tableWord, grantWord}
-use Rattle.covering.specs.declared.LineLabel.{LineLabel}
+use Rattle.covering.specs.Prepared.{everyWord, preparedLong, tableWord, grantWord, tableWidth}
 use Rattle.reduce.specs.Agree.{lineAt}
 use Rattle.reduce.specs.Left.{linesAt}
 use Rattle.reduce.specs.Laid.{HoldsQuery}
 use Rattle.reduce.specs.Showing.{Small, SharedWord, showLine}
-use Rattle.labelling.specs.Settled.{Answering, settling, settlingLines}
+use Rattle.labelling.specs.Settled.{settling, settlingLines}
 use Rattle.labelling.specs.declared.Words.{Words}
 use Rattle.labelling.specs.declared.Labels.{Labels}
 
@@ -38,6 +37,7 @@ pub record Ready (d : Declared) (tables : Tables) (r : List ℕ) : Type 0 where
   pub bits : (t : ℕ) → 1 ≤ t → t ≤ mostTables → OfTable (d .views) t (tableWord r t)
   pub grant : (k : ℕ) → k < mostViews → grantWord r k ≡ grantsOf (d .partitions) (k + 1)
   pub every : getD r everyWord 0 ≡ 2 ^ length (d .partitions) - 1
+  pub width : (t : ℕ) → t < mostTables → tableWidth r (1 + t) ≡ getD (d .widths) t 0
 
 abbrev pub SomeReady : Tables → List ℕ → Type 0
 SomeReady tables r = (d : Declared) × Ready d tables r
@@ -77,32 +77,23 @@ labelsValue ws settling = record { words = wordsValue ws; settling = settling }
 
 -- ---- what is asked of labelling, and what it gives
 
--- a line of one of the policy's tables in row i
-abbrev pub SomeLine : Tables → List ℕ → List ℕ → ℕ → Type 0
-SomeLine tables r lines i = (d : Declared) × (A : TheLine) × Ready d tables r × LineOf d lines i A
-
--- its label, and which partitions have a view that covers it
-abbrev pub LineGiven : Tables → List ℕ → List ℕ → ℕ → LineLabel → Type 0
-LineGiven tables r lines i l =
-    (d : Declared) (A : TheLine) → Ready d tables r → LineOf d lines i A → (l .label ≡ label (d .views) A) × Answering d A (l .grants)
-
 -- the rows of a query of n lines, its variables of some word shown
-abbrev pub SomeRows : Tables → List ℕ → ℕ → List ℕ → Type 0
-SomeRows tables r n lines =
-    (d : Declared) × (Q : TheQuery) × (w : ℕ) × Ready d tables r × (length Q ≡ n) × Rows d Q w lines
+abbrev pub SomeRows : List ℕ → ℕ → List ℕ → Type 0
+SomeRows r n lines =
+    (d : Declared) × (t : Tables) × (Q : TheQuery) × (w : ℕ) × Ready d t r × (length Q ≡ n) × Rows d Q w lines
 
 -- the labels of the lines left, where the word is that of their shared variables, and which partitions have a view for each
-abbrev pub RowsGiven : Tables → List ℕ → ℕ → List ℕ → ℕ → Labels → Type 0
-RowsGiven tables r n lines left l =
-    (d : Declared) (Q : TheQuery) (w : ℕ) → Ready d tables r → length Q ≡ n → Rows d Q w lines → SharedWord (linesAt left Q) w →
+abbrev pub RowsGiven : List ℕ → ℕ → List ℕ → ℕ → Labels → Type 0
+RowsGiven r n lines left l =
+    (d : Declared) (t : Tables) (Q : TheQuery) (w : ℕ) → Ready d t r → length Q ≡ n → Rows d Q w lines → SharedWord (linesAt left Q) w →
     let R = show (linesAt left Q) in
     l ≡ labelsValue (map (label (d .views)) R) (settlingLines d R)
 
 -- a query on the policy's tables
-abbrev pub SomePosed : Tables → List ℕ → Query → Type 0
-SomePosed tables r q = (d : Declared) × (Q : TheQuery) × Ready d tables r × Posed q d Q
+abbrev pub SomePosed : List ℕ → Query → Type 0
+SomePosed r q = (d : Declared) × (t : Tables) × (Q : TheQuery) × Ready d t r × Posed q d Q
 
 -- its labels, and which partitions settle it
-abbrev pub QueryGiven : Tables → List ℕ → Query → Labels → Type 0
-QueryGiven tables r q l =
-    (d : Declared) (Q : TheQuery) → Ready d tables r → Posed q d Q → l ≡ labelsValue (labels (d .views) Q) (settling d Q)
+abbrev pub QueryGiven : List ℕ → Query → Labels → Type 0
+QueryGiven r q l =
+    (d : Declared) (t : Tables) (Q : TheQuery) → Ready d t r → Posed q d Q → l ≡ labelsValue (labels (d .views) Q) (settling d Q)

@@ -1,18 +1,15 @@
 // The labels of a query, and which partitions settle it.
 
 ghost use mathlib.Core.Path.{_≡_};
-ghost use mathlib.Core.List.{List, []};
-ghost use Prim.Native.Nat.{ℕ, _-_, _≤_, _<_};
-ghost use lib.ListN.{length, getD};
-ghost use Rattle.model.specs.Limits.{mostTables, mostLines};
+ghost use mathlib.Core.List.{[]};
+ghost use Prim.Native.Nat.{_-_, _<_};
+ghost use lib.ListN.{length};
 ghost use Rattle.model.specs.Rows.{queryRowsLong};
-ghost use Rattle.model.specs.Value.{tablesValue};
 ghost use Rattle.query_text.specs.Text.{read};
 ghost use Rattle.policy_text.specs.Declared.{Declared};
 ghost use Rattle.labelling.specs.Posed.{Ready, SomeReady, wordsValue, labelsValue};
-ghost use Rattle.labelling.specs.Posed.{SomeLine, LineGiven, SomeRows, RowsGiven, SomePosed, QueryGiven};
+ghost use Rattle.labelling.specs.Posed.{SomeRows, RowsGiven, SomePosed, QueryGiven};
 ghost use Rattle.labelling.specs.Text.{LoadedTo, SomePolicy, askedValue};
-use covering::LineLabel;
 use covering::Prepared;
 use model::MOST_LINES;
 use model::Outcome;
@@ -39,28 +36,10 @@ pub struct Asked {
     pub labels: Labels,
 }
 
-// The columns of a table.
-fn width_of(tables: Tables, table: u64) -> usize
-    requires { ⌜ (1 ≤ table) × (table ≤ mostTables) ⌝ }
-    ensures { λ w. ⌜ ((widths : List ℕ) → tables ≡ tablesValue widths → w ≡ getD widths (table - 1) 0) ⌝ }
-{
-    tables.columns[table as usize - 1] as usize
-}
-
-// The label of the line in row `i`, of a table of the policy.
-fn label_of(tables: Tables, ready: &Prepared, lines: &QueryRows, i: usize) -> LineLabel
-    requires { ⌜ SomeLine tables (now ready) (now lines) i × (length (now lines) ≡ queryRowsLong) × (i < mostLines) ⌝ }
-    ensures { λ l. ⌜ LineGiven tables (now (ready .entry)) (now (lines .entry)) i l ⌝ }
-{
-    let table = model::table_at(lines, i);
-    let width = width_of(tables, table);
-    covering::label_line(ready, width, lines, i)
-}
-
 // The labels of the lines left of n lines, whose shared variables are shown.
-fn label_lines(tables: Tables, ready: &Prepared, n: usize, lines: &QueryRows, left: u64) -> Labels
-    requires { ⌜ SomeRows tables (now ready) n (now lines) × (length (now lines) ≡ queryRowsLong) ⌝ }
-    ensures { λ l. ⌜ RowsGiven tables (now (ready .entry)) n (now (lines .entry)) left l ⌝ }
+fn label_lines(ready: &Prepared, n: usize, lines: &QueryRows, left: u64) -> Labels
+    requires { ⌜ SomeRows (now ready) n (now lines) × (length (now lines) ≡ queryRowsLong) ⌝ }
+    ensures { λ l. ⌜ RowsGiven (now (ready .entry)) n (now (lines .entry)) left l ⌝ }
 {
     let mut words = [0; MOST_LINES];
     let mut count = 0;
@@ -68,7 +47,7 @@ fn label_lines(tables: Tables, ready: &Prepared, n: usize, lines: &QueryRows, le
     let mut i = 0;
     while i < n {
         if words::has_bit(left, i as u64) {
-            let l = label_of(tables, ready, lines, i);
+            let l = covering::label_line(ready, lines, i);
             words[count] = l.label;
             settling = settling & l.grants;
             count += 1;
@@ -80,16 +59,16 @@ fn label_lines(tables: Tables, ready: &Prepared, n: usize, lines: &QueryRows, le
 }
 
 // The labels of a query.
-pub fn label_query(tables: Tables, ready: &Prepared, q: Query) -> Labels
-    requires { ⌜ SomePosed tables (now ready) q ⌝ }
-    ensures { λ l. ⌜ QueryGiven tables (now (ready .entry)) q l ⌝ }
+pub fn label_query(ready: &Prepared, q: Query) -> Labels
+    requires { ⌜ SomePosed (now ready) q ⌝ }
+    ensures { λ l. ⌜ QueryGiven (now (ready .entry)) q l ⌝ }
 {
     let n = q.count;
     let mut lines = reduce::query_rows(q);
     let left = reduce::lines_left(n, &lines);
     let shared = reduce::shared(n, &lines, left);
     reduce::show(n, &mut lines, shared);
-    label_lines(tables, ready, n, &lines, left)
+    label_lines(ready, n, &lines, left)
 }
 
 pub fn no_words() -> Words
@@ -118,7 +97,7 @@ pub fn label_text(tables: Tables, ready: &Prepared, text: &[u8]) -> Asked
     match outcome {
         Outcome::Accepted => {
             let q = reading.query;
-            let labels = label_query(tables, ready, q);
+            let labels = label_query(ready, q);
             Asked { outcome, labels }
         }
         Outcome::Refused { .. } => {

@@ -8,7 +8,6 @@ use model::MOST_LINES;
 use model::Outcome;
 use model::Policy;
 use model::Query;
-use model::Tables;
 use std::num::wrapping_add_u64;
 
 fn sum_of(l: Labels) -> u64 {
@@ -22,13 +21,13 @@ fn sum_of(l: Labels) -> u64 {
     sum
 }
 
-fn label_again(tables: Tables, ready: &Prepared, q: Query, times: u64) -> u64
-    requires { ⌜ SomePosed tables (now ready) q ⌝ }
+fn label_again(ready: &Prepared, q: Query, times: u64) -> u64
+    requires { ⌜ SomePosed (now ready) q ⌝ }
 {
     let mut sum = 0;
     let mut i = 0;
     while i < times {
-        let l = labelling::label_query(tables, ready, q);
+        let l = labelling::label_query(ready, q);
         sum = wrapping_add_u64(sum, sum_of(l));
         i += 1;
     }
@@ -45,7 +44,7 @@ fn read_and_label(p: Policy, query: &[u8], times: u64) -> u64
     match outcome {
         Outcome::Accepted => {
             let q = r.query;
-            label_again(tables, &ready, q, times)
+            label_again(&ready, q, times)
         }
         Outcome::Refused { .. } => 0,
     }

@@ -1,5 +1,5 @@
 -- `label_line`: the word has the covering views among those taken from the word of the table, and the partitions are those of its views.
-use mathlib.Core.Path.{sym, ap, subst, _∙_}
+use mathlib.Core.Path.{_≡_, refl, sym, ap, subst, _∙_}
 use mathlib.Core.Logic.{⊎-elim}
 use mathlib.Core.List.{List}
 use Prim.Native.Nat.{ℕ, _^_, _≤_, _<_}
@@ -10,47 +10,59 @@ use Rattle.words.proofs.Bits.{bit-within}
 use Rattle.words.proofs.SetBits.{set-bit-below}
 use Rattle.words.proofs.Marks.{Picked, picked-none, picked-more}
 use Rattle.words.proofs.Unions.{Union, union-none, union-more}
-use Rattle.model.specs.Limits.{mostTables, mostViews}
+use Rattle.model.specs.Limits.{mostTables, mostColumns, mostViews}
 use Rattle.model.specs.Value.{lineValue}
-use Rattle.covering.specs.Prepared.{tableWord, grantWord}
+use Rattle.covering.specs.Prepared.{tableWord, grantWord, tableWidth}
 use Rattle.covering.specs.Labelled.{Labelled}
 use Rattle.covering.proofs.Views.{Covering, answered, labelled, reached}
 use Rattle.covering.proofs.label_line.Statement.{statement}
 use Rattle.covering.proofs.label_line.Tie as tie
 
 abbrev Inv-loop : tie.InvT-loop
-Inv-loop r width lines a table word₀ grants₀ left₀ word grants left =
+Inv-loop r lines a table width word₀ grants₀ left₀ word grants left =
     (left < 2 ^ mostViews)
     × (word < 2 ^ mostViews)
+    × (width ≡ tableWidth r table)
     × Union (grantWord r) word grants
-    × ((vs : List TheLine) (A : TheLine) → Labelled r width lines a vs A → Picked (Covering vs A) (tableWord r (A .table)) left word)
+    × ((vs : List TheLine) (A : TheLine) → Labelled r lines a vs A → Picked (Covering vs A) (tableWord r (A .table)) left word)
 
 abbrev μ-loop : tie.MeasureT-loop
-μ-loop r width lines a table word₀ grants₀ left₀ word grants left = left
+μ-loop r lines a table width word₀ grants₀ left₀ word grants left = left
 
 table-at-requires : tie.Need-table-at-requires Inv-loop μ-loop
-table-at-requires c κs = let (_, long, _, a) = c .before .pre .0 in omega (arith, long, a)
+table-at-requires c κs = let (_, long, a) = c .before .pre .0 in omega (arith, long, a)
 
 -- the line's table is one of the tables
 last : (c : tie.After-table-at Inv-loop μ-loop) → c .table-at .result ≤ mostTables
-last c = rw (c .table-at .ensures) (c .before .before .pre .1 .0)
+last c = rw (c .table-at .ensures) (c .before .before .pre .1 .last)
+
+add-width : tie.Need-add-width Inv-loop μ-loop
+add-width c = omega (arith, last c)
+
+mul-width : tie.Need-mul-width Inv-loop μ-loop
+mul-width c = omega (arith, last c)
+
+element-copy-out-width : tie.Need-element-copy-out-width Inv-loop μ-loop
+element-copy-out-width c = omega (arith, last c)
 
 add-left : tie.Need-add-left Inv-loop μ-loop
-add-left c = omega (arith, last c)
+add-left c = omega (arith, last (c .before))
 
 mul-left : tie.Need-mul-left Inv-loop μ-loop
-mul-left c = omega (arith, last c)
+mul-left c = omega (arith, last (c .before))
 
 element-copy-out-left : tie.Need-element-copy-out-left Inv-loop μ-loop
-element-copy-out-left c = omega (arith, last c)
+element-copy-out-left c = omega (arith, last (c .before))
 
 loop-holds : tie.Need-loop-holds Inv-loop μ-loop
 unfolding lineValue
 loop-holds c =
-    let r = c .before .before .before .args .ready .now in
-    let table = c .before .table-at .ensures in (
-      rw table (c .before .before .before .pre .1 .1),
+    let s = c .before .before in
+    let r = s .before .before .args .ready .now in
+    let table = s .table-at .ensures in (
+      rw table (s .before .before .pre .1 .views),
       omega arith,
+      refl,
       union-none _,
       λ vs A l.
           let mask = ap (tableWord r) (table ∙ l .line .table) in
@@ -66,8 +78,12 @@ small c = bit-within mostViews _ (c .before .before .loop .inv .0) (c .least .en
 
 covers-requires : tie.Need-covers-requires Inv-loop μ-loop
 covers-requires c κs =
-    let (long, lines, width, a) = c .before .before .before .before .before .before .before .before .pre .0 in
-    let k = small (c .before .before) in (width, omega (arith, k, long), omega (arith, lines, a))
+    let at = c .before .before .before .before in
+    let s = at .before .before .before in
+    let (long, lines, a) = s .before .before .pre .0 in
+    let narrow : tableWidth (s .before .before .args .ready .now) (s .table-at .result) ≤ mostColumns =
+    rw (s .table-at .ensures) (s .before .before .pre .1 .columns) in
+    let k = small (c .before .before) in (rw (at .loop .inv .2) narrow, omega (arith, k, long), omega (arith, lines, a))
 
 set-bit-requires : tie.Need-set-bit-requires Inv-loop μ-loop
 set-bit-requires c κs = omega (arith, small (c .before .before .before .before))
@@ -88,33 +104,40 @@ loop-less : tie.Need-loop-less Inv-loop μ-loop
 loop-less c = c .drop-least .ensures .less
 
 loop-again : tie.Need-loop-again Inv-loop μ-loop
+unfolding lineValue
 loop-again c =
     let s = c .before .before .before .before .before in
     let at = s .before .before .loop in
     let k = s .least in
-    let (small-left, small-word, union, picked) = at .inv in
-    let answer = c .before .before .covers in (
+    let (small-left, small-word, width, union, picked) = at .inv in
+    let answer = c .before .before .covers in
+    let laid = s .before .before .before .before .before in
+    let r = laid .before .before .args .ready .now in
+    let table = laid .table-at .ensures in (
       omega (arith, c .drop-least .ensures .less),
       ⊎-elim (λ w. rw (w .3, w .1 .ensures) (set-bit-below mostViews _ _ small-word (omega (arith, small s))))
           (λ w. rw (w .1) small-word) (c .before .if1 .came),
+      width,
       ⊎-elim (λ w. rw (w .3, w .4, w .1 .ensures) (union-more _ (k .result) union)) (λ w. rw (w .1, w .2) union) (c .before .if1 .came),
       λ vs A l.
           let w = picked vs A l in
+          let wide = width ∙ ap (tableWidth r) (table ∙ l .line .table) in
           picked-more (answer .result) _ w (k .ensures) (c .drop-least .ensures)
-          (true-iff (answered l (k .result) (answer .result) (w .some (k .result) (k .ensures .set)) (answer .ensures)))
+          (true-iff (answered l _ wide (k .result) (answer .result) (w .some (k .result) (k .ensures .set)) (answer .ensures)))
           (⊎-elim (λ w. rw (w .0 .taken, w .3) (w .1 .ensures)) (λ w. rw (w .0 .left) (w .1)) (c .before .if1 .came)),
     )
 
 join-requires : tie.Need-join-requires Inv-loop μ-loop
-join-requires c κs = (omega (arith, last (c .before .before .before)), c .before .loop .inv .1)
+join-requires c κs = (omega (arith, last (c .before .before .before .before)), c .before .loop .inv .1)
 
 returns : tie.Need-returns Inv-loop μ-loop
 returns c = λ vs A l.
-    let (_, small-word, union, picked) = c .before .before .loop .inv in
-    let r = c .before .before .before .before .before .before .args .ready .now in
+    let (_, small-word, _, union, picked) = c .before .before .loop .inv in
+    let laid = c .before .before .before .before .before in
+    let r = laid .before .before .args .ready .now in
     let word = c .before .before .loop .word in
     let done = subst (λ (m : ℕ). Picked (Covering vs A) (tableWord r (A .table)) m word) (c .before .loop-test .left) (picked vs A l) in
-    (c .join .ensures ∙ labelled l done _ (c .before .before .before .before .table-at .ensures) small-word, reached l done union)
+    (c .join .ensures ∙ labelled l done _ (laid .table-at .ensures) small-word, reached l done union)
 
 pub label-line-spec : {M : Type 1} → statement M
 label-line-spec =
@@ -123,6 +146,9 @@ label-line-spec =
     Inv-loop
     μ-loop
     table-at-requires
+    add-width
+    mul-width
+    element-copy-out-width
     add-left
     mul-left
     element-copy-out-left

@@ -23,7 +23,7 @@ few : {q : QueryValue} {d : Declared} {Q : Query} → Posed q d Q → q .count �
 few g = omega (arith, held-count (g .query), g .query .lines)
 
 query-rows-requires : tie.Need-query-rows-requires
-query-rows-requires c κs = few (c .pre .3)
+query-rows-requires c κs = few (c .pre .4)
 
 -- how long the rows are
 long : (c : tie.After-query-rows) → length (c .query-rows .result) ≡ queryRowsLong
@@ -33,35 +33,35 @@ slice-aggregate-lines-left : tie.Need-slice-aggregate-lines-left
 slice-aggregate-lines-left c = search needs
 
 lines-left-requires : tie.Need-lines-left-requires
-lines-left-requires c κs = (few (c .before .before .pre .3), long (c .before))
+lines-left-requires c κs = (few (c .before .before .pre .4), long (c .before))
 
 slice-aggregate-shared : tie.Need-slice-aggregate-shared
 slice-aggregate-shared c = search needs
 
 shared-requires : tie.Need-shared-requires
-shared-requires c κs = (few (c .before .before .before .before .pre .3), long (c .before .before .before))
+shared-requires c κs = (few (c .before .before .before .before .pre .4), long (c .before .before .before))
 
 slice-aggregate-show : tie.Need-slice-aggregate-show
 slice-aggregate-show c = search needs
 
 show-requires : tie.Need-show-requires
-show-requires c κs = (few (c .before .before .before .before .before .before .pre .3), long (c .before .before .before .before .before))
+show-requires c κs = (few (c .before .before .before .before .before .before .pre .4), long (c .before .before .before .before .before))
 
 label-lines-requires : tie.Need-label-lines-requires
 label-lines-requires c κs =
     let laid = c .before .before .before .before .before .before .before .before in
-    let (d, Q, ready, g) = laid .before .pre in
+    let (d, t, Q, ready, g) = laid .before .pre in
     let e = sym (held-count (g .query)) in
     let shown = c .before .before .show .ensures in
-    ((d, Q, _, ready, e, rows-shown _ _ e g (laid .query-rows .ensures Q (g .query)) shown), shown .long ∙ long laid)
+    ((d, t, Q, _, ready, e, rows-shown _ _ e g (laid .query-rows .ensures Q (g .query)) shown), shown .long ∙ long laid)
 
 returns : tie.Need-returns
 unfolding labels settling settlingLines settles
-returns c = λ d Q ready g.
+returns c = λ d t Q ready g.
     let e = sym (held-count (g .query)) in
     let left = c .before .before .before .before .before .before .before in
     let l = left .before .before .query-rows .ensures Q (g .query) in
-    c .label-lines .ensures d Q _ ready e (rows-shown _ _ e g l (c .before .before .before .show .ensures))
+    c .label-lines .ensures d t Q _ ready e (rows-shown _ _ e g l (c .before .before .before .show .ensures))
     (c .before .before .before .before .before .shared .ensures Q e l)
     ∙ ap (λ (R : Query). labelsValue (map (label (d .views)) (show R)) (settlingLines d (show R))) (left .lines-left .ensures Q e l)
 

@@ -20,7 +20,7 @@ label-query-requires c κs =
     let r = c .before .before .before .read-query in
     let reads = r .ensures (d .widths) (ready .tablesAre) in
     let (Q, e, o, q) = read-accepted (read (d .widths) _) (r .result) reads (c .before .before .match .keys1) in
-    (d, Q, ready, posed d _ Q (ready .good) e q)
+    (d, _, Q, ready, posed d _ Q (ready .good) e q)
 
 enum-told-2 : tie.Need-enum-told-2
 enum-told-2 c = search needs
@@ -34,7 +34,7 @@ returns c = λ d ready.
     let r = c .before .before .before .before .read-query in
     let reads = r .ensures (d .widths) (ready .tablesAre) in
     let (Q, e, o, q) = read-accepted (read (d .widths) _) (r .result) reads (c .before .before .before .match .keys1) in
-    ap₂ (λ x y. record { outcome = x; labels = y }) o (c .label-query .ensures d Q ready (posed d _ Q (ready .good) e q))
+    ap₂ (λ x y. record { outcome = x; labels = y }) o (c .label-query .ensures d _ Q ready (posed d _ Q (ready .good) e q))
     ∙ ap (askedValue d) (sym e)
 
 returns-2 : tie.Need-returns-2

@@ -8,7 +8,6 @@ use Prim.Native.Nat.{ℕ, _≤_}
 use native.Mathlib.Omega.{arith}
 use lib.Dec.{T}
 use lib.ListN.{length}
-use Rattle.words.specs.Bits.{bit}
 use Rattle.words.specs.Sets.{meet, include}
 use Rattle.words.specs.TestBits.{testBits}
 use Rattle.words.proofs.Answers.{true-holds, holds-true}

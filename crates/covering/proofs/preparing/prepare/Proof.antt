@@ -54,8 +54,17 @@ low-bits-requires c κs = omega (arith, c .before .before .pre)
 array-write-ready : tie.Need-array-write-ready Inv-loop μ-loop
 array-write-ready c = omega arith
 
+slice-aggregate-enter-widths : tie.Need-slice-aggregate-enter-widths Inv-loop μ-loop
+slice-aggregate-enter-widths c = search needs
+
+enter-widths-requires : tie.Need-enter-widths-requires Inv-loop μ-loop
+enter-widths-requires c κs = search needs
+
 returns : tie.Need-returns Inv-loop μ-loop
-returns c = partly-all _ (c .before .before .loop .inv .1) (c .before .loop-test .left) _ (c .low-bits .ensures)
+returns c =
+    let e = c .before in
+    let b = e .before .before .before .before in
+    partly-all _ (b .before .before .loop .inv .1) (b .before .loop-test .left) _ (b .low-bits .ensures) (e .enter-widths .ensures)
 
 pub prepare-spec : {M : Type 1} → statement M
 prepare-spec =
@@ -75,4 +84,6 @@ prepare-spec =
     loop-again
     low-bits-requires
     array-write-ready
+    slice-aggregate-enter-widths
+    enter-widths-requires
     returns)

@@ -5,10 +5,10 @@ use Rattle.measure.proofs.labels.label_again.Statement.{statement}
 use Rattle.measure.proofs.labels.label_again.Tie as tie
 
 abbrev Inv-loop : tie.InvT-loop
-Inv-loop tables r q times sum₀ i₀ sum i = i ≤ times
+Inv-loop r q times sum₀ i₀ sum i = i ≤ times
 
 abbrev μ-loop : tie.MeasureT-loop
-μ-loop tables r q times sum₀ i₀ sum i = times - i
+μ-loop r q times sum₀ i₀ sum i = times - i
 
 loop-holds : tie.Need-loop-holds Inv-loop μ-loop
 loop-holds c = search needs

@@ -22,7 +22,7 @@ label-again-requires c κs =
     let read = m .before .read-query in
     let (d, l) = made .before .before .pre in
     let (Q, e, o, q) = read-accepted (read-text (d .widths) _) (read .result) (read .ensures (d .widths) (tables-of l)) (m .match .keys1) in
-    (d, Q, ready l (made .prepare .ensures), posed d _ Q (l .good) e q)
+    (d, _, Q, ready l (made .prepare .ensures), posed d _ Q (l .good) e q)
 
 enum-told-2 : tie.Need-enum-told-2
 enum-told-2 c = search needs
