@@ -4,6 +4,7 @@ use mathlib.Core.Bool.{false}
 use Prim.Native.Nat.{ℕ, _/_, _%_, _^_, _≤_, _<_}
 use native.Mathlib.Omega.{arith}
 use borrow.Author.Tests.{eq-eqb, ne-eqb}
+use Rattle.words.specs.Bits.{halfBits}
 use Rattle.words.specs.Sets.{include}
 use Rattle.words.proofs.Tests.{include-iff}
 use Rattle.covering.specs.Order.{atOrBelow}
@@ -18,12 +19,12 @@ include-narrow w v a b h small =
     (λ e. include-iff v a b .1 (λ k l p. include-iff w a b .0 e k (bit-within w k small p) p))
 
 module _ (x y : ℕ) where
-  pub other-table : (x % 2 ^ 32 ≡ y % 2 ^ 32 → ⊥) → false ≡ atOrBelow x y
+  pub other-table : (x % 2 ^ halfBits ≡ y % 2 ^ halfBits → ⊥) → false ≡ atOrBelow x y
   unfolding atOrBelow
-  other-table f = simp (ne-eqb (x % 2 ^ 32) (y % 2 ^ 32) f)
+  other-table f = simp (ne-eqb (x % 2 ^ halfBits) (y % 2 ^ halfBits) f)
 
-  pub same-table : x % 2 ^ 32 ≡ y % 2 ^ 32 → y < 2 ^ 64 → include 64 (x / 2 ^ 32) (y / 2 ^ 32) ≡ atOrBelow x y
+  pub same-table : x % 2 ^ halfBits ≡ y % 2 ^ halfBits → y < 2 ^ 64 → include 64 (x / 2 ^ halfBits) (y / 2 ^ halfBits) ≡ atOrBelow x y
   unfolding atOrBelow
   same-table e small =
-      include-narrow 32 64 (x / 2 ^ 32) (y / 2 ^ 32) (omega arith) (omega arith)
-      ∙ simp (eq-eqb (x % 2 ^ 32) (y % 2 ^ 32) e)
+      include-narrow halfBits 64 (x / 2 ^ halfBits) (y / 2 ^ halfBits) (omega arith) (omega arith)
+      ∙ simp (eq-eqb (x % 2 ^ halfBits) (y % 2 ^ halfBits) e)

@@ -151,7 +151,8 @@ module _ (columns before : List ℕ) where
           → tableWidth (set after (widthWords + 1 + k) (getD columns k 0)) (1 + t) ≡ getD columns t 0
       go t h (yes q) =
           let here : widthWords + (1 + t) ≡ widthWords + 1 + k = omega (arith, q) in
-          rw (here, getD-set-same after (widthWords + 1 + k) (getD columns k 0) 0 (omega (arith, w .long, room))) (ap (λ (n : ℕ). getD columns n 0) (sym q))
+          rw (here, getD-set-same after (widthWords + 1 + k) (getD columns k 0) 0 (omega (arith, w .long, room)))
+          (ap (λ (n : ℕ). getD columns n 0) (sym q))
       go t h (no n) =
           getD-set-other after (widthWords + 1 + k) (widthWords + (1 + t)) (getD columns k 0) 0 (λ q. n (omega (arith, q)))
           ∙ w .width t (omega (arith, h, n))

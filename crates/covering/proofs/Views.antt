@@ -9,7 +9,7 @@ use native.Mathlib.Nat.{lt-of-lt-of-le}
 use native.Mathlib.Omega.{arith}
 use lib.ListN.{length, getD, getElem?, replicate}
 use lib.Pow.{pow-mono}
-use Rattle.words.specs.Bits.{bit}
+use Rattle.words.specs.Bits.{bit, halfBits}
 use Rattle.words.specs.Sets.{Upto}
 use Rattle.theory.specs.Query.{Line as TheLine}
 use Rattle.theory.specs.Cover.{Covers}
@@ -93,7 +93,8 @@ module _ {r lines : List ℕ} {a : ℕ} {views : List TheLine} {A : TheLine} (l 
       → (b ≡ true) ↔ Covering views A k
   answered width w k b e test =
       let (v, at, t) = l .bits k .0 e in
-      let same : b ≡ covers v A = test v A (l .laid .row k v at) (l .line) t (l .viewWidths v (at-place views k at) t ∙ sym w) (l .lineWidth ∙ sym w) in (
+      let wide = l .viewWidths v (at-place views k at) t ∙ sym w in
+      let same : b ≡ covers v A = test v A (l .laid .row k v at) (l .line) t wide (l .lineWidth ∙ sym w) in (
         λ h. (v, at, covers-iff v A .0 (true-holds (sym same ∙ h))),
         λ s.
             let here = subst (λ (w : TheLine). Covers w A) (Option·some-injective (s .0) v (sym (s .1) ∙ at)) (s .2) in
@@ -111,9 +112,9 @@ module _ {r lines : List ℕ} {a : ℕ} {views : List TheLine} {A : TheLine} (l 
         (lt-of-lt-of-le (tests-below (λ v. covers v A) views) (pow-mono (l .few)))
         (λ k. let v = viewBits-bit views A k in (λ e. v .1 (covered k .0 e), λ e. covered k .1 (v .0 e)))
 
-    pub labelled : (table : ℕ) → table ≡ laidTable lines a → word < 2 ^ mostViews → table + 2 ^ 32 * word ≡ label views A
+    pub labelled : (table : ℕ) → table ≡ laidTable lines a → word < 2 ^ mostViews → table + 2 ^ halfBits * word ≡ label views A
     unfolding label lineValue
-    labelled table e small = ap₂ (λ t x. t + 2 ^ 32 * x) (e ∙ l .line .table) (views-word small)
+    labelled table e small = ap₂ (λ t x. t + 2 ^ halfBits * x) (e ∙ l .line .table) (views-word small)
 
     pub reached : {grants : ℕ} → Union (grantWord r) word grants → Reached r views A grants
     reached u i = (

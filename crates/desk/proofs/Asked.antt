@@ -5,6 +5,7 @@ use Prim.Native.Nat.{ℕ, _/_, _^_, _≤_, _<_}
 use native.Mathlib.Nat.{lt-of-lt-of-le}
 use native.Mathlib.Omega.{arith}
 use lib.Pow.{pow-mono}
+use Rattle.words.specs.Bits.{halfBits}
 use Rattle.theory.specs.Query.{Query, _∈_}
 use Rattle.theory.specs.Archive.{AllFit}
 use Rattle.theory.specs.Executable.Cover.{covers}
@@ -40,14 +41,14 @@ unfolding wordsValue
 labels-held h = omega (arith, ap (λ (x : Words). x .count) (h .is), h .few)
 
 -- the views of a label, of which a policy has at most 32
-labels-narrow : (d : Declared) → WellFormed d → (Q : Query) → AllFit (d .widths) Q → (w : ℕ) → w ∈ labels (d .views) Q → w / 2 ^ 32 < 2 ^ 32
+labels-narrow : (d : Declared) → WellFormed d → (Q : Query) → AllFit (d .widths) Q → (w : ℕ) → w ∈ labels (d .views) Q → w / 2 ^ halfBits < 2 ^ halfBits
 unfolding labels label
 labels-narrow d good Q fits w m =
     let (A, a, e) = Memᴰ·of-map (label (d .views)) (show (reduce Q)) m in
     let f = shown-fits (d .widths) Q fits A a in
-    let small : A .table < 2 ^ 32 = omega (arith, f .last, good .tables .few) in
-    subst (λ (x : ℕ). x / 2 ^ 32 < 2 ^ 32) e
-    (rw (high-part 32 (viewBits (d .views) A) small)
+    let small : A .table < 2 ^ halfBits = omega (arith, f .last, good .tables .few) in
+    subst (λ (x : ℕ). x / 2 ^ halfBits < 2 ^ halfBits) e
+    (rw (high-part halfBits (viewBits (d .views) A) small)
     (lt-of-lt-of-le (tests-below (λ v. covers v A) (d .views)) (pow-mono (good .views .few))))
 
 -- ---- how the text ended

@@ -9,7 +9,7 @@ use lib.ListN.{length, getD, take, drop}
 use Rattle.theory.specs.Query.{Query}
 use Rattle.theory.specs.Executable.Label.{labels, settles}
 use Rattle.theory.proofs.Lists.{at-place, below-place, there}
-use Rattle.words.specs.Bits.{isSet}
+use Rattle.words.specs.Bits.{isSet, halfBits}
 use Rattle.words.specs.TestBits.{testBits, upFrom}
 use Rattle.words.proofs.TestBits.{tests-say}
 use Rattle.words.proofs.Answers.{true-holds}
@@ -59,10 +59,10 @@ module _ {l : Words} (granted : ℕ) (ws : List ℕ) (h : HoldsLabels l ws) {w :
   pub words-count : w .count ≤ mostLines
   words-count = omega (arith, count-is, most-length few-words)
 
-  pub words-narrow : (i : ℕ) → getD (w .words) i 0 < 2 ^ 32
+  pub words-narrow : (i : ℕ) → getD (w .words) i 0 < 2 ^ halfBits
   unfolding wordsValue
   words-narrow i =
-      subst (λ (x : ℕ). x < 2 ^ 32)
+      subst (λ (x : ℕ). x < 2 ^ halfBits)
       (sym (ap (λ (x : Words). getD (x .words) i 0) value ∙ pad-get mostLines 0 (explained granted ws) i)) (most-get few-words i)
 
   pub explains-short : {before : List ℕ} → length before < w .count

@@ -8,6 +8,7 @@ use native.Mathlib.Omega.{arith}
 use lib.Bits.{bitAnd, and-le-l}
 use lib.Dec.{eqb, ltb}
 use lib.ListN.{length, getD}
+use Rattle.words.specs.Bits.{halfBits}
 use Rattle.theory.specs.Query.{_∈_}
 use Rattle.theory.specs.Executable.Test.{any}
 use Rattle.labelling.specs.Settled.{settled}
@@ -19,7 +20,7 @@ pub data AtMost (P : ℕ → Type 0) : ℕ → List ℕ → Type 0 where
   one : {n x : ℕ} {l : List ℕ} → P x → AtMost P n l → AtMost P (suc n) (x ∷ l)
 
 abbrev pub Narrow : ℕ → Type 0
-Narrow x = x < 2 ^ 32
+Narrow x = x < 2 ^ halfBits
 
 module _ {P : ℕ → Type 0} where
   more : {n : ℕ} {l : List ℕ} → AtMost P n l → AtMost P (suc n) l
@@ -66,12 +67,12 @@ module _ {P : ℕ → Type 0} where
   ascending-most none = none
   ascending-most (one {x = x} p a) = insert-most x p (ascending-most a)
 
-pub most-get : {n : ℕ} {l : List ℕ} → AtMost Narrow n l → (i : ℕ) → getD l i 0 < 2 ^ 32
+pub most-get : {n : ℕ} {l : List ℕ} → AtMost Narrow n l → (i : ℕ) → getD l i 0 < 2 ^ halfBits
 most-get none i = omega arith
 most-get (one p a) zero = p
 most-get (one p a) (suc i) = most-get a i
 
-pub explained-most : (granted : ℕ) {n : ℕ} {ws : List ℕ} → AtMost (λ w. w / 2 ^ 32 < 2 ^ 32) n ws → AtMost Narrow n (explained granted ws)
+pub explained-most : (granted : ℕ) {n : ℕ} {ws : List ℕ} → AtMost (λ w. w / 2 ^ halfBits < 2 ^ halfBits) n ws → AtMost Narrow n (explained granted ws)
 unfolding explained least lacking viewsOf
 explained-most granted {ws = ws} a =
     either (settled granted ws)

@@ -3,6 +3,7 @@ use mathlib.Core.Path.{subst}
 use mathlib.Core.List.{map, Memᴰ·of-map}
 use Prim.Native.Nat.{_^_, _<_}
 use native.Mathlib.Omega.{arith}
+use Rattle.words.specs.Bits.{halfBits}
 use Rattle.theory.specs.Query.{over, Line, Query, NoClash, Fits}
 use Rattle.theory.specs.Archive.{AllFit}
 use Rattle.theory.specs.Executable.Reduce.{reduce}
@@ -24,7 +25,7 @@ use Rattle.desk.specs.Rewriting.{LabelOf, LabelsOfForm, LabelsOf}
 module _ (d : Declared) (good : WellFormed d) where
   label-of : (A : Line) → Fits (d .widths) A → LabelOf d A (label (d .views) A)
   label-of A f =
-      let small : A .table < 2 ^ 32 = omega (arith, f .last, good .tables .few) in
+      let small : A .table < 2 ^ halfBits = omega (arith, f .last, good .tables .few) in
       record {
         table = label-table (d .views) A small;
         views = label-says-rewriting (d .widths) (d .views) A f small;

@@ -4,6 +4,7 @@ use mathlib.Core.Bool.{Bool}
 use mathlib.Core.List.{List}
 use Prim.Native.Nat.{ℕ, _/_, _^_, _≤_, _<_}
 use lib.ListN.{length}
+use Rattle.words.specs.Bits.{halfBits}
 use Rattle.theory.specs.Query.{_∈_}
 use Rattle.model.specs.Limits.{mostLines}
 use Rattle.labelling.specs.Posed.{wordsValue}
@@ -17,7 +18,7 @@ use Rattle.desk.specs.declared.explaining.Explaining.{Explaining}
 pub record HoldsLabels (l : Words) (ws : List ℕ) : Type 0 where
   pub is : l ≡ wordsValue ws
   pub few : length ws ≤ mostLines
-  pub narrow : (w : ℕ) → w ∈ ws → w / 2 ^ 32 < 2 ^ 32
+  pub narrow : (w : ℕ) → w ∈ ws → w / 2 ^ halfBits < 2 ^ halfBits
 
 -- labels that a partition with these granted views settles or not, as it is said
 abbrev pub SomeExplained : Words → ℕ → Bool → Type 0

@@ -10,16 +10,16 @@ use Rattle.theory.specs.Archive.{Archive, Answer}
 use Rattle.theory.specs.Reduce.{Reduced, ReducesTo}
 use Rattle.theory.specs.Cover.{Rewrites}
 use Rattle.theory.specs.Show.{Shown}
-use Rattle.words.specs.Bits.{bit}
+use Rattle.words.specs.Bits.{bit, halfBits}
 use Rattle.policy_text.specs.Declared.{Declared}
 
 -- A word is the label of a line: "the low 32 bits hold the table number and the high 32 bits the views, view n at bit 31 + n",
 -- a view "exactly when that line … can be rewritten over that one view with the same answers on every archive"
 pub record LabelOf (d : Declared) (A : Line) (w : ℕ) : Type 0 where
-  pub table : w % 2 ^ 32 ≡ A .table
+  pub table : w % 2 ^ halfBits ≡ A .table
   pub views : (n : ℕ) → 1 ≤ n
       → (bit w (31 + n) ≡ 1) ↔ ((v : Line) × (getElem? (d .views) (n - 1) ≡ some v) × Rewrites (d .widths) v A)
-  pub no-other : w < 2 ^ (32 + length (d .views))
+  pub no-other : w < 2 ^ (halfBits + length (d .views))
 
 -- Words are the labels of a reduced query: one for each line, in order, once "shared variables are shown"
 pub record LabelsOfForm (d : Declared) (R : Query) (ws : List ℕ) : Type 0 where

@@ -4,6 +4,7 @@ ghost use mathlib.Core.Path.{_≡_};
 ghost use mathlib.Core.List.{_++_};
 ghost use Prim.Native.Nat.{ℕ, _^_, _≤_, _<_};
 ghost use lib.ListN.{length, getD, take, drop};
+ghost use Rattle.words.specs.Bits.{halfBits};
 ghost use Rattle.words.specs.TestBits.{testBits, upFrom};
 ghost use Rattle.model.specs.Limits.{mostViews, mostPartitions, mostLines, upTo};
 ghost use Rattle.policy_text.specs.Abstract.{grantedAt};
@@ -96,7 +97,7 @@ fn give_words(l: Words, granted: u64, is_settled: bool, out: &mut [u32]) -> Expl
 
 // The first words, each of 32 bits, at the head of the buffer; numbers past them stay.
 fn write_words(words: [u64; MOST_LINES], count: usize, out: &mut [u32])
-    requires { ⌜ (count ≤ mostLines) × (count ≤ length (now out)) × ((i : ℕ) → getD words i 0 < 2 ^ 32) ⌝ }
+    requires { ⌜ (count ≤ mostLines) × (count ≤ length (now out)) × ((i : ℕ) → getD words i 0 < 2 ^ halfBits) ⌝ }
     ensures { λ _. ⌜ now (out .exit) ≡ take count words ++ drop count (now (out .entry)) ⌝ }
 {
     let mut i = 0;

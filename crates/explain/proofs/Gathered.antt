@@ -7,6 +7,7 @@ use native.Mathlib.Omega.{arith}
 use lib.Bits.{bitAnd}
 use lib.Dec.{eqb}
 use lib.ListN.{length, getD, drop, drop-of-length-le}
+use Rattle.words.specs.Bits.{halfBits}
 use Rattle.theory.specs.Executable.Test.{any}
 use Rattle.words.specs.Sets.{meet}
 use Rattle.labelling.specs.Posed.{wordsValue}
@@ -80,16 +81,16 @@ module _ (granted : ℕ) (l : Words) (ws : List ℕ) (e : l ≡ wordsValue ws) w
 
   -- ---- a label
 
-  pub label-passes : (f : ℕ → Bool) (i views : ℕ) → views ≡ getD (l .words) i 0 / 2 ^ 32
+  pub label-passes : (f : ℕ → Bool) (i views : ℕ) → views ≡ getD (l .words) i 0 / 2 ^ halfBits
       → passes granted f (getD ws i 0) ≡ (not (meet 64 views granted) && f views)
   unfolding holdsOne viewsOf
   label-passes f i views v =
-      sym (ap (λ (x : ℕ). not (meet 64 x granted) && f x) (v ∙ ap (λ (w : ℕ). w / 2 ^ 32) (word-is l ws e i)))
+      sym (ap (λ (x : ℕ). not (meet 64 x granted) && f x) (v ∙ ap (λ (w : ℕ). w / 2 ^ halfBits) (word-is l ws e i)))
 
-  module _ (i views : ℕ) (some : 0 < i) (h : i ≤ l .count) (v : views ≡ getD (l .words) (i - 1) 0 / 2 ^ 32) where
+  module _ (i views : ℕ) (some : 0 < i) (h : i ≤ l .count) (v : views ≡ getD (l .words) (i - 1) 0 / 2 ^ halfBits) where
     views-are : viewsOf (getD ws (i - 1) 0) ≡ views
     unfolding viewsOf
-    views-are = sym (v ∙ ap (λ (w : ℕ). w / 2 ^ 32) (word-is l ws e (i - 1)))
+    views-are = sym (v ∙ ap (λ (w : ℕ). w / 2 ^ halfBits) (word-is l ws e (i - 1)))
 
     one-more : drop (i - 1) ws ≡ getD ws (i - 1) 0 ∷ drop i ws
     one-more = before-place ws i some (omega (arith, count-is l ws e))

@@ -4,13 +4,14 @@ use mathlib.Core.List.{List, [], _∷_, map}
 use Prim.Native.Nat.{ℕ, _/_, _^_}
 use lib.Bits.{bitAnd}
 use lib.Dec.{eqb, ltb}
+use Rattle.words.specs.Bits.{halfBits}
 use Rattle.theory.specs.Executable.Test.{any}
 use Rattle.words.specs.Sets.{include}
 use Rattle.labelling.specs.Settled.{holdsOne, settled}
 
 -- the views of a label, "view n at bit n − 1"
 unfoldable pub viewsOf : ℕ → ℕ
-viewsOf w = w / 2 ^ 32
+viewsOf w = w / 2 ^ halfBits
 
 -- the elements that pass, in order
 unfoldable pub keep : (ℕ → Bool) → List ℕ → List ℕ

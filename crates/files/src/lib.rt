@@ -1,21 +1,16 @@
-// Reading files, and room for what the program reads and writes.
+// Reading files, and room for a policy.
 
 ghost use mathlib.Core.Path.{_≡_};
+ghost use Prim.Native.Nat.{_+_};
 ghost use lib.ListN.{length};
+ghost use Rattle.policy_text.specs.Text.{mostPolicyBytes};
 ghost use Rattle.io.specs.Counts.{Counts};
 
 // Room for a policy file one byte past its limit, so that a longer one is turned back as too long.
-pub fn policy_room() -> [u8; 16385]
-    ensures { λ r. ⌜ 16385 ≡ length r ⌝ }
+pub fn policy_room() -> [u8; load::MOST_BYTES + 1]
+    ensures { λ r. ⌜ mostPolicyBytes + 1 ≡ length r ⌝ }
 {
-    [0; 16385]
-}
-
-// Room for all that the program can write (`run::MOST_OUTPUT`).
-pub fn output_room() -> [u8; 524288]
-    ensures { λ r. ⌜ 524288 ≡ length r ⌝ }
-{
-    [0; 524288]
+    [0; load::MOST_BYTES + 1]
 }
 
 // The first bytes of a file, as many as there is room for. A file that cannot be opened is taken as empty.

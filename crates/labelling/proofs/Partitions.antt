@@ -18,7 +18,7 @@ use Rattle.theory.proofs.Lists.{at-place, below-place, there}
 use Rattle.theory.proofs.Executable.Test.{same-test, all-map, all-same}
 use Rattle.theory.proofs.Executable.Label.{viewBits-bit}
 use Rattle.theory.proofs.Determine.{settles-iff-determines, no-view-determines}
-use Rattle.words.specs.Bits.{bit}
+use Rattle.words.specs.Bits.{bit, halfBits}
 use Rattle.words.specs.Sets.{meet}
 use Rattle.words.proofs.Parts.{high-part}
 use Rattle.words.proofs.Tests.{meet-iff}
@@ -38,27 +38,27 @@ use Rattle.labelling.proofs.Lines.{shown-fits}
 -- ---- one label
 
 module _ (views : List Line) (ns : List ℕ) (few : length views ≤ mostViews) (known : Known views ns)
-    (A : Line) (small : A .table < 2 ^ 32) where
-  high : label views A / 2 ^ 32 ≡ viewBits views A
+    (A : Line) (small : A .table < 2 ^ halfBits) where
+  high : label views A / 2 ^ halfBits ≡ viewBits views A
   unfolding label
-  high = high-part 32 (viewBits views A) small
+  high = high-part halfBits (viewBits views A) small
 
-  holds-granted : meet 64 (label views A / 2 ^ 32) (viewsWord ns) ≡ answers views A ns
+  holds-granted : meet 64 (label views A / 2 ^ halfBits) (viewsWord ns) ≡ answers views A ns
   holds-granted = same-test _ _ held given
     where
-      held : T (meet 64 (label views A / 2 ^ 32) (viewsWord ns)) → T (answers views A ns)
+      held : T (meet 64 (label views A / 2 ^ halfBits) (viewsWord ns)) → T (answers views A ns)
       held t =
-          let (k, _, x, y) = meet-iff 64 (label views A / 2 ^ 32) (viewsWord ns) .0 (sym (holds-true _ t)) in
+          let (k, _, x, y) = meet-iff 64 (label views A / 2 ^ halfBits) (viewsWord ns) .0 (sym (holds-true _ t)) in
           let (v, at, c) = viewBits-bit views A k .0 (sym (ap (λ (w : ℕ). bit w k) high) ∙ x) in
           covering-answers views ns A (record { place = k; view = v; at = at; listed = word-bit ns k .0 y .1; covering = c })
 
-      given : T (answers views A ns) → T (meet 64 (label views A / 2 ^ 32) (viewsWord ns))
+      given : T (answers views A ns) → T (meet 64 (label views A / 2 ^ halfBits) (viewsWord ns))
       given t =
           let c = answers-covering views ns A known t in
           let k = c .place in
           let b : k < mostViews = omega (arith, known (k + 1) (c .listed) .1, few) in
           let x = ap (λ (w : ℕ). bit w k) high ∙ viewBits-bit views A k .1 (c .view, c .at, c .covering) in
-          true-holds (meet-iff 64 (label views A / 2 ^ 32) (viewsWord ns) .1 (k, omega (arith, b), x, word-bit ns k .1 (b, c .listed)))
+          true-holds (meet-iff 64 (label views A / 2 ^ halfBits) (viewsWord ns) .1 (k, omega (arith, b), x, word-bit ns k .1 (b, c .listed)))
 
 -- ---- all labels
 
@@ -67,8 +67,8 @@ module _ (d : Declared) (good : WellFormed d) (ns : List ℕ) (known : Known (d 
   pub settled-settles : settled (viewsWord ns) (labels (d .views) Q) ≡ settles (granted (d .views) ns) Q
   unfolding settled holdsOne labels settles
   settled-settles =
-      all-map (λ w. meet 64 (w / 2 ^ 32) (viewsWord ns)) (label (d .views)) (show (reduce Q))
-      ∙ all-same (λ A. meet 64 (label (d .views) A / 2 ^ 32) (viewsWord ns)) (λ A. any (λ v. covers v A) (granted (d .views) ns))
+      all-map (λ w. meet 64 (w / 2 ^ halfBits) (viewsWord ns)) (label (d .views)) (show (reduce Q))
+      ∙ all-same (λ A. meet 64 (label (d .views) A / 2 ^ halfBits) (viewsWord ns)) (λ A. any (λ v. covers v A) (granted (d .views) ns))
       (show (reduce Q))
       (λ A m.
       let f = shown-fits (d .widths) Q fits A m in

@@ -11,7 +11,7 @@ use Rattle.theory.specs.Query.{Line, Query, _∈_}
 use Rattle.theory.specs.Executable.Test.{all, any}
 use Rattle.theory.specs.Executable.Cover.{covers}
 use Rattle.theory.specs.Executable.Label.{settles}
-use Rattle.words.specs.Bits.{bit}
+use Rattle.words.specs.Bits.{bit, halfBits}
 use Rattle.words.specs.Sets.{meet}
 use Rattle.words.specs.TestBits.{testBits}
 use Rattle.policy_text.specs.Declared.{Declared}
@@ -20,7 +20,7 @@ use Rattle.reduce.specs.Agree.{lineAt}
 -- a label holds one of a partition's views
 unfoldable pub holdsOne : ℕ → ℕ → Bool
 unfolding meet
-holdsOne partition w = meet 64 (w / 2 ^ 32) partition
+holdsOne partition w = meet 64 (w / 2 ^ halfBits) partition
 
 -- "A partition settles a query when each label holds one of its views."
 unfoldable pub settled : ℕ → List ℕ → Bool

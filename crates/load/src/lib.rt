@@ -22,7 +22,7 @@ use model::Tables;
 use model::Term;
 
 // The most bytes of a policy text.
-const MOST_BYTES: usize = 16384;
+pub const MOST_BYTES: usize = 16384;
 
 // The blocks of a policy text.
 const TABLES: u8 = 0;

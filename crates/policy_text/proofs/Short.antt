@@ -70,7 +70,7 @@ partition-short n vs h s =
     (simp length-map (omega arith))
 
 pub print-short : (d : Declared) → WellFormed d → length (print d) ≤ mostPolicyBytes
-unfolding mostPolicyBytes print printLines endEach tableColumns viewTableTerms partitionViews
+unfolding print printLines endEach tableColumns viewTableTerms partitionViews
 print-short d w =
     let a = block-short tableFields mostTables tableLineBytes _ (d .widths) (omega arith) (w .tables) table-short in
     let b = block-short lineFields mostViews viewLineBytes _ (d .views) (omega arith) (w .views)

@@ -25,7 +25,7 @@ pub data Loading : Type 0 where
   accepted : Declared → Loading
 
 -- "Policy text at most 16,384 bytes"
-unfoldable pub mostPolicyBytes : ℕ
+abbrev pub mostPolicyBytes : ℕ
 mostPolicyBytes = 16384
 
 -- what turns a policy text back: "the checks run in the order 1, 7, 2, 3, 4, 5, 6", of which 7 is for its length
@@ -143,5 +143,5 @@ loadLines (l ∷ ls) tail = cond (sameBytes l tableColumns) (loadFrom tables fal
 
 -- "7, line 0: text too long, before all else."
 unfoldable pub load : List ℕ → Loading
-unfolding loadLines lines mostPolicyBytes
+unfolding loadLines lines
 load text = let s = lines text in cond (ltb mostPolicyBytes (length text)) (refused 7 0) (loadLines (s .ended) (s .rest))

@@ -5,6 +5,7 @@ use Prim.Native.Nat.{ℕ}
 use native.Mathlib.Omega.{arith}
 use denote.Enum.Declared
 use types.Run.{OneOf}
+use Rattle.text.specs.Lines.{space, newline}
 use Rattle.text.specs.Print.{decimal}
 use Rattle.desk.specs.declared.deciding.Reply.{Reply}
 use Rattle.desk.specs.declared.deciding.Reply.the-variants.{Yes, No, Refused}
@@ -20,15 +21,15 @@ cons-append : (b : ℕ) (l m : List ℕ) → _++_ (b ∷ l) m ≡ b ∷ (l ++ m)
 cons-append b l m = refl
 
 joined : (a w b c d : List ℕ)
-    → ((((a ++ 32 ∷ []) ++ w) ++ 32 ∷ []) ++ (b ++ 32 ∷ [])) ++ (c ++ 32 ∷ []) ++ (d ++ 10 ∷ [])
-    ≡ a ++ 32 ∷ w ++ 32 ∷ b ++ 32 ∷ c ++ 32 ∷ d ++ 10 ∷ []
+    → ((((a ++ space ∷ []) ++ w) ++ space ∷ []) ++ (b ++ space ∷ [])) ++ (c ++ space ∷ []) ++ (d ++ newline ∷ [])
+    ≡ a ++ space ∷ w ++ space ∷ b ++ space ∷ c ++ space ∷ d ++ newline ∷ []
 joined a w b c d = simp (append-assoc, cons-append)
 
 -- the six pieces are the line
 pub wrote-line : (query left number line : ℕ) {o₀ o₁ o₂ o₃ o₄ o₅ o₆ word : List ℕ} {at a b c d e r : ℕ}
-    → Wrote o₀ at (decimal query ++ 32 ∷ []) o₁ a → Wrote o₁ a word o₂ b → Wrote o₂ b (32 ∷ []) o₃ c
-    → Wrote o₃ c (decimal left ++ 32 ∷ []) o₄ d → Wrote o₄ d (decimal number ++ 32 ∷ []) o₅ e
-    → Wrote o₅ e (decimal line ++ 10 ∷ []) o₆ r
+    → Wrote o₀ at (decimal query ++ space ∷ []) o₁ a → Wrote o₁ a word o₂ b → Wrote o₂ b (space ∷ []) o₃ c
+    → Wrote o₃ c (decimal left ++ space ∷ []) o₄ d → Wrote o₄ d (decimal number ++ space ∷ []) o₅ e
+    → Wrote o₅ e (decimal line ++ newline ∷ []) o₆ r
     → (w : Word) → word ≡ wordBytes w → Wrote o₀ at (outputLine query w left number line) o₆ r
 unfolding outputLine
 wrote-line query left number line p q s t u v w e =

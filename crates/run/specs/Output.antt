@@ -3,6 +3,7 @@
 use mathlib.Core.List.{List, [], _∷_, _++_}
 use Prim.Native.Nat.{ℕ}
 use Rattle.text.specs.Names.{bytes}
+use Rattle.text.specs.Lines.{space, newline}
 use Rattle.text.specs.Print.{decimal}
 use Rattle.desk.specs.Reply.{Word, yes, no, refused}
 
@@ -19,4 +20,4 @@ wordBytes refused = bytes "refused"
 unfoldable pub outputLine : ℕ → Word → ℕ → ℕ → ℕ → List ℕ
 unfolding decimal wordBytes
 outputLine query answer left number line =
-    decimal query ++ 32 ∷ wordBytes answer ++ 32 ∷ decimal left ++ 32 ∷ decimal number ++ 32 ∷ decimal line ++ 10 ∷ []
+    decimal query ++ space ∷ wordBytes answer ++ space ∷ decimal left ++ space ∷ decimal number ++ space ∷ decimal line ++ newline ∷ []

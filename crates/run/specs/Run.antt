@@ -1,6 +1,7 @@
 -- Document 01, "The program and its first file": the bytes written for a policy text and the bytes of standard input.
 use mathlib.Core.List.{List, [], _∷_, _++_}
 use Prim.Native.Nat.{ℕ, suc}
+use Rattle.text.specs.Lines.{newline}
 use Rattle.policy_text.specs.Text.{Loading, load}
 use Rattle.policy_text.specs.Declared.{Declared}
 use Rattle.policy_text.specs.Text.{refused as refusedPolicy, accepted as acceptedPolicy}
@@ -32,4 +33,4 @@ under (acceptedPolicy d) queries = linesFrom d (allOpen d) 1 (cut queries)
 
 unfoldable pub written : List ℕ → List ℕ → List ℕ
 unfolding outputNames under load
-written policy queries = outputNames ++ 10 ∷ under (load policy) queries
+written policy queries = outputNames ++ newline ∷ under (load policy) queries

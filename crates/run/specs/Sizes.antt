@@ -1,5 +1,6 @@
 -- How many bytes are read, and how many are written for them at most.
 use Prim.Native.Nat.{ℕ, _+_, _*_, _/_}
+use Rattle.writing.specs.Wrote.{mostFieldBytes}
 
 -- "standard input to 65,536 bytes"
 abbrev pub mostInput : ℕ
@@ -17,13 +18,9 @@ mostQueries = mostInput / leastQuery + 2
 abbrev pub wordLong : ℕ
 wordLong = 7
 
--- a number of at most 20 digits, and the byte behind it
-abbrev pub fieldLong : ℕ
-fieldLong = 20 + 1
-
 -- a line of the output: four numbers and a word, each with the byte behind it
 abbrev pub lineLong : ℕ
-lineLong = 4 * fieldLong + wordLong + 1
+lineLong = 4 * mostFieldBytes + wordLong + 1
 
 -- the names line of the output
 abbrev pub namesLong : ℕ

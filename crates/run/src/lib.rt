@@ -20,6 +20,13 @@ pub const MOST_QUERIES: usize = 65536;
 
 pub const MOST_OUTPUT: usize = 524288;
 
+// Room for all that is written.
+pub fn output_room() -> [u8; MOST_OUTPUT]
+    ensures { λ r. ⌜ mostOutput ≡ length r ⌝ }
+{
+    [0; MOST_OUTPUT]
+}
+
 // A line of the output.
 fn put_line(
     out: &mut [u8],

@@ -28,9 +28,9 @@ fn run(folder: &[u8]) {
     let policy_bytes = read(folder, b"/policy.txt", &mut policy);
     let mut queries = io::large_buffer();
     let query_bytes = read(folder, b"/queries.txt", &mut queries);
-    let mut expected = files::output_room();
+    let mut expected = run::output_room();
     let expected_bytes = read(folder, b"/expected.txt", &mut expected);
-    let mut out = files::output_room();
+    let mut out = run::output_room();
     let n = run::run(&policy[..policy_bytes], &queries[..query_bytes], &mut out);
     compare::compare(folder, &out[..n], &expected[..expected_bytes]);
 }

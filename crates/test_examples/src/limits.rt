@@ -17,7 +17,7 @@ fn queries_at(name: &[u8], place: usize, expected: &[u8])
     let mut queries = [b'1'; 65537];
     writing::put_bytes(&mut queries, place, b"\ntable terms\n1 !1 !2\n");
     let policy = policy();
-    let mut out = files::output_room();
+    let mut out = run::output_room();
     let n = run::run(&policy, &queries[..65536], &mut out);
     compare::compare(name, &out[..n], expected);
 }
@@ -27,7 +27,7 @@ fn policy_of(name: &[u8], length: usize, expected: &[u8])
     requires { ⌜ length ≤ 16385 ⌝ }
 {
     let policy = [b'1'; 16385];
-    let mut out = files::output_room();
+    let mut out = run::output_room();
     let n = run::run(&policy[..length], b"table terms\n1 !1 !2\n", &mut out);
     compare::compare(name, &out[..n], expected);
 }

@@ -6,6 +6,7 @@ use mathlib.Core.List.{List, [], _∷_}
 use Prim.Native.Nat.{ℕ, _+_, _*_, _^_, _<_}
 use native.Mathlib.Omega.{arith}
 use lib.ListN.{length}
+use Rattle.words.specs.Bits.{halfBits}
 use Rattle.theory.specs.Query.{constant, Line}
 use Rattle.theory.specs.Cover.{at, IsHidden, Covers}
 use Rattle.theory.specs.Executable.Cover.{covers}
@@ -65,4 +66,4 @@ alike-views (v ∷ vs) a = ap₂ (λ (b : Bool) (w : ℕ). cond b 1 0 + 2 * w) (
 
 pub alike-label : (vs : List Line) {A B : Line} → Alike A B → label vs A ≡ label vs B
 unfolding label
-alike-label vs a = ap₂ (λ (t w : ℕ). t + 2 ^ 32 * w) (a .table) (alike-views vs a)
+alike-label vs a = ap₂ (λ (t w : ℕ). t + 2 ^ halfBits * w) (a .table) (alike-views vs a)

@@ -15,3 +15,7 @@ isSet n k = eqb (bit n k) 1
 unfoldable pub onesBelow : ℕ → ℕ → ℕ
 onesBelow zero n = zero
 onesBelow (suc w) n = bit n w + onesBelow w n
+
+-- a word of 64 bits has two halves of 32
+abbrev pub halfBits : ℕ
+halfBits = 32

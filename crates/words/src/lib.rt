@@ -3,8 +3,11 @@
 ghost use mathlib.Core.Path.{_≡_};
 ghost use mathlib.Core.Bool.{cond};
 ghost use Prim.Native.Nat.{_+_, _*_, _/_, _%_, _^_, _-_, _<_};
-ghost use Rattle.words.specs.Bits.{isSet, onesBelow};
+ghost use Rattle.words.specs.Bits.{isSet, onesBelow, halfBits};
 ghost use Rattle.words.specs.Sets.{setBit, clearBit, meet, include, Least, LeastDropped};
+
+// The bits of a half of a word.
+const HALF: u64 = 32;
 
 // The word with bit `k` set.
 pub fn set_bit(m: u64, k: u64) -> u64
@@ -88,22 +91,22 @@ pub fn drop_least(m: u64) -> u64
 
 // The word of a low and a high half.
 pub fn join(low: u64, high: u64) -> u64
-    requires { ⌜ (low < 2 ^ 32) × (high < 2 ^ 32) ⌝ }
-    ensures { λ r. ⌜ r ≡ low + 2 ^ 32 * high ⌝ }
+    requires { ⌜ (low < 2 ^ halfBits) × (high < 2 ^ halfBits) ⌝ }
+    ensures { λ r. ⌜ r ≡ low + 2 ^ halfBits * high ⌝ }
 {
-    low | (high << 32)
+    low | (high << HALF)
 }
 
 // The low half of a word.
 pub fn low_half(w: u64) -> u64
-    ensures { λ r. ⌜ r ≡ w % 2 ^ 32 ⌝ }
+    ensures { λ r. ⌜ r ≡ w % 2 ^ halfBits ⌝ }
 {
     w & 0xffff_ffff
 }
 
 // The high half of a word.
 pub fn high_half(w: u64) -> u64
-    ensures { λ r. ⌜ r ≡ w / 2 ^ 32 ⌝ }
+    ensures { λ r. ⌜ r ≡ w / 2 ^ halfBits ⌝ }
 {
-    w >> 32
+    w >> HALF
 }

@@ -8,7 +8,6 @@ use lib.ListN.{length, length-take, length-drop}
 use Rattle.text.specs.Names.{tableColumns}
 use Rattle.text.specs.Cursors.{AfterNames, NextLine}
 use Rattle.text.proofs.NextLines.{behind-names, names-within}
-use Rattle.policy_text.specs.Text.{mostPolicyBytes}
 use Rattle.load.specs.Value.{loadingValue}
 use Rattle.load.proofs.Start.{too-long, misnamed, well-named}
 use Rattle.load.proofs.load.Statement.{statement}
@@ -38,7 +37,6 @@ refused-requires : tie.Need-refused-requires
 refused-requires c κs = search needs
 
 returns : tie.Need-returns
-unfolding mostPolicyBytes
 returns c = c .refused .ensures ∙ ap loadingValue (too-long _ (c .before .if1 .taken))
 
 slice-aggregate-after-names : tie.Need-slice-aggregate-after-names
@@ -51,7 +49,6 @@ refused-requires-2 : tie.Need-refused-requires-2
 refused-requires-2 c κs = search needs
 
 returns-2 : tie.Need-returns-2
-unfolding mostPolicyBytes
 returns-2 c =
     let d = c .before .before .before in
     c .refused2 .ensures ∙ ap loadingValue (misnamed (text d) (d .before .before .if1 .left) (after d) (c .before .if2 .taken))
@@ -72,7 +69,6 @@ load-lines-requires c κs = (
 )
 
 returns-3 : tie.Need-returns-3
-unfolding mostPolicyBytes
 returns-3 c =
     let e = c .before .before in
     let d = of-names e in

@@ -6,7 +6,7 @@ use mathlib.Core.List.{List}
 use Prim.Native.Nat.{ℕ, _+_, _-_, _%_, _^_, _≤_, _<_}
 use native.Mathlib.Omega.{arith}
 use lib.ListN.{length, getElem?}
-use Rattle.words.specs.Bits.{bit}
+use Rattle.words.specs.Bits.{bit, halfBits}
 use Rattle.words.proofs.Parts.{low-part, bit-above, parts-below}
 use Rattle.words.proofs.TestBits.{tests-bit, tests-below}
 use Rattle.theory.specs.Query.{Line}
@@ -26,20 +26,20 @@ viewBits-bit vs A k =
 
 -- ---- the label
 
-module _ (vs : List Line) (A : Line) (small : A .table < 2 ^ 32) where
-  pub label-table : label vs A % 2 ^ 32 ≡ A .table
+module _ (vs : List Line) (A : Line) (small : A .table < 2 ^ halfBits) where
+  pub label-table : label vs A % 2 ^ halfBits ≡ A .table
   unfolding label
-  label-table = low-part 32 (viewBits vs A) small
+  label-table = low-part halfBits (viewBits vs A) small
 
   -- bit 31 + n says whether view n covers the line
   pub label-bit : (n : ℕ) → 1 ≤ n
       → (bit (label vs A) (31 + n) ≡ 1) ↔ ((v : Line) × (getElem? vs (n - 1) ≡ some v) × Covers v A)
   unfolding label
   label-bit n h =
-      let e : 31 + n ≡ 32 + (n - 1) = omega arith in
-      rw (e, bit-above 32 (viewBits vs A) small (n - 1)) (viewBits-bit vs A (n - 1))
+      let e : 31 + n ≡ halfBits + (n - 1) = omega arith in
+      rw (e, bit-above halfBits (viewBits vs A) small (n - 1)) (viewBits-bit vs A (n - 1))
 
   -- no bit past the last view is set
-  pub label-below : label vs A < 2 ^ (32 + length vs)
+  pub label-below : label vs A < 2 ^ (halfBits + length vs)
   unfolding label
-  label-below = parts-below 32 (viewBits vs A) small (length vs) (tests-below (λ v. covers v A) vs)
+  label-below = parts-below halfBits (viewBits vs A) small (length vs) (tests-below (λ v. covers v A) vs)

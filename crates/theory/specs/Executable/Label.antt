@@ -2,6 +2,7 @@
 use mathlib.Core.Bool.{Bool}
 use mathlib.Core.List.{List, map}
 use Prim.Native.Nat.{ℕ, _+_, _*_, _^_}
+use Rattle.words.specs.Bits.{halfBits}
 use Rattle.words.specs.TestBits.{testBits}
 use Rattle.theory.specs.Query.{Line, Query}
 use Rattle.theory.specs.Executable.Test.{all, any}
@@ -16,7 +17,7 @@ viewBits vs A = testBits (λ v. covers v A) vs
 -- "the low 32 bits hold the table number and the high 32 bits the views, view n at bit 31 + n"
 unfoldable pub label : List Line → Line → ℕ
 unfolding testBits covers
-label vs A = A .table + 2 ^ 32 * viewBits vs A
+label vs A = A .table + 2 ^ halfBits * viewBits vs A
 
 -- "One word of 64 bits for each reduced line"
 unfoldable pub labels : List Line → Query → List ℕ
