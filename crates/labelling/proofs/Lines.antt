@@ -37,8 +37,8 @@ use Rattle.reduce.proofs.Lines.{laid-few}
 use Rattle.reduce.proofs.Shown.{shownBy, line-value, line-shown}
 use Rattle.reduce.proofs.ShownTerms.{shown-term}
 use Rattle.labelling.specs.Posed.{Ready, LineOf, Posed, Rows}
-use Rattle.labelling.specs.Settled.{answers, Answering}
-use Rattle.labelling.proofs.Granted.{covering-answers, answers-covering}
+use Rattle.labelling.specs.Settled.{answers}
+use Rattle.labelling.proofs.Granted.{covering-answers, answers-covering, Answering}
 
 -- ---- a line
 

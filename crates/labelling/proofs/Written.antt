@@ -26,7 +26,8 @@ use Rattle.reduce.specs.Agree.{lineAt}
 use Rattle.reduce.specs.Left.{pick, linesAt}
 use Rattle.reduce.proofs.Lines.{left-more}
 use Rattle.labelling.specs.Posed.{Ready, wordsValue, labelsValue}
-use Rattle.labelling.specs.Settled.{answers, settlingLines, Answering}
+use Rattle.labelling.specs.Settled.{answers, settlingLines}
+use Rattle.labelling.proofs.Granted.{Answering}
 use Rattle.labelling.specs.declared.Labels.{Labels}
 
 -- the words of the lines R, each shown by f, how many they are, and the partitions that have a view for each of them

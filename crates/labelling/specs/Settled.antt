@@ -1,17 +1,15 @@
 -- Document 01, "Session": when a partition settles a query, read off its labels.
 use mathlib.Core.Path.{_≡_}
-use mathlib.Core.Logic.{_↔_}
 use mathlib.Core.Bool.{Bool}
 use mathlib.Core.List.{List, map}
 use mathlib.Core.Option.{some}
 use Prim.Native.Nat.{ℕ, _-_, _/_, _^_, _≤_}
-use lib.Dec.{T}
 use lib.ListN.{length, getElem?}
 use Rattle.theory.specs.Query.{Line, Query, _∈_}
 use Rattle.theory.specs.Executable.Test.{all, any}
 use Rattle.theory.specs.Executable.Cover.{covers}
 use Rattle.theory.specs.Executable.Label.{settles}
-use Rattle.words.specs.Bits.{bit, halfBits}
+use Rattle.words.specs.Bits.{halfBits}
 use Rattle.words.specs.Sets.{meet}
 use Rattle.words.specs.TestBits.{testBits}
 use Rattle.policy_text.specs.Declared.{Declared}
@@ -45,10 +43,11 @@ pub record Numbered (views : List Line) (ns : List ℕ) (v : Line) : Type 0 wher
 
 -- ---- the partitions that settle a query, as a word: the first at bit 0
 
--- a line by a view of a partition, for each partition
+-- one of the views with these numbers covers the line
 abbrev pub answers : List Line → Line → List ℕ → Bool
 answers views A ns = any (λ v. covers v A) (granted views ns)
 
+-- those whose views settle it
 unfoldable pub settling : Declared → Query → ℕ
 unfolding testBits settles granted
 settling d Q = testBits (λ ns. settles (granted (d .views) ns) Q) (d .partitions)
@@ -57,7 +56,3 @@ settling d Q = testBits (λ ns. settles (granted (d .views) ns) Q) (d .partition
 unfoldable pub settlingLines : Declared → List Line → ℕ
 unfolding testBits all any covers granted
 settlingLines d R = testBits (λ ns. all (λ A. answers (d .views) A ns) R) (d .partitions)
-
--- bit i of a word says whether partition i, counted from 0, has a view that covers the line
-pub record Answering (d : Declared) (A : Line) (w : ℕ) : Type 0 where
-  pub bits : (i : ℕ) (ns : List ℕ) → getElem? (d .partitions) i ≡ some ns → (bit w i ≡ 1) ↔ T (answers (d .views) A ns)

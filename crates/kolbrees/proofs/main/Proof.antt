@@ -1,4 +1,4 @@
--- `kolbrees::main`: the output stands within its room.
+-- `main`: the output stands within its room.
 use mathlib.Core.Path.{sym}
 use lib.Seq.{length-take-le}
 use borrow.Author.Needs.{needs}

@@ -1,4 +1,4 @@
--- `policy_lines::listed_after`: behind the last field there is none.
+-- `listed_after`: behind the last field there is none.
 use mathlib.Core.List.{List}
 use mathlib.Core.Path.{sym, ap, _∙_}
 use Prim.Native.Nat.{ℕ}

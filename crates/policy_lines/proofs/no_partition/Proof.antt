@@ -1,4 +1,4 @@
--- `entries::no_partition`: the views are no more than the partition.
+-- `no_partition`: the views are no more than the partition.
 use mathlib.Core.Path.{ap}
 use borrow.Author.Needs.{needs}
 use Rattle.policy_lines.specs.Value.{noPartition}

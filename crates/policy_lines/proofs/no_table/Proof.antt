@@ -1,4 +1,4 @@
--- `entries::no_table`: the value is the definition's.
+-- `no_table`: the value is the definition's.
 use mathlib.Core.Path.{refl}
 use Rattle.policy_lines.specs.Value.{noTable}
 use Rattle.policy_lines.proofs.no_table.Statement.{statement}

@@ -1,4 +1,4 @@
--- `entries::no_view`: the line of terms is as blank as the view's.
+-- `no_view`: the line of terms is as blank as the view's.
 use mathlib.Core.Path.{ap}
 use borrow.Author.Needs.{needs}
 use Rattle.model.specs.declared.Parsed.{Parsed}

@@ -1,4 +1,4 @@
--- `entries::no_views`: the value is the definition's.
+-- `no_views`: the value is the definition's.
 use mathlib.Core.Path.{refl}
 use Rattle.policy_lines.specs.Value.{noViews}
 use Rattle.policy_lines.proofs.no_views.Statement.{statement}

@@ -1,4 +1,4 @@
--- `entries::none_listed`: the value is that of no view.
+-- `none_listed`: the value is that of no view.
 use mathlib.Core.Path.{refl}
 use Rattle.policy_lines.specs.Value.{viewList}
 use Rattle.policy_lines.proofs.none_listed.Statement.{statement}

@@ -1,4 +1,4 @@
--- `policy_lines::read_partition`: the views are the fields behind the number.
+-- `read_partition`: the views are the fields behind the number.
 use mathlib.Core.Path.{_∙_}
 use Prim.Native.Nat.{_+_}
 use borrow.Author.Needs.{needs}

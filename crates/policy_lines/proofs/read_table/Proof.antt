@@ -1,4 +1,4 @@
--- `policy_lines::read_table`: the first space parts the number from the columns.
+-- `read_table`: the first space parts the number from the columns.
 use mathlib.Core.Path.{_∙_}
 use Prim.Native.Nat.{_+_, _-_, _<_}
 use native.Mathlib.Omega.{arith}

@@ -1,4 +1,4 @@
--- `policy_lines::read_view`: the first space parts the number from the line of terms.
+-- `read_view`: the first space parts the number from the line of terms.
 use mathlib.Core.Path.{_∙_}
 use Prim.Native.Nat.{_+_, _-_, _<_}
 use native.Mathlib.Omega.{arith}

@@ -1,4 +1,4 @@
--- `policy_lines::read_views`: the views passed are those of the fields before `at`; each turn passes one field.
+-- `read_views`: the views passed are those of the fields before `at`; each turn passes one field.
 use mathlib.Core.Logic.{⊎-elim}
 use mathlib.Core.Path.{_∙_}
 use Prim.Native.Nat.{suc, _-_}

@@ -1,4 +1,4 @@
--- `query_text::fault`: each answer is the first check that the line fails; without one, it is no ninth line and within its limits.
+-- `fault`: each answer is the first check that the line fails; without one, it is no ninth line and within its limits.
 use mathlib.Core.Path.{_∙_}
 use native.Mathlib.Omega.{arith}
 use Rattle.query_text.proofs.Faults.{ninth, past-limit, checked, is-within, is-good}

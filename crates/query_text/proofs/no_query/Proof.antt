@@ -1,4 +1,4 @@
--- `query_text::no_query`: the value of no lines.
+-- `no_query`: the value of no lines.
 use mathlib.Core.Path.{refl}
 use Rattle.model.specs.Value.{queryValue}
 use Rattle.query_text.proofs.no_query.Statement.{statement}

@@ -1,4 +1,4 @@
--- `query_text::refused`: the refusal, and the query without a line beside it.
+-- `refused`: the refusal, and the query without a line beside it.
 use borrow.Author.Needs.{needs}
 use Rattle.query_text.specs.Value.{readingValue}
 use Rattle.query_text.proofs.refused.Statement.{statement}

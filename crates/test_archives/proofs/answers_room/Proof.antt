@@ -1,4 +1,4 @@
--- `archives::answers_room`: the array has as many elements as its type says, by a law over every number, since this one is too
+-- `answers_room`: the array has as many elements as its type says, by a law over every number, since this one is too
 -- large to be computed with.
 use Prim.Native.Nat.{ℕ}
 use mathlib.Core.Path.{_≡_}

@@ -1,4 +1,4 @@
--- `archives::fill_answers` ends: `k` comes nearer to the number of queries.
+-- `fill_answers` ends: `k` comes nearer to the number of queries.
 use mathlib.Core.Path.{_≡_}
 use Prim.Native.Nat.{_-_, _≤_}
 use lib.ListN.{length}

@@ -1,4 +1,4 @@
--- `archives::try_all` ends: `code` comes nearer to 1369.
+-- `try_all` ends: `code` comes nearer to 1369.
 use Prim.Native.Nat.{_-_, _≤_}
 use borrow.Author.Needs.{needs}
 use Rattle.test_archives.proofs.try_all.Statement.{statement}

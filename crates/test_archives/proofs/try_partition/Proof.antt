@@ -1,4 +1,4 @@
--- `archives::try_partition` ends: `k` comes nearer to the number of queries.
+-- `try_partition` ends: `k` comes nearer to the number of queries.
 use Prim.Native.Nat.{_-_, _≤_}
 use borrow.Author.Needs.{needs}
 use Rattle.test_archives.proofs.try_partition.Statement.{statement}

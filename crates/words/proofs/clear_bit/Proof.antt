@@ -1,4 +1,4 @@
--- `words::clear_bit`: bit `k`, once it is set, is turned over.
+-- `clear_bit`: bit `k`, once it is set, is turned over.
 use borrow.Author.Needs.{needs}
 use Rattle.words.proofs.ClearBits.{clear-shifted-one}
 use Rattle.words.proofs.clear_bit.Statement.{statement}

@@ -1,4 +1,4 @@
--- `words::drop_least`: a word and the word one below it have in common all bits but the least.
+-- `drop_least`: a word and the word one below it have in common all bits but the least.
 use borrow.Author.Needs.{needs}
 use Rattle.words.proofs.Lowest.{and-pred-dropped}
 use Rattle.words.proofs.drop_least.Statement.{statement}

@@ -1,4 +1,4 @@
--- `words::has_bit`: the lowest bit of the word shifted by `k` is bit `k`.
+-- `has_bit`: the lowest bit of the word shifted by `k` is bit `k`.
 use borrow.Author.Needs.{needs}
 use Rattle.words.proofs.Tests.{and-one}
 use Rattle.words.proofs.has_bit.Statement.{statement}

@@ -1,4 +1,4 @@
--- `words::includes`: the bits that both words have are those of `b` exactly where `a` has them all.
+-- `includes`: the bits that both words have are those of `b` exactly where `a` has them all.
 use Rattle.words.proofs.Tests.{and-include}
 use Rattle.words.proofs.includes.Statement.{statement}
 use Rattle.words.proofs.includes.Tie as tie

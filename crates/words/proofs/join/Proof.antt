@@ -1,4 +1,4 @@
--- `words::join`: a half below 2 ^ 32 and the other shifted above it have no bit in common.
+-- `join`: a half below 2 ^ 32 and the other shifted above it have no bit in common.
 use borrow.Author.Needs.{needs}
 use Rattle.words.specs.Bits.{halfBits}
 use Rattle.words.proofs.Parts.{or-parts}

@@ -1,4 +1,4 @@
--- `words::least`: the zeros behind the least set bit are as many as its place.
+-- `least`: the zeros behind the least set bit are as many as its place.
 use native.Mathlib.Omega.{arith}
 use lib.Count.{trailing-le}
 use Rattle.words.proofs.Lowest.{trailing-least}

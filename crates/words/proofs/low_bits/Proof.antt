@@ -1,4 +1,4 @@
--- `words::low_bits`: a one shifted to place `n`, less one, is the `n` bits below it.
+-- `low_bits`: a one shifted to place `n`, less one, is the `n` bits below it.
 use lib.Pow.{pow-pos}
 use borrow.Author.Needs.{needs}
 use Rattle.words.proofs.ClearBits.{one-shifted}

@@ -1,4 +1,4 @@
--- `words::low_half`: the mask leaves what is left behind a division by 2 ^ 32.
+-- `low_half`: the mask leaves what is left behind a division by 2 ^ 32.
 use lib.Bits.{and-mask}
 use Rattle.words.specs.Bits.{halfBits}
 use Rattle.words.proofs.low_half.Statement.{statement}

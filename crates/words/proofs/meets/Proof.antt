@@ -1,4 +1,4 @@
--- `words::meets`: the bits that both words have are none exactly where the words do not meet.
+-- `meets`: the bits that both words have are none exactly where the words do not meet.
 use Rattle.words.proofs.Tests.{and-meet}
 use Rattle.words.proofs.meets.Statement.{statement}
 use Rattle.words.proofs.meets.Tie as tie

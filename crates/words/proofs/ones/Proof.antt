@@ -1,4 +1,4 @@
--- `words::ones`: counting ones counts the bits below the width that are set.
+-- `ones`: counting ones counts the bits below the width that are set.
 use native.Mathlib.Omega.{arith}
 use lib.Count.{ones-le}
 use Rattle.words.proofs.Counts.{count-ones}

@@ -1,4 +1,4 @@
--- `words::set_bit`: a one shifted to place `k`, put into the word, sets bit `k` and no other.
+-- `set_bit`: a one shifted to place `k`, put into the word, sets bit `k` and no other.
 use borrow.Author.Needs.{needs}
 use Rattle.words.proofs.SetBits.{or-shifted-one}
 use Rattle.words.proofs.set_bit.Statement.{statement}

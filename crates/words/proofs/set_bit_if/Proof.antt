@@ -1,4 +1,4 @@
--- `words::set_bit_if`: by the test, the word with the bit or the word.
+-- `set_bit_if`: by the test, the word with the bit or the word.
 use borrow.Author.Needs.{needs}
 use Rattle.words.proofs.set_bit_if.Statement.{statement}
 use Rattle.words.proofs.set_bit_if.Tie as tie

@@ -1,4 +1,4 @@
--- `writing::put_bytes`, by its loop's invariant: the first i bytes are written.
+-- `put_bytes`, by its loop's invariant: the first i bytes are written.
 use Prim.Native.Nat.{_+_, _-_, _≤_, _<_}
 use native.Mathlib.Omega.{arith}
 use mathlib.Core.Path.{_≡_}

@@ -1,4 +1,4 @@
--- `model::check::check_line`: each answer is the first check that the line fails.
+-- `check_line`: each answer is the first check that the line fails.
 use mathlib.Core.Path.{sym, _∙_}
 use borrow.Author.Needs.{needs}
 use Rattle.model.proofs.Misfit.{unknown-table, wrong-width, shown-clashes, hidden-clashes, fitting}

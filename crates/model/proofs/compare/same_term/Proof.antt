@@ -1,4 +1,4 @@
--- `model::compare::same_term`: the two tests are those of the definition.
+-- `same_term`: the two tests are those of the definition.
 use borrow.Author.Tests.{eq-eqb, ne-eqb}
 use Rattle.model.specs.Value.{sameTerm}
 use Rattle.model.proofs.compare.same_term.Statement.{statement}

@@ -1,4 +1,4 @@
--- `model::read::blank`: the value is the definition's.
+-- `blank`: the value is the definition's.
 use mathlib.Core.Path.{refl}
 use Rattle.model.specs.Parsed.{blankValue}
 use Rattle.model.proofs.read.blank.Statement.{statement}

@@ -1,4 +1,4 @@
--- `model::read::mark_of`: the marks are told apart by the bytes.
+-- `mark_of`: the marks are told apart by the bytes.
 use borrow.Author.Tests.{eq-eqb, ne-eqb}
 use Rattle.model.specs.Marks.{markOf}
 use Rattle.model.proofs.read.mark_of.Statement.{statement}

@@ -1,4 +1,4 @@
--- `model::read::read_line`: the first space parts the table's number from the terms.
+-- `read_line`: the first space parts the table's number from the terms.
 use mathlib.Core.Path.{sym, _∙_}
 use Prim.Native.Nat.{_<_}
 use native.Mathlib.Omega.{arith}

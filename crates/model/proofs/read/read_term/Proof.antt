@@ -1,4 +1,4 @@
--- `model::read::read_term`: each answer is what the mark and the numeral say.
+-- `read_term`: each answer is what the mark and the numeral say.
 use mathlib.Core.Path.{_≡_, sym, ap, ap₂, _∙_}
 use native.Mathlib.Omega.{arith}
 use lib.ListN.{getD}

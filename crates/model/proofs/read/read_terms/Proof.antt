@@ -1,4 +1,4 @@
--- `model::read::read_terms`: the terms passed are those of the fields before `at`; each turn passes one field.
+-- `read_terms`: the terms passed are those of the fields before `at`; each turn passes one field.
 use mathlib.Core.Path.{sym, _∙_}
 use mathlib.Core.Logic.{⊎-elim}
 use Prim.Native.Nat.{suc, _-_}

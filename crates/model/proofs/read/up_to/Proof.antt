@@ -1,4 +1,4 @@
--- `model::read::up_to`: a number that is not large is compared with the most.
+-- `up_to`: a number that is not large is compared with the most.
 use borrow.Author.Needs.{needs}
 use borrow.Author.Tests.{le-leb, lt-leb}
 use Rattle.model.specs.Parsed.{upToValue}

@@ -1,4 +1,4 @@
--- `model::read::with_mark`: the bit is set where the marks are the same.
+-- `with_mark`: the bit is set where the marks are the same.
 use mathlib.Core.Path.{_∙_}
 use native.Mathlib.Omega.{arith}
 use borrow.Author.Tests.{eq-eqb, ne-eqb}

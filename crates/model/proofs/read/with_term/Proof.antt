@@ -1,4 +1,4 @@
--- `model::read::with_term`: the term goes into the place behind the last, if there is one, and the words each get the bit that it has.
+-- `with_term`: the term goes into the place behind the last, if there is one, and the words each get the bit that it has.
 use mathlib.Core.Logic.{⊎-elim}
 use native.Mathlib.Omega.{arith}
 use borrow.Author.Needs.{needs}

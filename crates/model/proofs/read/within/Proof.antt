@@ -1,4 +1,4 @@
--- `model::read::within`: a constant is told from a variable by its mark.
+-- `within`: a constant is told from a variable by its mark.
 use borrow.Author.Tests.{eq-eqb, ne-eqb}
 use Rattle.model.specs.Marks.{numberWithin}
 use Rattle.model.proofs.read.within.Statement.{statement}

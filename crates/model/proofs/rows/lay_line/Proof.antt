@@ -1,4 +1,4 @@
--- `model::rows::lay_line`: the terms before column `p` are laid.
+-- `lay_line`: the terms before column `p` are laid.
 use mathlib.Core.Path.{refl}
 use Prim.Native.Nat.{_-_, _≤_}
 use lib.ListN.{length-set}

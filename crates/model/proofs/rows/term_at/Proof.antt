@@ -1,4 +1,4 @@
--- `model::term_at`: the term of the two numbers read.
+-- `term_at`: the term of the two numbers read.
 use mathlib.Core.Path.{refl}
 use Rattle.model.specs.Rows.{laidTerm}
 use borrow.Author.Needs.{needs}

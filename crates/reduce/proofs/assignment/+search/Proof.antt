@@ -1,4 +1,4 @@
--- `reduce::search`: the targets of the first line that were tried lead to nothing, and the lines behind it are
+-- `search`: the targets of the first line that were tried lead to nothing, and the lines behind it are
 -- searched with the candidates that are compatible.
 use mathlib.Core.Path.{sym, subst, _∙_}
 use mathlib.Core.Bool.{false≢true}

@@ -1,4 +1,4 @@
--- `reduce::row_of`: the candidates shifted by the line's place, those of `targets` alone.
+-- `row_of`: the candidates shifted by the line's place, those of `targets` alone.
 use borrow.Author.Needs.{needs}
 use Rattle.reduce.proofs.Rows.{row-is}
 use Rattle.reduce.proofs.assignment.row_of.Statement.{statement}

@@ -1,4 +1,4 @@
--- `reduce::rows_left`: what is left to look at are lines of `rows`; one without a target is an answer.
+-- `rows_left`: what is left to look at are lines of `rows`; one without a target is an answer.
 use Prim.Native.Nat.{ℕ, _≤_}
 use mathlib.Core.Path.{_≡_, subst, sym}
 use mathlib.Core.Bool.{false≢true}

@@ -1,4 +1,4 @@
--- `reduce::goes_line`: the columns before `p` stand over columns that keep them.
+-- `goes_line`: the columns before `p` stand over columns that keep them.
 use mathlib.Core.Path.{_≡_, sym, ap₂, _∙_}
 use mathlib.Core.Bool.{true}
 use Prim.Native.Nat.{ℕ, _-_, _≤_, _<_}

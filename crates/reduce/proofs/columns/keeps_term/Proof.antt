@@ -1,4 +1,4 @@
--- `reduce::keeps_term`: a hidden variable stands over any term, another term over itself.
+-- `keeps_term`: a hidden variable stands over any term, another term over itself.
 use borrow.Author.Needs.{needs}
 use borrow.Author.Tests.{eq-eqb, ne-eqb}
 use Rattle.reduce.specs.Columns.{keepsTerm}

@@ -1,4 +1,4 @@
--- `reduce::same_columns`: the word has the equal columns of the line's columns before `p`.
+-- `same_columns`: the word has the equal columns of the line's columns before `p`.
 use mathlib.Core.Path.{_≡_, _∙_}
 use Prim.Native.Nat.{_+_, _*_, _-_, _≤_}
 use native.Mathlib.Omega.{arith}

@@ -1,4 +1,4 @@
--- `reduce::with_column`: the word has those of the column with the other line's columns before `q`.
+-- `with_column`: the word has those of the column with the other line's columns before `q`.
 use mathlib.Core.Path.{_≡_, _∙_}
 use Prim.Native.Nat.{_-_, _≤_}
 use native.Mathlib.Nat.{add-zero}

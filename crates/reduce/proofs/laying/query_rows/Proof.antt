@@ -1,4 +1,4 @@
--- `reduce::query_rows`: the lines before `i` are laid.
+-- `query_rows`: the lines before `i` are laid.
 use mathlib.Core.Path.{_≡_, refl, _∙_}
 use Prim.Native.Nat.{_-_, _≤_}
 use lib.ListN.{length}

@@ -1,4 +1,4 @@
--- `reduce::can_go`: no line could go to one that is not there.
+-- `can_go`: no line could go to one that is not there.
 use borrow.Author.Needs.{needs}
 use borrow.Author.Tests.{not-true, not-false}
 use Rattle.reduce.proofs.pairs.can_go.Statement.{statement}

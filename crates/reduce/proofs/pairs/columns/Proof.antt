@@ -1,4 +1,4 @@
--- `reduce::columns`: the entries of the pairs before `p` are the words of equal columns.
+-- `columns`: the entries of the pairs before `p` are the words of equal columns.
 use mathlib.Core.Path.{_≡_, refl}
 use mathlib.Core.Logic.{⊎-elim}
 use Prim.Native.Nat.{_*_, _-_, _≤_, _<_}

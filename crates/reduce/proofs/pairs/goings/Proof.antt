@@ -1,4 +1,4 @@
--- `reduce::goings`: the word has the pairs before `p` of a line that could go to the other.
+-- `goings`: the word has the pairs before `p` of a line that could go to the other.
 use mathlib.Core.Path.{_≡_}
 use Prim.Native.Nat.{_*_, _-_, _≤_}
 use native.Mathlib.Omega.{arith}

@@ -1,4 +1,4 @@
--- `reduce::join`: the word of the lines is included in the word of the targets.
+-- `join`: the word of the lines is included in the word of the targets.
 use borrow.Author.Needs.{needs}
 use Rattle.reduce.specs.Pairs.{joins}
 use Rattle.reduce.proofs.pairs.join.Statement.{statement}

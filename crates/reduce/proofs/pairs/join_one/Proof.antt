@@ -1,4 +1,4 @@
--- `reduce::join_one`: with itself where it is looked at alone.
+-- `join_one`: with itself where it is looked at alone.
 use borrow.Author.Needs.{needs}
 use Rattle.reduce.proofs.pairs.join_one.Statement.{statement}
 use Rattle.reduce.proofs.pairs.join_one.Tie as tie

@@ -1,4 +1,4 @@
--- `reduce::joining`: the pairs that were looked at are set by the test.
+-- `joining`: the pairs that were looked at are set by the test.
 use mathlib.Core.Bool.{cond}
 use native.Mathlib.Omega.{arith}
 use lib.Dec.{T}

@@ -1,4 +1,4 @@
--- `reduce::pair_words`: the entries of the candidates that were looked at are their words.
+-- `pair_words`: the entries of the candidates that were looked at are their words.
 use mathlib.Core.Path.{refl}
 use native.Mathlib.Omega.{arith}
 use Rattle.words.proofs.Marks.{Filled, filled-none, filled-more, filled-all}

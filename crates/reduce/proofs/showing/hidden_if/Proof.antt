@@ -1,4 +1,4 @@
--- `reduce::hidden_if`: a line that is not there has no variable.
+-- `hidden_if`: a line that is not there has no variable.
 use mathlib.Core.Path.{subst}
 use native.Mathlib.Omega.{arith}
 use lib.Dec.{T}

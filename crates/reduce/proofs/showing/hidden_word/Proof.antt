@@ -1,4 +1,4 @@
--- `reduce::hidden_word`: the word has the hidden variables of the columns before `k`.
+-- `hidden_word`: the word has the hidden variables of the columns before `k`.
 use mathlib.Core.Path.{_≡_, ap, _∙_}
 use Prim.Native.Nat.{_-_, _≤_}
 use native.Mathlib.Omega.{arith}

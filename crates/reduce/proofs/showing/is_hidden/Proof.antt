@@ -1,4 +1,4 @@
--- `reduce::is_hidden`: the mark and the limit are what the definition tests.
+-- `is_hidden`: the mark and the limit are what the definition tests.
 use borrow.Author.Tests.{eq-eqb, ne-eqb}
 use Rattle.reduce.specs.Showing.{hiddenTerm}
 use Rattle.reduce.proofs.showing.is_hidden.Statement.{statement}

@@ -1,4 +1,4 @@
--- `reduce::is_shared`: a hidden variable that has a bit, and the bit is set.
+-- `is_shared`: a hidden variable that has a bit, and the bit is set.
 use mathlib.Core.Path.{subst}
 use native.Mathlib.Omega.{arith}
 use lib.Dec.{T}

@@ -1,4 +1,4 @@
--- `reduce::shared`: the words hold what was seen in the lines left before `i`.
+-- `shared`: the words hold what was seen in the lines left before `i`.
 use mathlib.Core.Path.{_≡_}
 use Prim.Native.Nat.{_-_, _≤_, _<_}
 use native.Mathlib.Omega.{arith}

@@ -1,4 +1,4 @@
--- `reduce::show`: the terms of the pairs before `k` are shown, and where nothing is shared all stay as they are.
+-- `show`: the terms of the pairs before `k` are shown, and where nothing is shared all stay as they are.
 use mathlib.Core.Path.{ap, _∙_}
 use Prim.Native.Nat.{_*_, _-_, _≤_}
 use Rattle.model.specs.Limits.{mostColumns}

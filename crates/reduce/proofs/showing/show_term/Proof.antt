@@ -1,4 +1,4 @@
--- `reduce::show_term`: by the test, the shown term or the term.
+-- `show_term`: by the test, the shown term or the term.
 use Rattle.reduce.specs.Showing.{showValue}
 use borrow.Author.Needs.{needs}
 use Rattle.reduce.proofs.showing.show_term.Statement.{statement}

@@ -1,4 +1,4 @@
--- `reduce::with_hidden`: by the test, the word with the bit or the word.
+-- `with_hidden`: by the test, the word with the bit or the word.
 use mathlib.Core.Path.{subst}
 use native.Mathlib.Omega.{arith}
 use lib.Dec.{T}

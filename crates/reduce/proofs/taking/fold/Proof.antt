@@ -1,4 +1,4 @@
--- `reduce::fold`: all lines can be sent to those in `rows` once the lines from `i` on were tried.
+-- `fold`: all lines can be sent to those in `rows` once the lines from `i` on were tried.
 use Prim.Native.Nat.{_-_, _^_, _≤_, _<_}
 use mathlib.Core.Path.{_≡_}
 use native.Mathlib.Omega.{arith}

@@ -1,4 +1,4 @@
--- `reduce::lines_left`: where no line could go to another all stay; else what the search leaves.
+-- `lines_left`: where no line could go to another all stay; else what the search leaves.
 use mathlib.Core.Path.{sym, _∙_}
 use native.Mathlib.Omega.{arith}
 use borrow.Author.Needs.{needs}

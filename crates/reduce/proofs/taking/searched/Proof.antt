@@ -1,4 +1,4 @@
--- `reduce::searched`: what the four words and tables say of the query, one after the other.
+-- `searched`: what the four words and tables say of the query, one after the other.
 use borrow.Author.Needs.{needs}
 use Rattle.reduce.proofs.Tables.{tabled}
 use Rattle.reduce.proofs.taking.searched.Statement.{statement}

@@ -1,4 +1,4 @@
--- `reduce::taken`: what is left of the query once the lines from `i` on were tried.
+-- `taken`: what is left of the query once the lines from `i` on were tried.
 use Prim.Native.Nat.{ℕ, suc, _-_, _^_, _≤_, _<_}
 use mathlib.Core.Path.{_≡_, sym, _∙_}
 use mathlib.Core.Bool.{false≢true}

@@ -1,4 +1,4 @@
--- `archives::agreement::first_alike` ends: `k` comes nearer to `archive`.
+-- `first_alike` ends: `k` comes nearer to `archive`.
 use Prim.Native.Nat.{_-_, _≤_}
 use borrow.Author.Needs.{needs}
 use Rattle.test_archives.proofs.agreement.first_alike.Statement.{statement}

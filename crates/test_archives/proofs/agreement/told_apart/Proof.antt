@@ -1,4 +1,4 @@
--- `archives::agreement::told_apart` ends: `archive` comes nearer to 512.
+-- `told_apart` ends: `archive` comes nearer to 512.
 use Prim.Native.Nat.{_-_, _≤_}
 use borrow.Author.Needs.{needs}
 use Rattle.test_archives.proofs.agreement.told_apart.Statement.{statement}

@@ -1,4 +1,4 @@
--- `archives::answers::answer` ends: `k` comes nearer to 81.
+-- `answer` ends: `k` comes nearer to 81.
 use Prim.Native.Nat.{_-_, _≤_}
 use borrow.Author.Needs.{needs}
 use Rattle.test_archives.proofs.answers.answer.Statement.{statement}

@@ -1,4 +1,4 @@
--- `archives::answers::fill` ends: `archive` comes nearer to 512. The length stays.
+-- `fill` ends: `archive` comes nearer to 512. The length stays.
 use mathlib.Core.Path.{_≡_}
 use Prim.Native.Nat.{_-_, _≤_}
 use lib.ListN.{length}

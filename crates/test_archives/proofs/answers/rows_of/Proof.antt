@@ -1,4 +1,4 @@
--- `archives::answers::rows_of` ends: `k` comes nearer to 81.
+-- `rows_of` ends: `k` comes nearer to 81.
 use Prim.Native.Nat.{_-_, _≤_}
 use borrow.Author.Needs.{needs}
 use Rattle.test_archives.proofs.answers.rows_of.Statement.{statement}

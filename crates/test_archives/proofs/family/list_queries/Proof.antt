@@ -1,4 +1,4 @@
--- `archives::family::list_queries`: there are no more queries than codes passed.
+-- `list_queries`: there are no more queries than codes passed.
 use Prim.Native.Nat.{_-_, _≤_}
 use borrow.Author.Needs.{needs}
 use Rattle.test_archives.proofs.family.list_queries.Statement.{statement}

@@ -1,4 +1,4 @@
--- `archives::texts::decide`: the text has 36 bytes, and its last line ends within them.
+-- `decide`: the text has 36 bytes, and its last line ends within them.
 use native.Mathlib.Omega.{arith}
 use lib.ListN.{length-take}
 use borrow.Author.Needs.{needs}

@@ -1,4 +1,4 @@
--- `archives::texts::policy`: the text has 77 bytes, and the partition line ends within them.
+-- `policy`: the text has 77 bytes, and the partition line ends within them.
 use native.Mathlib.Omega.{arith}
 use lib.ListN.{length-set, length-take}
 use borrow.Author.Needs.{needs}

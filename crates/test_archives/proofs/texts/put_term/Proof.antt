@@ -1,4 +1,4 @@
--- `archives::texts::put_term`: both places are within the text, whose length stays.
+-- `put_term`: both places are within the text, whose length stays.
 use native.Mathlib.Omega.{arith}
 use lib.ListN.{length-set}
 use borrow.Author.Needs.{needs}

@@ -1,4 +1,4 @@
--- `examples::compare::agreeing` stays within both.
+-- `agreeing` stays within both.
 use Prim.Native.Nat.{_-_, _≤_}
 use lib.ListN.{length}
 use borrow.Author.Needs.{needs}

@@ -1,4 +1,4 @@
--- `examples::compare::compare`: the bytes that agree are bytes of the output.
+-- `compare`: the bytes that agree are bytes of the output.
 use native.Mathlib.Omega.{arith}
 use lib.ListN.{length-take}
 use borrow.Author.Needs.{needs}

@@ -1,4 +1,4 @@
--- `examples::compare::next_line` reads every byte.
+-- `next_line` reads every byte.
 use Prim.Native.Nat.{_-_, _≤_}
 use lib.ListN.{length}
 use borrow.Author.Needs.{needs}

@@ -1,4 +1,4 @@
--- `examples::folders::read`: the path has 268 bytes at most.
+-- `read`: the path has 268 bytes at most.
 use native.Mathlib.Omega.{arith}
 use lib.ListN.{length-take}
 use borrow.Author.Needs.{needs}

@@ -1,4 +1,4 @@
--- `examples::folders::run`: the output stands within its room.
+-- `run`: the output stands within its room.
 use native.Mathlib.Omega.{arith}
 use lib.ListN.{length-take}
 use borrow.Author.Needs.{needs}

@@ -1,4 +1,4 @@
--- `examples::folders::run_all` ends: each turn takes a name and its line end.
+-- `run_all` ends: each turn takes a name and its line end.
 use Prim.Native.Nat.{_+_, _-_, _≤_}
 use lib.ListN.{length}
 use borrow.Author.Needs.{needs}

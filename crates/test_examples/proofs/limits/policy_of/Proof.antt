@@ -1,4 +1,4 @@
--- `examples::limits::policy_of`: the policy is part of its buffer, and the output stands within its room.
+-- `policy_of`: the policy is part of its buffer, and the output stands within its room.
 use native.Mathlib.Omega.{arith}
 use lib.ListN.{length-take}
 use borrow.Author.Needs.{needs}

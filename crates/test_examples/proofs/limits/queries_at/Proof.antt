@@ -1,4 +1,4 @@
--- `examples::limits::queries_at`: 65,536 bytes are handed over, and the output stands within its room.
+-- `queries_at`: 65,536 bytes are handed over, and the output stands within its room.
 use native.Mathlib.Omega.{arith}
 use lib.ListN.{length-take}
 use borrow.Author.Needs.{needs}

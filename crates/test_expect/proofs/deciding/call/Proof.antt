@@ -50,7 +50,9 @@ use Rattle.desk.specs.declared.opening.Session.{Session}
 use Rattle.desk.specs.declared.deciding.Reply.{Reply}
 use Rattle.desk.specs.declared.deciding.Decision.{Decision}
 use Rattle.desk.specs.Deciding.{Decided}
-use Rattle.desk.proofs.MachineValues.{policy-val, session-val, decision-val, IsPolicy, IsSession, IsDecision, session-only, reply-only, session-at, reply-at, decision-of, policy-typed, session-typed, reply-typed, decision-typed, policy-made, session-made, decision-made}
+use Rattle.desk.proofs.MachineValues.{policy-val, session-val, decision-val, IsPolicy, IsSession, IsDecision, session-only}
+use Rattle.desk.proofs.MachineValues.{reply-only, session-at, reply-at, decision-of, policy-typed, session-typed, reply-typed}
+use Rattle.desk.proofs.MachineValues.{decision-typed, policy-made, session-made, decision-made}
 use Rattle.desk.proofs.opening.Session as S
 use Rattle.desk.proofs.opening.Session.Laws as S′
 use Rattle.desk.proofs.deciding.Decision as D
@@ -150,10 +152,13 @@ module _ {M : Type 1} (𝓤 : URA M) (H : Heap 𝓤) (A : Atoms 𝓤) (W : Given
     walk is-policy is-session is-text =
         qed W (Token ∷ ‵ (owns (P.the-row ∷ S.the-row ∷ ShrSlice (named 0) κ u8 ∷ []) a vals) ∷ []) ∵
         enter ! C Λ code.function (policy-val p ∷ session-val s ∷ v ∷ []) _ $
-        alloc1 ! (λ l₀. alloc1 ! (λ l₁. alloc1 ! (λ l₂. alloc1 ! (λ l₃. alloc1 ! (λ l₄. alloc1 ! (λ l₅. alloc1 ! (λ l₆. alloc1 ! (λ l₇. alloc0 ! $
-        params1 ! $ pass1 ! (init ! 12 refl (policy-typed 𝓤 H A W p is-policy)) $ pass1 ! (init ! 10 refl (session-typed 𝓤 H A W s is-session)) $
+        alloc1 ! (λ l₀. alloc1 ! (λ l₁. alloc1 ! (λ l₂. alloc1 ! (λ l₃. alloc1 ! (λ l₄. alloc1 ! (λ l₅. alloc1 ! (λ l₆. alloc1 !
+        (λ l₇. alloc0 ! $
+        params1 ! $ pass1 ! (init ! 12 refl (policy-typed 𝓤 H A W p is-policy)) $
+        pass1 ! (init ! 10 refl (session-typed 𝓤 H A W s is-session)) $
         pass1 ! (init ! 8 refl (shr-slice-lawful 𝓤 H A W (named 0) κ u8 .typed text (v ∷ []) is-text .0)) $ pass0 ! $
-        assigns ! (of-opd ! (load ! (from ! (stop !)) (look ! 10 refl))) (from ! (stop !)) (init ! 6 refl (session-typed 𝓤 H A W s is-session)) $
+        assigns ! (of-opd ! (load ! (from ! (stop !)) (look ! 10 refl))) (from ! (stop !)) (init ! 6 refl
+        (session-typed 𝓤 H A W s is-session)) $
         assigns ! (addr ! (from ! (stop !))) (from ! (stop !)) (init ! 2 refl (tt, tt)) $
         -- the copy is lent for a lifetime ν of the call
         move ! (17 ∷ []) $ fsplit ! $ drop ! $ fsplit ! $ drop ! $ fsplit ! $
@@ -169,7 +174,8 @@ module _ {M : Type 1} (𝓤 : URA M) (H : Heap 𝓤) (A : Atoms 𝓤) (W : Given
         calls-at ! fm (Decide 𝓤 H A at-mem run) known (to-decide ν l₄ γ)
         (and-then ! (load ! (from ! (stop !)) (look ! 14 refl)) (and-then ! (load ! (from ! (stop !)) (look ! 5 refl))
         (and-then ! (load ! (from ! (stop !)) (look ! 10 refl)) (no-more !)))) (λ w.
-        use1 W (later (some (λ (r : Reply). (Tokens ν l₄ γ ⊛ ‵ (Y.the-row .own r (w ∷ []))) ⊛ raw (Ensured ν l₄ γ r)))) (id⊢ 𝓤 _) $ await ! tt $
+        use1 W (later (some (λ (r : Reply). (Tokens ν l₄ γ ⊛ ‵ (Y.the-row .own r (w ∷ []))) ⊛ raw (Ensured ν l₄ γ r))))
+        (id⊢ 𝓤 _) $ await ! tt $
         -- what `decide` ensures, at the session that it leaves
         pick ! (λ r. split ! $ move ! (1 ∷ []) $
         use1 W (some (λ (ws : Unit {0} × (Session × (Unit {0} × Unit {0}))).
@@ -191,12 +197,15 @@ module _ {M : Type 1} (𝓤 : URA M) (H : Heap 𝓤) (A : Atoms 𝓤) (W : Given
         rewrite ! 2 (λ (z : Val). ‵ (fat fullShare S′.mir l₄ 0 z)) (session-only after u is-after) refl $
         assigns ! (of-opd ! (load ! (from ! (stop !)) (look ! 2 refl))) (from ! (stop !))
         (init ! 6 refl (session-typed 𝓤 H A W after (session-at after u is-after))) $
-        assigns ! (agg ! (and-then ! (load ! (from ! (stop !)) (look ! 10 refl)) (and-then ! (load ! (from ! (stop !)) (look ! 6 refl)) (no-more !))))
+        assigns ! (agg ! (and-then ! (load ! (from ! (stop !)) (look ! 10 refl)) (and-then ! (load ! (from ! (stop !))
+        (look ! 6 refl)) (no-more !))))
         (from ! (stop !)) (init ! 19 refl (decision-typed 𝓤 H A W d _ is)) $
         returns ! (look ! 19 refl) $ forget ! 2 refl $ forget ! 6 refl $ forget ! 8 refl $ forget ! 10 refl $
         forget ! 13 refl $ forget ! 15 refl $ forget ! 17 refl $ forget ! 19 refl $
-        move ! (19 ∷ 20 ∷ []) $ free1 ! $ move ! (17 ∷ 18 ∷ []) $ free1 ! $ move ! (15 ∷ 16 ∷ []) $ free1 ! $ move ! (13 ∷ 14 ∷ []) $ free1 ! $
-        move ! (2 ∷ 12 ∷ []) $ free1 ! $ move ! (9 ∷ 10 ∷ []) $ free1 ! $ move ! (7 ∷ 8 ∷ []) $ free1 ! $ move ! (5 ∷ 6 ∷ []) $ free1 ! $ free0 ! $
+        move ! (19 ∷ 20 ∷ []) $ free1 ! $ move ! (17 ∷ 18 ∷ []) $ free1 ! $ move ! (15 ∷ 16 ∷ []) $ free1 ! $
+        move ! (13 ∷ 14 ∷ []) $ free1 ! $
+        move ! (2 ∷ 12 ∷ []) $ free1 ! $ move ! (9 ∷ 10 ∷ []) $ free1 ! $ move ! (7 ∷ 8 ∷ []) $ free1 ! $ move ! (5 ∷ 6 ∷ []) $
+        free1 ! $ free0 ! $
         keep ! (2 ∷ []) $ by ! (exits d e is))))))))))))))))))
 
 call-meets : {M : Type 1} (𝓤 : URA M) (H : Heap 𝓤) (A : Atoms 𝓤) → Given 𝓤 H A → (at-mem : Memory → SProp 𝓤) (run : Routine → Fun 𝓤)
@@ -221,4 +230,5 @@ call-spec 𝓤 H 𝓜 𝓖 𝓡 =
     entered 𝓤 H (tripleOf 𝓤 H (𝓖 .A) call.signature (call.spec 𝓤 H (𝓖 .A) (𝓜 .mem) (𝓡 .run)))
     (tables 𝓤 H 𝓜 𝓡 code.env .C) (tables 𝓤 H 𝓜 𝓡 code.env .Λ) #call code.function (code.unfolded 𝓤 H 𝓜 𝓡)
     (call-meets 𝓤 H (𝓖 .A) (givenOf 𝓤 H 𝓜 𝓖) (𝓜 .mem) (𝓡 .run) (tablesOf 𝓤 H 𝓜 (tables 𝓤 H 𝓜 𝓡 code.env))
-    (cited 𝓤 H (Decide 𝓤 H (𝓖 .A) (𝓜 .mem) (𝓡 .run)) 𝓜 𝓡 code.env #decide decide-def.routine code.calls-desk·decide (decide-thm.met 𝓤 H 𝓜 𝓖 𝓡)))
+    (cited 𝓤 H (Decide 𝓤 H (𝓖 .A) (𝓜 .mem) (𝓡 .run)) 𝓜 𝓡 code.env #decide decide-def.routine code.calls-desk·decide
+    (decide-thm.met 𝓤 H 𝓜 𝓖 𝓡)))

@@ -1,4 +1,4 @@
--- `cells::print` reads the ten cells.
+-- `print` reads the ten cells.
 use Prim.Native.Nat.{_-_, _≤_}
 use borrow.Author.Needs.{needs}
 use Rattle.test_operations.proofs.cells.print.Statement.{statement}

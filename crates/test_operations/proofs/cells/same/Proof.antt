@@ -1,4 +1,4 @@
--- `cells::same` reads the ten cells of each.
+-- `same` reads the ten cells of each.
 use Prim.Native.Nat.{_-_, _≤_}
 use borrow.Author.Needs.{needs}
 use Rattle.test_operations.proofs.cells.same.Statement.{statement}

@@ -1,4 +1,4 @@
--- `cells::widened` reads and writes ten cells.
+-- `widened` reads and writes ten cells.
 use mathlib.Core.Path.{_≡_}
 use Prim.Native.Nat.{_-_, _≤_}
 use lib.ListN.{length}

@@ -1,4 +1,4 @@
--- `compare::explained`: as many cells are lent as there is room.
+-- `explained`: as many cells are lent as there is room.
 use native.Mathlib.Omega.{arith}
 use lib.ListN.{length-take}
 use borrow.Author.Needs.{needs}

@@ -1,4 +1,4 @@
--- `compare::listed`: as many cells are lent as there is room.
+-- `listed`: as many cells are lent as there is room.
 use native.Mathlib.Omega.{arith}
 use lib.ListN.{length-take}
 use borrow.Author.Needs.{needs}

@@ -1,4 +1,4 @@
--- `values::same_line` reads the terms of both lines.
+-- `same_line` reads the terms of both lines.
 use Prim.Native.Nat.{_-_, _≤_}
 use borrow.Author.Needs.{needs}
 use Rattle.model.specs.Limits.{mostColumns}

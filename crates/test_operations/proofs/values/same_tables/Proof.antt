@@ -1,4 +1,4 @@
--- `values::same_tables` reads the columns of each table of both.
+-- `same_tables` reads the columns of each table of both.
 use Prim.Native.Nat.{_-_, _≤_}
 use borrow.Author.Needs.{needs}
 use Rattle.model.specs.Limits.{mostTables}

@@ -1,4 +1,4 @@
--- `values::same_views` reads the views of both policies.
+-- `same_views` reads the views of both policies.
 use Prim.Native.Nat.{_-_, _≤_}
 use borrow.Author.Needs.{needs}
 use Rattle.model.specs.Limits.{mostViews}
