@@ -19,7 +19,7 @@ use Rattle.model.specs.declared.Policy.{Policy}
 use Rattle.model.proofs.Pad.{pad-length, pad-get}
 use Rattle.model.proofs.LaidTerms.{RowsTo, row-kept, rows-none, rows-more}
 use Rattle.covering.specs.Prepared.{tableWords, grantWords, everyWord, widthWords, preparedLong, tableWord, grantWord, tableWidth}
-use Rattle.covering.specs.Prepared.{Prepared, Entered, WidthsEntered}
+use Rattle.covering.specs.Prepared.{Prepared, ViewEntered, WidthsEntered}
 use Rattle.covering.proofs.Masks.{Mask, mask-none, mask-more, mask-all}
 use Rattle.covering.proofs.Views.{noLine, view-value}
 
@@ -41,7 +41,7 @@ module _ (v : Line) (grants k : ℕ) {before laid : List ℕ} (long : length bef
   -- the row laid, a place behind the rows perhaps changed, and the grants
   entered : (r : List ℕ) → length r ≡ length laid → ((i : ℕ) → i < tableWords → getD r i 0 ≡ getD laid i 0)
       → ((t : ℕ) → t ≤ mostTables → tableWord r t ≡ cond (eqb t (v .table)) (setBit (tableWord before t) k) (tableWord before t))
-      → ((j : ℕ) → grantWord r j ≡ grantWord laid j) → Entered v grants k before (granted r)
+      → ((j : ℕ) → grantWord r j ≡ grantWord laid j) → ViewEntered v grants k before (granted r)
   entered r same rows table others =
       let other : (i : ℕ) → (i ≡ grantWords + k → ⊥) → getD (granted r) i 0 ≡ getD r i 0 =
       λ i n. getD-set-other r (grantWords + k) i grants 0 n in
@@ -55,13 +55,13 @@ module _ (v : Line) (grants k : ℕ) {before laid : List ℕ} (long : length bef
       }
 
   -- the view is of no table
-  pub entered-none : mostTables < v .table → Entered v grants k before (granted laid)
+  pub entered-none : mostTables < v .table → ViewEntered v grants k before (granted laid)
   entered-none past =
       entered laid refl (λ i h. refl)
       (λ t h. rw (ne-eqb t (v .table) (λ e. omega (arith, e, h, past))) (behind (tableWords + t) (omega arith))) (λ j. refl)
 
   pub entered-table : (m : ℕ) → v .table ≤ mostTables → m ≡ setBit (getD laid (tableWords + v .table) 0) k
-      → Entered v grants k before (granted (set laid (tableWords + v .table) m))
+      → ViewEntered v grants k before (granted (set laid (tableWords + v .table) m))
   entered-table m small e =
       let at = tableWords + v .table in
       let other : (i : ℕ) → (i ≡ at → ⊥) → getD (set laid at m) i 0 ≡ getD laid i 0 = λ i n. getD-set-other laid at i m 0 n in
@@ -96,7 +96,7 @@ module _ (p : Policy) where
   }
 
   module _ {k : ℕ} {r : List ℕ} (l : Partly p k r) where
-    pub partly-more : k < mostViews → {r′ : List ℕ} → Entered (valueAt p k) (getD (p .grants) k 0) k r r′ → Partly p (k + 1) r′
+    pub partly-more : k < mostViews → {r′ : List ℕ} → ViewEntered (valueAt p k) (getD (p .grants) k 0) k r r′ → Partly p (k + 1) r′
     partly-more room {r′} e = record {
       long = e .long ∙ l .long;
       row = rows-more (valueAt p) (l .row) refl (e .rows) (e .row);

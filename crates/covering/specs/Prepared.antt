@@ -63,7 +63,7 @@ pub record WidthsEntered (columns before after : List ℕ) : Type 0 where
   pub width : (t : ℕ) → t < mostTables → tableWidth after (1 + t) ≡ getD columns t 0
 
 -- the view at place k entered: its row, its bit in the word of its table, and its grants; what stands there of views before it stays
-pub record Entered (v : Line) (grants k : ℕ) (before after : List ℕ) : Type 0 where
+pub record ViewEntered (v : Line) (grants k : ℕ) (before after : List ℕ) : Type 0 where
   pub long : length after ≡ length before
   pub row : LaidAt after k v
   pub rows : (i : ℕ) → i < k * rowLong → getD after i 0 ≡ getD before i 0

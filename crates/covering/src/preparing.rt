@@ -6,7 +6,7 @@ ghost use mathlib.Core.Path.{_≡_};
 ghost use Prim.Native.Nat.{_≤_, _<_};
 ghost use lib.ListN.{length, getD};
 ghost use Rattle.model.specs.Limits.{mostViews, mostPartitions};
-ghost use Rattle.covering.specs.Prepared.{everyWord, preparedLong, Prepared as PreparedOf, Entered, WidthsEntered};
+ghost use Rattle.covering.specs.Prepared.{everyWord, preparedLong, Prepared as PreparedOf, ViewEntered, WidthsEntered};
 use model::Line;
 use model::MOST_TABLES;
 use model::MOST_VIEWS;
@@ -30,7 +30,7 @@ pub type Prepared = [u64; PREPARED];
 // The view at place k and the partitions that grant it. An unused view has table 0.
 fn enter_view(v: Line, grants: u64, k: usize, ready: &mut [u64])
     requires { ⌜ (length (now ready) ≡ preparedLong) × (k < mostViews) ⌝ }
-    ensures { λ _. ⌜ Entered v grants k (now (ready .entry)) (now (ready .exit)) ⌝ }
+    ensures { λ _. ⌜ ViewEntered v grants k (now (ready .entry)) (now (ready .exit)) ⌝ }
 {
     model::lay_line(v, k, ready);
     let table = v.table;

@@ -21,6 +21,6 @@ abbrev pub isTold : ℕ → List ℕ → ℕ → Bool
 isTold granted ws views = not (meet 64 views granted) && isLeast granted ws views
 
 -- r is the explanation, where s says whether the query is settled
-abbrev pub Explains : Words → ℕ → Bool → Words → Type 0
-Explains l granted s r =
+abbrev pub WordsTold : Words → ℕ → Bool → Words → Type 0
+WordsTold l granted s r =
     (ws : List ℕ) → l ≡ wordsValue ws → length ws ≤ mostLines → s ≡ settled granted ws → r ≡ wordsValue (explained granted ws)

@@ -31,7 +31,7 @@ use Rattle.policy_text.specs.Policy.{viewsWord}
 use Rattle.policy_text.proofs.Grants.{word-bit, good-below}
 use Rattle.words.proofs.Answers.{true-holds, holds-true}
 use Rattle.reduce.specs.Agree.{lineAt}
-use Rattle.labelling.specs.Settled.{holdsOne, settled, granted, answers, Known, Numbered}
+use Rattle.labelling.specs.Settled.{holdsOne, settled, granted, answers, Known, HasNumber}
 use Rattle.labelling.proofs.Granted.{covering-answers, answers-covering}
 use Rattle.labelling.proofs.Lines.{shown-fits}
 
@@ -82,7 +82,7 @@ module _ (d : Declared) (good : WellFormed d) (ns : List ℕ) (known : Known (d 
 -- ---- views by their numbers
 
 module _ (views : List Line) (ns : List ℕ) (known : Known views ns) where
-  granted-iff : (v : Line) → Numbered views ns v ↔ (v ∈ granted views ns)
+  granted-iff : (v : Line) → HasNumber views ns v ↔ (v ∈ granted views ns)
   unfolding granted lineAt
   granted-iff v = (
     λ g.
@@ -100,7 +100,7 @@ module _ (views : List Line) (ns : List ℕ) (known : Known views ns) where
         },
   )
 
-  determines-granted : (widths : List ℕ) (Q : Query) → DeterminedBy widths (Numbered views ns) Q ↔ Determines widths (granted views ns) Q
+  determines-granted : (widths : List ℕ) (Q : Query) → DeterminedBy widths (HasNumber views ns) Q ↔ Determines widths (granted views ns) Q
   determines-granted widths Q = (
     λ p D E fitD fitE agree. p D E fitD fitE (λ v g. agree v (granted-iff v .0 g)),
     λ p D E fitD fitE agree. p D E fitD fitE (λ v m. agree v (granted-iff v .1 m)),
@@ -108,7 +108,7 @@ module _ (views : List Line) (ns : List ℕ) (known : Known views ns) where
 
   -- Known views settle a query exactly when they determine it: by covering, as deciding has it,
   pub settles-iff-numbered : (widths : List ℕ) (Q : Query) → NoClash Q → AllFit widths Q
-      → T (settles (granted views ns) Q) ↔ DeterminedBy widths (Numbered views ns) Q
+      → T (settles (granted views ns) Q) ↔ DeterminedBy widths (HasNumber views ns) Q
   settles-iff-numbered widths Q clear fits =
       let s = settles-iff-determines widths (granted views ns) Q clear fits in
       let k = determines-granted widths Q in (λ t. k .1 (s .0 t), λ p. s .1 (k .0 p))
@@ -116,7 +116,7 @@ module _ (views : List Line) (ns : List ℕ) (known : Known views ns) where
 -- and by the words of the labels, as explaining has it.
 pub settled-iff-numbered : (d : Declared) → WellFormed d → (ns : List ℕ) → Known (d .views) ns
     → (Q : Query) → NoClash Q → AllFit (d .widths) Q
-    → T (settled (viewsWord ns) (labels (d .views) Q)) ↔ DeterminedBy (d .widths) (Numbered (d .views) ns) Q
+    → T (settled (viewsWord ns) (labels (d .views) Q)) ↔ DeterminedBy (d .widths) (HasNumber (d .views) ns) Q
 settled-iff-numbered d good ns known Q clear fits =
     rw (settled-settles d good ns known Q fits) (settles-iff-numbered (d .views) ns known (d .widths) Q clear fits)
 
@@ -130,7 +130,7 @@ module _ (d : Declared) (good : WellFormed d) (n : ℕ) (vs : List ℕ) (at : ge
   known : Known (d .views) vs
   known = good-known (d .views) vs (good .partitions .each vs (at-place (d .partitions) n at))
 
-  grants-iff : (v : Line) → Grants d n v ↔ Numbered (d .views) vs v
+  grants-iff : (v : Line) → Grants d n v ↔ HasNumber (d .views) vs v
   grants-iff v = (
     λ g.
         let same : g .numbers ≡ vs = Option·some-injective (g .numbers) vs (sym (g .partition) ∙ at) in
@@ -143,7 +143,7 @@ module _ (d : Declared) (good : WellFormed d) (n : ℕ) (vs : List ℕ) (at : ge
     λ k. record { numbers = vs; partition = at; number = k .number; listed = k .listed; from-one = k .from-one; view = k .view },
   )
 
-  determines-numbered : (Q : Query) → DeterminedBy (d .widths) (Numbered (d .views) vs) Q ↔ PartitionDetermines d n Q
+  determines-numbered : (Q : Query) → DeterminedBy (d .widths) (HasNumber (d .views) vs) Q ↔ PartitionDetermines d n Q
   determines-numbered Q = (
     λ p D E fitD fitE agree. p D E fitD fitE (λ v k. agree v (grants-iff v .1 k)),
     λ p D E fitD fitE agree. p D E fitD fitE (λ v g. agree v (grants-iff v .0 g)),

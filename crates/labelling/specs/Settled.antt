@@ -35,7 +35,7 @@ abbrev pub Known : List Line → List ℕ → Type 0
 Known views ns = (n : ℕ) → n ∈ ns → (1 ≤ n) × (n ≤ length views)
 
 -- v is the view of one of these numbers
-pub record Numbered (views : List Line) (ns : List ℕ) (v : Line) : Type 0 where
+pub record HasNumber (views : List Line) (ns : List ℕ) (v : Line) : Type 0 where
   pub number : ℕ
   pub listed : number ∈ ns
   pub from-one : 1 ≤ number

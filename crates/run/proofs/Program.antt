@@ -21,14 +21,14 @@ use Rattle.desk.proofs.Exists.{declared-once, decided-exists}
 use Rattle.desk.proofs.Demands.{demand-3}
 use Rattle.cutting.specs.Cut.{cut}
 use Rattle.run.specs.Output.{outputNames}
-use Rattle.run.specs.Run.{lineOf, linesFrom}
+use Rattle.run.specs.Run.{replyBytes, linesFrom}
 use Rattle.run.specs.Program.{callLine, callLines, Program}
 use Rattle.run.proofs.Written.{written-accepted, written-refused}
 
 -- ---- the lines
 
-line-is : (k : ℕ) (text : List ℕ) (r : Decision) (o : Verdict) → Gives r o → lineOf k o ≡ callLine k (record { text = text; gave = r })
-unfolding lineOf callLine
+line-is : (k : ℕ) (text : List ℕ) (r : Decision) (o : Verdict) → Gives r o → replyBytes k o ≡ callLine k (record { text = text; gave = r })
+unfolding replyBytes callLine
 line-is k text r o g = rw (g .reply, g .session)
 
 -- the calls of a list of texts from a session on, and the lines for them

@@ -21,7 +21,7 @@ use Rattle.cutting.specs.Cut.{cut}
 use Rattle.cutting.specs.NextCut.{Starts, NextCut}
 use Rattle.cutting.proofs.Walk.{cut-none}
 use Rattle.run.specs.Sizes.{leastQuery, lineLong}
-use Rattle.run.specs.Run.{lineOf, linesFrom}
+use Rattle.run.specs.Run.{replyBytes, linesFrom}
 use Rattle.run.proofs.Line.{replyLine}
 
 -- the query of this number starts at the place `at` and finds the session s, and its line goes to the place `to`; a query but the
@@ -54,8 +54,8 @@ progress-none tables made queries was start opened =
 
 -- the line for a query, from the decision on it
 line-of : (query left : ℕ) (r : Decision) (o : Verdict) → Gives r o → left ≡ onesBelow 64 (r .session .mask)
-    → replyLine query (r .reply) left ≡ lineOf query o
-unfolding lineOf
+    → replyLine query (r .reply) left ≡ replyBytes query o
+unfolding replyBytes
 line-of query left r o g e = rw (e, g .reply, g .session)
 
 lines-more : (d : Declared) (s : Session) (query : ℕ) (text : List ℕ) (texts : List (List ℕ)) (r : Decision) (left : ℕ)

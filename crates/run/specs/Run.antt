@@ -14,15 +14,15 @@ use Rattle.cutting.specs.Cut.{cut}
 use Rattle.run.specs.Output.{outputNames, outputLine}
 
 -- one query, and the others in the session that it leaves
-unfoldable pub lineOf : ℕ → Verdict → List ℕ
+unfoldable pub replyBytes : ℕ → Verdict → List ℕ
 unfolding outputLine
-lineOf k o = outputLine k (o .says .word) (openCount (o .leaves .mask)) (o .says .number) (o .says .line)
+replyBytes k o = outputLine k (o .says .word) (openCount (o .leaves .mask)) (o .says .number) (o .says .line)
 
 -- "decided in one session": the queries from number k on
 unfoldable pub linesFrom : Declared → Session → ℕ → List (List ℕ) → List ℕ
-unfolding decideUnder lineOf
+unfolding decideUnder replyBytes
 linesFrom d s k [] = []
-linesFrom d s k (t ∷ ts) = let o = decideUnder d s t in lineOf k o ++ linesFrom d (o .leaves) (suc k) ts
+linesFrom d s k (t ∷ ts) = let o = decideUnder d s t in replyBytes k o ++ linesFrom d (o .leaves) (suc k) ts
 
 -- "A refused policy gives `0 refused 0` with number and line, alone under the names. No input under an accepted policy gives
 -- the names only."
