@@ -8,6 +8,7 @@ mod rows;
 pub use check::check_line;
 pub use compare::same_term;
 pub use read::blank;
+pub use read::mark_of;
 pub use read::read_line;
 pub use read::read_term;
 pub use read::read_terms;

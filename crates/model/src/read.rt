@@ -17,19 +17,14 @@ use crate::SHOWN;
 use crate::Term;
 use text::Numeral;
 
-fn mark_of(b: u8) -> u64
+// The mark of a byte, or 0. The marks of a text come in no order that a processor could guess, so no branch depends on them.
+pub fn mark_of(b: u8) -> u64
     ensures { λ r. ⌜ r ≡ markOf b ⌝ }
 {
-    if b == b'#' {
-        return CONSTANT;
-    }
-    if b == b'!' {
-        return SHOWN;
-    }
-    if b == b'?' {
-        return HIDDEN;
-    }
-    0
+    let constant = words::value_if(CONSTANT, b == b'#');
+    let shown = words::value_if(SHOWN, b == b'!');
+    let hidden = words::value_if(HIDDEN, b == b'?');
+    constant | shown | hidden
 }
 
 fn within(mark: u64, number: u64) -> bool

@@ -19,7 +19,7 @@ use model::Tables;
 use model::Term;
 
 // The most bytes of a query text.
-const MOST_BYTES: usize = 4096;
+pub const MOST_BYTES: usize = 4096;
 
 // How reading ends, and the query: that of the text, or one without a line.
 pub struct Reading {
@@ -27,7 +27,8 @@ pub struct Reading {
     pub query: Query,
 }
 
-fn no_query() -> Query
+// A query without a line.
+pub fn no_query() -> Query
     ensures { λ r. ⌜ r ≡ queryValue [] ⌝ }
 {
     let unused = Line {

@@ -10,7 +10,7 @@ ghost use Rattle.text.specs.Numeral.{leads};
 ghost use Rattle.text.specs.Value.{numeralValue};
 
 // The most digits of a numeral.
-const MOST_DIGITS: usize = 10;
+pub const MOST_DIGITS: usize = 10;
 
 // The largest number that any place of a text allows: that of a constant.
 pub const CONSTANT_LIMIT: u64 = 4_294_967_295;
@@ -119,7 +119,7 @@ pub fn after_names<'a>(text: &'a [u8], names: &'a [u8]) -> Cursor
 }
 
 // A byte that no digit is has a value of 10 or more.
-fn digit(b: u8) -> u64
+pub fn digit(b: u8) -> u64
     ensures { λ r. ⌜ (b < 48 → 9 < r) ⌝ }
     ensures { λ r. ⌜ (48 ≤ b → r ≡ b - 48) ⌝ }
 {

@@ -17,6 +17,16 @@ pub fn set_bit(m: u64, k: u64) -> u64
     m | (1 << k)
 }
 
+// The value where a test passes, and 0 where it does not: a sum of such takes no branch.
+pub fn value_if(v: u64, passes: bool) -> u64
+    ensures { λ r. ⌜ r ≡ cond passes v 0 ⌝ }
+{
+    if passes {
+        return v;
+    }
+    0
+}
+
 // The word with bit `k` set, where a test passes.
 pub fn set_bit_if(m: u64, k: u64, passes: bool) -> u64
     requires { ⌜ k < 64 ⌝ }
