@@ -1,16 +1,16 @@
--- A word with one bit clear, and the word of the lowest bits.
+-- A word with one bit clear, or without the bits of another, and the word of the lowest bits.
 use mathlib.Core.Path.{_≡_, refl, sym, _∙_}
 use mathlib.Core.Logic.{_↔_, _⊎_, inl, inr, ⊎-elim}
-use Prim.Native.Nat.{ℕ, zero, suc, _-_, _*_, _/_, _%_, _^_, _≤_, _<_}
-use native.Mathlib.Nat.{one-mul, mod-eq-of-lt, not-suc-le-zero, le-refl, le-of-suc-le-suc, pow-suc}
+use Prim.Native.Nat.{ℕ, zero, suc, _-_, _*_, _/_, _%_, _^_, _≤_, _<_, min}
+use native.Mathlib.Nat.{one-mul, lt-of-le-of-lt, mod-eq-of-lt, not-suc-le-zero, le-refl, le-of-suc-le-suc, pow-suc}
 use native.Mathlib.Decide.{ℕ-discrete}
 use native.Mathlib.Omega.{arith}
-use lib.Bits.{bitXor, differ, xor-add-and, xor-shr, xor-step}
+use lib.Bits.{bitAnd, bitXor, differ, and-le-l, xor-add-and, xor-lt, xor-shr, xor-step}
 use lib.Pow.{pow-lt, pow-pos, pow-mono}
 use Rattle.words.specs.Bits.{bit}
-use Rattle.words.specs.Sets.{setBit, clearBit}
+use Rattle.words.specs.Sets.{setBit, clearBit, Without}
 use Rattle.words.proofs.Bits.{bit-cases, bit-half, bit-lowest, is-set, is-clear}
-use Rattle.words.proofs.Masks.{bit-power-same, bit-power-other, and-power}
+use Rattle.words.proofs.Masks.{bit-and, bit-power-same, bit-power-other, and-power}
 use Rattle.words.proofs.SetBits.{set-bit-same, set-bit-other}
 
 -- a set bit is taken away
@@ -63,6 +63,20 @@ clear-bit-iff n k j = go (ℕ-discrete j k)
 pub clear-bit-le : (n k : ℕ) → clearBit n k ≤ n
 unfolding clearBit
 clear-bit-le n k = ⊎-elim (λ e. rw (is-clear n k e) (le-refl n)) (λ e. rw (is-set n k e) (omega arith)) (bit-cases n k)
+
+-- ---- the bits that another word lacks
+
+pub without-xor : (a b : ℕ) → Without a b (bitXor a (bitAnd a b))
+without-xor a b = record {
+  bits = λ k. rw (bit-xor a (bitAnd a b) k, bit-and a b k) (go (bit a k) (bit b k) (bit-cases a k) (bit-cases b k));
+  below = λ w h. xor-lt w a (bitAnd a b) h (lt-of-le-of-lt (and-le-l a b) h);
+}
+  where
+    go : (x y : ℕ) → (x ≡ 0) ⊎ (x ≡ 1) → (y ≡ 0) ⊎ (y ≡ 1) → (differ x (min x y) ≡ 1) ↔ ((x ≡ 1) × (y ≡ 0))
+    go x y (inl e) (inl f) = rw (e, f) (λ q. absurd (omega arith), λ r. absurd (omega (arith, r .0)))
+    go x y (inl e) (inr f) = rw (e, f) (λ q. absurd (omega arith), λ r. absurd (omega (arith, r .0)))
+    go x y (inr e) (inl f) = rw (e, f) (λ q. (refl, refl), λ r. refl)
+    go x y (inr e) (inr f) = rw (e, f) (λ q. absurd (omega arith), λ r. absurd (omega (arith, r .1)))
 
 -- ---- the lowest bits
 

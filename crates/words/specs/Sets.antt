@@ -14,6 +14,11 @@ setBit n k = cond (isSet n k) n (n + 2 ^ k)
 unfoldable pub clearBit : ℕ → ℕ → ℕ
 clearBit n k = cond (isSet n k) (n - 2 ^ k) n
 
+-- r has the bits of a that b lacks
+pub record Without (a b r : ℕ) : Type 0 where
+  pub bits : (k : ℕ) → (bit r k ≡ 1) ↔ ((bit a k ≡ 1) × (bit b k ≡ 0))
+  pub below : (w : ℕ) → a < 2 ^ w → r < 2 ^ w
+
 -- some bit below w is set in both words
 unfoldable pub meet : ℕ → ℕ → ℕ → Bool
 meet zero a b = false

@@ -4,7 +4,7 @@ ghost use mathlib.Core.Path.{_≡_};
 ghost use mathlib.Core.Bool.{cond};
 ghost use Prim.Native.Nat.{_+_, _*_, _/_, _%_, _^_, _-_, _<_};
 ghost use Rattle.words.specs.Bits.{isSet, onesBelow, halfBits};
-ghost use Rattle.words.specs.Sets.{setBit, clearBit, meet, include, Least, LeastDropped};
+ghost use Rattle.words.specs.Sets.{setBit, clearBit, Without, meet, include, Least, LeastDropped};
 
 // The bits of a half of a word.
 const HALF: u64 = 32;
@@ -44,6 +44,13 @@ pub fn clear_bit(m: u64, k: u64) -> u64
     ensures { λ r. ⌜ r ≡ clearBit m k ⌝ }
 {
     set_bit(m, k) ^ (1 << k)
+}
+
+// The bits of `a` that `b` lacks.
+pub fn without(a: u64, b: u64) -> u64
+    ensures { λ r. ⌜ Without a b r ⌝ }
+{
+    a ^ (a & b)
 }
 
 // The word of the `n` lowest bits.
