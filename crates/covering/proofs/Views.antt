@@ -1,6 +1,6 @@
 -- The views that a policy value holds, the mask of those of one table, and the label of a line.
 use mathlib.Core.Path.{_≡_, refl, sym, ap, ap₂, _∙_, subst}
-use mathlib.Core.Logic.{_↔_}
+use mathlib.Core.Logic.{_↔_, ⊎-elim}
 use mathlib.Core.Bool.{Bool, true}
 use mathlib.Core.List.{List, [], _∷_, _++_, map}
 use mathlib.Core.Option.{some, Option·some-injective}
@@ -10,7 +10,7 @@ use native.Mathlib.Omega.{arith}
 use lib.ListN.{length, getD, getElem?, replicate}
 use lib.Pow.{pow-mono}
 use Rattle.words.specs.Bits.{bit, halfBits}
-use Rattle.words.specs.Sets.{Upto}
+use Rattle.words.specs.Sets.{Without, Upto}
 use Rattle.theory.specs.Query.{Line as TheLine}
 use Rattle.theory.specs.Cover.{Covers}
 use Rattle.theory.specs.Executable.Cover.{covers}
@@ -24,11 +24,14 @@ use Rattle.model.specs.Rows.{laidTable, LaidAt}
 use Rattle.model.specs.declared.Line.{Line}
 use Rattle.model.specs.declared.Policy.{Policy}
 use Rattle.covering.specs.Views.{Holds, OfTable}
-use Rattle.covering.specs.Prepared.{tableWord, grantWord, tableWidth}
+use Rattle.covering.specs.Prepared.{tableWord, grantWord, tableWidth, freeWord}
+use Rattle.covering.specs.Free.{FreeAt}
+use Rattle.covering.specs.Rules.{CoversRow}
 use Rattle.covering.specs.Labelled.{Labelled, Reached}
 use Rattle.words.proofs.Answers.{true-holds, holds-true}
 use Rattle.words.proofs.Marks.{upto-set, Picked, picked-all}
-use Rattle.words.proofs.Bits.{same-bits}
+use Rattle.words.proofs.Bits.{bit-cases, same-bits}
+use Rattle.words.proofs.ClearBits.{low-bits-set}
 use Rattle.words.proofs.TestBits.{tests-below}
 use Rattle.words.proofs.Unions.{Union}
 
@@ -86,15 +89,22 @@ module _ {r lines : List ℕ} {a : ℕ} {views : List TheLine} {A : TheLine} (l 
   abbrev mask : ℕ
   mask = tableWord r (A .table)
 
+  -- the columns that the word of a view leaves out are free
+  left-out : (width bound k : ℕ) → k < mostViews → Without (2 ^ width - 1) (freeWord r k) bound → (p : ℕ) → p < width → bit bound p ≡ 0
+      → FreeAt r k p
+  left-out width bound k room w p h e =
+      l .free k room p
+      (⊎-elim (λ z. absurd (omega (arith, e, w .bits p .1 (low-bits-set width p h, z)))) (λ o. o) (bit-cases (freeWord r k) p))
+
   -- what the test of covering says at a place of the table's word
-  pub answered : (width : ℕ) → width ≡ tableWidth r (A .table) → (k : ℕ) (b : Bool) → bit mask k ≡ 1
-      → ((view line : TheLine) → LaidAt r k (lineValue view) → LaidAt lines a (lineValue line)
-      → view .table ≡ line .table → length (view .columns) ≡ width → length (line .columns) ≡ width → b ≡ covers view line)
-      → (b ≡ true) ↔ Covering views A k
-  answered width w k b e test =
+  pub answered : (width bound : ℕ) → width ≡ tableWidth r (A .table) → (k : ℕ) (b : Bool) → bit mask k ≡ 1
+      → Without (2 ^ width - 1) (freeWord r k) bound → CoversRow bound width r k lines a b → (b ≡ true) ↔ Covering views A k
+  answered width bound w k b e outside test =
       let (v, at, t) = l .bits k .0 e in
       let wide = l .viewWidths v (at-place views k at) t ∙ sym w in
-      let same : b ≡ covers v A = test v A (l .laid .row k v at) (l .line) t wide (l .lineWidth ∙ sym w) in (
+      let room : k < mostViews = omega (arith, place-below views k at, l .few) in
+      let same : b ≡ covers v A =
+      test v A (l .laid .row k v at) (l .line) t wide (l .lineWidth ∙ sym w) (left-out width bound k room outside) in (
         λ h. (v, at, covers-iff v A .0 (true-holds (sym same ∙ h))),
         λ s.
             let here = subst (λ (w : TheLine). Covers w A) (Option·some-injective (s .0) v (sym (s .1) ∙ at)) (s .2) in

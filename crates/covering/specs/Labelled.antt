@@ -3,7 +3,7 @@ use mathlib.Core.Path.{_≡_}
 use mathlib.Core.List.{List}
 use mathlib.Core.Logic.{_↔_}
 use mathlib.Core.Option.{some}
-use Prim.Native.Nat.{ℕ, _≤_}
+use Prim.Native.Nat.{ℕ, _≤_, _<_}
 use lib.ListN.{length, getElem?}
 use Rattle.theory.specs.Query.{_∈_}
 use Rattle.theory.specs.Query.{Line as TheLine}
@@ -13,8 +13,9 @@ use Rattle.words.specs.Bits.{bit}
 use Rattle.model.specs.Limits.{mostViews}
 use Rattle.model.specs.Value.{lineValue}
 use Rattle.model.specs.Rows.{LaidAt}
+use Rattle.covering.specs.Free.{FreeColumns}
 use Rattle.covering.specs.Views.{OfTable, LaidViews}
-use Rattle.covering.specs.Prepared.{tableWord, grantWord, tableWidth}
+use Rattle.covering.specs.Prepared.{tableWord, grantWord, tableWidth, freeWord}
 use Rattle.covering.specs.declared.LineLabel.{LineLabel}
 
 -- what is prepared has the rows of the views, and the word and the columns of the line's table; row a of lines has the line
@@ -25,6 +26,7 @@ pub record Labelled (r lines : List ℕ) (a : ℕ) (views : List TheLine) (A : T
   pub bits : OfTable views (A .table) (tableWord r (A .table))
   pub lineWidth : length (A .columns) ≡ tableWidth r (A .table)
   pub viewWidths : (v : TheLine) → v ∈ views → v .table ≡ A .table → length (v .columns) ≡ tableWidth r (A .table)
+  pub free : (k : ℕ) → k < mostViews → FreeColumns r k (freeWord r k)
 
 -- the word has the partitions that grant one of the views which cover the line
 abbrev pub Reached : List ℕ → List TheLine → TheLine → ℕ → Type 0

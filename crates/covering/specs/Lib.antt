@@ -1,4 +1,5 @@
 pub mod Order
+pub mod Free
 pub mod Rules
 pub mod Views
 pub mod Prepared

@@ -4,7 +4,7 @@ mod preparing;
 
 ghost use mathlib.Core.Path.{_≡_};
 ghost use mathlib.Core.Bool.{not, _||_};
-ghost use Prim.Native.Nat.{_+_, _≤_, _<_};
+ghost use Prim.Native.Nat.{_+_, _^_, _≤_, _<_};
 ghost use lib.ListN.{length};
 ghost use Rattle.model.specs.Limits.{mostColumns, mostLines};
 ghost use Rattle.model.specs.Rows.{queryRowsLong, HasRow, laidTable};
@@ -18,12 +18,14 @@ use model::QueryRows;
 use model::SHOWN;
 use model::Term;
 use model::same_term;
+use preparing::FREE_WORDS;
 use preparing::GRANT_WORDS;
 pub use preparing::Prepared;
 use preparing::TABLE_WORDS;
 use preparing::WIDTH_WORDS;
 pub use preparing::every_partition;
 pub use preparing::prepare;
+pub use preparing::prepare_for_many;
 
 // ---- covering
 
@@ -51,14 +53,23 @@ fn obeys(v: Term, w: Term, a: Term, b: Term) -> bool
 }
 
 // Whether a view covers a line of its table, which has `width` columns: the view in row `v`, the line in row `a` of other rows.
-// The first broken rule ends the comparison.
-pub fn covers(width: usize, views: &[u64], v: usize, lines: &[u64], a: usize) -> bool
-    requires { ⌜ (width ≤ mostColumns) × HasRow (now views) v × HasRow (now lines) a ⌝ }
-    ensures { λ r. ⌜ CoversRow width (now (views .entry)) v (now (lines .entry)) a r ⌝ }
+// The columns that are not in the word `bound` are free: no rule breaks there, whatever the line has. The first broken rule ends the
+// comparison.
+pub fn covers(
+    bound: u64,
+    width: usize,
+    views: &[u64],
+    v: usize,
+    lines: &[u64],
+    a: usize,
+) -> bool
+    requires { ⌜ (bound < 2 ^ width) × (width ≤ mostColumns) × HasRow (now views) v × HasRow (now lines) a ⌝ }
+    ensures { λ r. ⌜ CoversRow bound width (now (views .entry)) v (now (lines .entry)) a r ⌝ }
 {
     let mut ok = true;
-    let mut p = 0;
-    'columns: while p < width {
+    let mut rest = bound;
+    'columns: while rest != 0 {
+        let p = words::least(rest) as usize;
         let x = model::term_at(views, v, p);
         let y = model::term_at(lines, a, p);
         let mut q = 0;
@@ -71,7 +82,7 @@ pub fn covers(width: usize, views: &[u64], v: usize, lines: &[u64], a: usize) ->
             }
             q += 1;
         }
-        p += 1;
+        rest = words::drop_least(rest);
     }
     ok
 }
@@ -91,13 +102,15 @@ pub fn label_line(ready: &Prepared, lines: &QueryRows, a: usize) -> LineLabel
     ensures { λ l. ⌜ LabelGiven (now (ready .entry)) (now (lines .entry)) a l ⌝ }
 {
     let table = model::table_at(lines, a);
-    let width = ready[WIDTH_WORDS + table as usize] as usize;
+    let width = ready[WIDTH_WORDS + table as usize];
+    let every = words::low_bits(width);
     let mut word = 0;
     let mut grants = 0;
     let mut left = ready[TABLE_WORDS + table as usize];
     while left != 0 {
         let k = words::least(left);
-        if covers(width, ready, k as usize, lines, a) {
+        let bound = words::without(every, ready[FREE_WORDS + k as usize]);
+        if covers(bound, width as usize, ready, k as usize, lines, a) {
             word = words::set_bit(word, k);
             grants = grants | ready[GRANT_WORDS + k as usize];
         }

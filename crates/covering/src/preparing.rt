@@ -1,20 +1,27 @@
 // What is made of a policy once, as numbers that are lent: the views as rows, view n in row n - 1; behind them the views of each
-// table as a word; then for each view the partitions that grant it; the word of every partition; and at the end the columns of each
-// table.
+// table as a word; then for each view the partitions that grant it; the word of every partition; the columns of each table; and at the
+// end for each view those of its columns that are known to be free.
 
 ghost use mathlib.Core.Path.{_≡_};
+ghost use mathlib.Core.Bool.{true};
 ghost use Prim.Native.Nat.{_≤_, _<_};
-ghost use lib.ListN.{length, getD};
-ghost use Rattle.model.specs.Limits.{mostViews, mostPartitions};
-ghost use Rattle.covering.specs.Prepared.{everyWord, preparedLong, Prepared as PreparedOf, ViewEntered, WidthsEntered};
+ghost use lib.ListN.{length, getD, drop};
+ghost use Rattle.model.specs.Limits.{mostColumns, mostViews, mostPartitions};
+ghost use Rattle.model.specs.Rows.{HasRow};
+ghost use Rattle.covering.specs.Prepared.{everyWord, widthWords, preparedLong, Prepared as PreparedOf, ViewEntered, WidthsEntered};
+ghost use Rattle.covering.specs.Free.{FreeAt, FreeColumns};
+ghost use Rattle.covering.specs.Prepared.{FreeFound};
 use model::Line;
+use model::MOST_COLUMNS;
 use model::MOST_TABLES;
 use model::MOST_VIEWS;
 use model::Policy;
 use model::ROW;
+use model::SHOWN;
+use model::same_term;
 
-// Where the words of the tables begin, those of the views, where the word of every partition stands, and where the columns begin.
-// Tables are numbered from 1.
+// Where the words of the tables begin, the grants of the views, where the word of every partition stands, where the columns begin, and
+// the free columns of the views. Tables are numbered from 1.
 pub const TABLE_WORDS: usize = MOST_VIEWS * ROW;
 
 pub const GRANT_WORDS: usize = TABLE_WORDS + MOST_TABLES + 1;
@@ -23,7 +30,9 @@ const EVERY_WORD: usize = GRANT_WORDS + MOST_VIEWS;
 
 pub const WIDTH_WORDS: usize = EVERY_WORD + 1;
 
-const PREPARED: usize = WIDTH_WORDS + MOST_TABLES + 1;
+pub const FREE_WORDS: usize = WIDTH_WORDS + MOST_TABLES + 1;
+
+const PREPARED: usize = FREE_WORDS + MOST_VIEWS;
 
 pub type Prepared = [u64; PREPARED];
 
@@ -54,6 +63,7 @@ fn enter_widths(columns: [u64; MOST_TABLES], ready: &mut [u64])
     }
 }
 
+// No column is known to be free: for a single query it would take longer to find them than to look at all columns.
 pub fn prepare(p: Policy) -> Prepared
     requires { ⌜ p .«partition_count» ≤ mostPartitions ⌝ }
     ensures { λ r. ⌜ PreparedOf p r ⌝ }
@@ -72,10 +82,79 @@ pub fn prepare(p: Policy) -> Prepared
     ready
 }
 
+// Whether column p of row k is free: it has a shown variable, which no other column has.
+fn is_free(rows: &[u64], k: usize, p: usize) -> bool
+    requires { ⌜ HasRow (now rows) k × (p < mostColumns) ⌝ }
+    ensures { λ r. ⌜ (r ≡ true → FreeAt (now (rows .entry)) k p) ⌝ }
+{
+    let t = model::term_at(rows, k, p);
+    if t.mark != SHOWN {
+        return false;
+    }
+    let mut q = 0;
+    while q < MOST_COLUMNS {
+        let u = model::term_at(rows, k, q);
+        if q != p {
+            if same_term(t, u) {
+                return false;
+            }
+        }
+        q += 1;
+    }
+    true
+}
+
+// The free columns of row k, as bits.
+fn free_columns(rows: &[u64], k: usize) -> u64
+    requires { ⌜ HasRow (now rows) k ⌝ }
+    ensures { λ w. ⌜ FreeColumns (now (rows .entry)) k w ⌝ }
+{
+    let mut m = 0;
+    let mut p = 0;
+    while p < MOST_COLUMNS {
+        let free = is_free(rows, k, p);
+        m = words::set_bit_if(m, p as u64, free);
+        p += 1;
+    }
+    m
+}
+
+// The free columns of each view.
+fn find_free(ready: &mut [u64])
+    requires { ⌜ length (now ready) ≡ preparedLong ⌝ }
+    ensures { λ _. ⌜ FreeFound (now (ready .entry)) (now (ready .exit)) ⌝ }
+{
+    let mut k = 0;
+    while k < MOST_VIEWS {
+        let free = free_columns(ready, k);
+        ready[FREE_WORDS + k] = free;
+        k += 1;
+    }
+}
+
+// The same for many queries.
+pub fn prepare_for_many(p: Policy) -> Prepared
+    requires { ⌜ p .«partition_count» ≤ mostPartitions ⌝ }
+    ensures { λ r. ⌜ PreparedOf p r ⌝ }
+{
+    let mut ready = prepare(p);
+    find_free(&mut ready);
+    ready
+}
+
 // The word of every partition, partition n at bit n - 1.
 pub fn every_partition(ready: &Prepared) -> u64
     requires { ⌜ length (now ready) ≡ preparedLong ⌝ }
     ensures { λ w. ⌜ w ≡ getD (now (ready .entry)) everyWord 0 ⌝ }
 {
     ready[EVERY_WORD]
+}
+
+// The columns of each table, of a table's number, and 0 where there is no such table.
+pub fn widths(ready: &[u64]) -> &[u64]
+    requires { ⌜ length (now ready) ≡ preparedLong ⌝ }
+    ensures { λ w. ⌜ now w ≡ drop widthWords (now (ready .entry)) ⌝ }
+{
+    let from = WIDTH_WORDS;
+    &ready[from..]
 }

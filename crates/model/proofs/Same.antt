@@ -1,5 +1,7 @@
 -- Values are the same where their terms are.
-use mathlib.Core.Path.{_≡_, refl, ap₂, _∙_}
+use mathlib.Core.Path.{_≡_, refl, ap, ap₂, _∙_}
+use mathlib.Core.Bool.{true}
+use borrow.Author.Tests.{eq-eqb}
 use Rattle.theory.specs.Query.{constant, shown, hidden}
 use Rattle.theory.specs.Query.{Term as TheTerm}
 use Rattle.theory.specs.Executable.Test.{kind, number, same}
@@ -20,3 +22,7 @@ same-value (hidden n) (hidden k) = refl
 
 pub same-held : {t u : Term} (x y : TheTerm) → t ≡ termValue x → u ≡ termValue y → sameTerm t u ≡ same x y
 same-held x y e f = ap₂ sameTerm e f ∙ same-value x y
+
+pub same-own : {t u : Term} → t ≡ u → sameTerm t u ≡ true
+unfolding sameTerm
+same-own {t} {u} e = rw (eq-eqb (t .mark) (u .mark) (ap (λ (x : Term). x .mark) e), eq-eqb (t .number) (u .number) (ap (λ (x : Term). x .number) e))
