@@ -20,7 +20,7 @@ use Rattle.theory.proofs.Executable.Cover.{covers-iff}
 use Rattle.theory.proofs.Executable.Label.{viewBits-bit}
 use Rattle.model.specs.Limits.{mostViews}
 use Rattle.model.specs.Value.{pad, unusedLine, lineValue}
-use Rattle.model.specs.Rows.{laidTable, LaidAt}
+use Rattle.model.specs.Rows.{laidTable}
 use Rattle.model.specs.declared.Line.{Line}
 use Rattle.model.specs.declared.Policy.{Policy}
 use Rattle.covering.specs.Views.{Holds, OfTable}

@@ -5,7 +5,6 @@ use Prim.Native.Nat.{ℕ, _<_}
 use Rattle.words.specs.Bits.{bit}
 use Rattle.model.specs.Limits.{mostColumns}
 use Rattle.model.specs.Rows.{laidTerm}
-use Rattle.model.specs.declared.Term.{Term}
 
 -- column p of row k is free: mark 2 is that of a shown variable
 pub record FreeAt (rows : List ℕ) (k p : ℕ) : Type 0 where

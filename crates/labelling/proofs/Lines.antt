@@ -21,7 +21,6 @@ use Rattle.model.specs.Limits.{mostTables, mostColumns}
 use Rattle.model.specs.Rows.{laidTable, LaidAt}
 use Rattle.model.specs.Value.{lineValue}
 use Rattle.model.specs.declared.Tables.{Tables}
-use Rattle.model.specs.declared.Query.{Query as QueryValue}
 use Rattle.policy_text.specs.Declared.{Declared}
 use Rattle.model.proofs.Limits.{up-to-iff}
 use Rattle.policy_text.specs.Policy.{grantsOf}
@@ -30,13 +29,12 @@ use Rattle.covering.specs.Prepared.{grantWord, tableWidth, Tabled}
 use Rattle.covering.specs.Labelled.{Labelled, Reached}
 use Rattle.reduce.specs.Agree.{lineAt}
 use Rattle.reduce.specs.Left.{linesAt}
-use Rattle.reduce.specs.Laid.{Laid}
 use Rattle.reduce.specs.Showing.{SharedWord, showValue, showLine, ShownRows}
 use Rattle.reduce.proofs.Left.{in-lines, lines-subset}
 use Rattle.reduce.proofs.Lines.{laid-few}
 use Rattle.reduce.proofs.Shown.{shownBy, line-value, line-shown}
 use Rattle.reduce.proofs.ShownTerms.{shown-term}
-use Rattle.labelling.specs.Posed.{Ready, LineOf, Posed, Rows}
+use Rattle.labelling.specs.Posed.{Ready, LineOf, PosedRows, Rows}
 use Rattle.labelling.specs.Settled.{answers}
 use Rattle.labelling.proofs.Granted.{covering-answers, answers-covering, Answering}
 
@@ -80,6 +78,7 @@ module _ {d : Declared} {tables : Tables} {r : List ℕ} (ready : Ready d tables
         lineWidth = l .fits .width ∙ sym here;
         viewWidths = λ v m e.
             ready .good .views .each v m .fits .width ∙ ap (λ (t : ℕ). getD (d .widths) (t - 1) 0) e ∙ sym here;
+        free = ready .free;
       }
 
 -- a partition grants a view that covers the line exactly when one of its views does
@@ -143,10 +142,10 @@ module _ {d : Declared} {Q : Query} {w : ℕ} {lines : List ℕ} (r : Rows d Q w
       (lineAt Q i) (in-lines left Q i h (eqb-true _ _ e)))
 
 -- the rows of a query laid out and then shown
-pub rows-shown : {q : QueryValue} {d : Declared} {Q : Query} (n w : ℕ) {lines lines′ : List ℕ} → length Q ≡ n → Posed q d Q → Laid Q lines
-    → ShownRows n lines w lines′ → Rows d Q w lines′
+pub rows-shown : {d : Declared} {Q : Query} {n : ℕ} {lines lines′ : List ℕ} (w : ℕ) → PosedRows d Q n lines → ShownRows n lines w lines′
+    → Rows d Q w lines′
 unfolding showLine
-rows-shown {Q = Q} n w e g laid s = record {
+rows-shown {Q = Q} w g s = let laid = g .laid in record {
   lines = laid .lines;
   columns = laid .columns;
   small = g .small;
@@ -155,7 +154,7 @@ rows-shown {Q = Q} n w e g laid s = record {
       record {
         table = s .table i ∙ laid .row i h .table;
         term = λ p b.
-            s .term i p (omega (arith, e)) b ∙ ap (showValue w) (laid .row i h .term p b)
+            s .term i p (omega (arith, h, g .count)) b ∙ ap (showValue w) (laid .row i h .term p b)
             ∙ sym (shown-term w (lineAt Q i) (laid-few laid i h) p b);
       };
 }

@@ -83,6 +83,7 @@ ready {d = d} l made =
       grant = λ k h. made .grant k h ∙ grants-are l k h;
       every = made .every ∙ ap (λ (n : ℕ). 2 ^ n - 1) (few-partitions l);
       width = λ t h. made .width t h ∙ columns-are l t;
+      free = made .free;
     }
 
 pub posed : {q : QueryValue} (d : Declared) (text : List ℕ) (Q : Query) → WellFormed d → read (d .widths) text ≡ accepted Q

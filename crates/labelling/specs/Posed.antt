@@ -16,11 +16,12 @@ use Rattle.model.specs.declared.Tables.{Tables}
 use Rattle.policy_text.specs.Declared.{Declared}
 use Rattle.policy_text.specs.WellFormed.{WellFormed}
 use Rattle.policy_text.specs.Policy.{grantsOf}
+use Rattle.covering.specs.Free.{FreeColumns}
 use Rattle.covering.specs.Views.{OfTable, LaidViews}
-use Rattle.covering.specs.Prepared.{everyWord, preparedLong, tableWord, grantWord, tableWidth}
+use Rattle.covering.specs.Prepared.{everyWord, preparedLong, tableWord, grantWord, tableWidth, freeWord}
 use Rattle.reduce.specs.Agree.{lineAt}
 use Rattle.reduce.specs.Left.{linesAt}
-use Rattle.reduce.specs.Laid.{HoldsQuery}
+use Rattle.reduce.specs.Laid.{HoldsQuery, Laid}
 use Rattle.reduce.specs.Showing.{Small, SharedWord, showLine}
 use Rattle.labelling.specs.Settled.{settling, settlingLines}
 use Rattle.labelling.specs.declared.Words.{Words}
@@ -38,6 +39,7 @@ pub record Ready (d : Declared) (tables : Tables) (r : List ℕ) : Type 0 where
   pub grant : (k : ℕ) → k < mostViews → grantWord r k ≡ grantsOf (d .partitions) (k + 1)
   pub every : getD r everyWord 0 ≡ 2 ^ length (d .partitions) - 1
   pub width : (t : ℕ) → t < mostTables → tableWidth r (1 + t) ≡ getD (d .widths) t 0
+  pub free : (k : ℕ) → k < mostViews → FreeColumns r k (freeWord r k)
 
 abbrev pub SomeReady : Tables → List ℕ → Type 0
 SomeReady tables r = (d : Declared) × Ready d tables r
@@ -52,6 +54,13 @@ pub record LineOf (d : Declared) (rows : List ℕ) (i : ℕ) (A : TheLine) : Typ
 -- q holds a query on the policy's tables
 pub record Posed (q : Query) (d : Declared) (Q : TheQuery) : Type 0 where
   pub query : HoldsQuery q Q
+  pub small : Small Q
+  pub fits : AllFit (d .widths) Q
+
+-- rows hold such a query, of n lines
+pub record PosedRows (d : Declared) (Q : TheQuery) (n : ℕ) (rows : List ℕ) : Type 0 where
+  pub count : length Q ≡ n
+  pub laid : Laid Q rows
   pub small : Small Q
   pub fits : AllFit (d .widths) Q
 
@@ -89,11 +98,21 @@ RowsGiven r n lines left l =
     let R = show (linesAt left Q) in
     l ≡ labelsValue (map (label (d .views)) R) (settlingLines d R)
 
+-- the rows of a query of n lines on the policy's tables
+abbrev pub SomePosedRows : List ℕ → ℕ → List ℕ → Type 0
+SomePosedRows r n lines = (d : Declared) × (t : Tables) × (Q : TheQuery) × Ready d t r × PosedRows d Q n lines
+
+-- its labels, and which partitions settle it
+abbrev pub PosedRowsGiven : List ℕ → ℕ → List ℕ → Labels → Type 0
+PosedRowsGiven r n lines l =
+    (d : Declared) (t : Tables) (Q : TheQuery) → Ready d t r → PosedRows d Q n lines
+    → l ≡ labelsValue (labels (d .views) Q) (settling d Q)
+
 -- a query on the policy's tables
 abbrev pub SomePosed : List ℕ → Query → Type 0
 SomePosed r q = (d : Declared) × (t : Tables) × (Q : TheQuery) × Ready d t r × Posed q d Q
 
--- its labels, and which partitions settle it
+-- the same of it
 abbrev pub QueryGiven : List ℕ → Query → Labels → Type 0
 QueryGiven r q l =
     (d : Declared) (t : Tables) (Q : TheQuery) → Ready d t r → Posed q d Q → l ≡ labelsValue (labels (d .views) Q) (settling d Q)

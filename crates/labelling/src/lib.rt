@@ -8,7 +8,7 @@ ghost use Rattle.model.specs.Rows.{queryRowsLong};
 ghost use Rattle.query_text.specs.Text.{read};
 ghost use Rattle.policy_text.specs.Declared.{Declared};
 ghost use Rattle.labelling.specs.Posed.{Ready, SomeReady, wordsValue, labelsValue};
-ghost use Rattle.labelling.specs.Posed.{SomeRows, RowsGiven, SomePosed, QueryGiven};
+ghost use Rattle.labelling.specs.Posed.{SomeRows, RowsGiven, SomePosedRows, PosedRowsGiven, SomePosed, QueryGiven};
 ghost use Rattle.labelling.specs.Text.{LoadedTo, SomePolicy, askedValue};
 use covering::Prepared;
 use model::MOST_LINES;
@@ -58,17 +58,25 @@ fn label_lines(ready: &Prepared, n: usize, lines: &QueryRows, left: u64) -> Labe
     Labels { words, settling }
 }
 
+// The labels of a query of n lines that is laid in rows; its shared variables are shown there.
+pub fn label_rows(ready: &Prepared, n: usize, lines: &mut QueryRows) -> Labels
+    requires { ⌜ SomePosedRows (now ready) n (now lines) × (length (now lines) ≡ queryRowsLong) ⌝ }
+    ensures { λ l. ⌜ PosedRowsGiven (now (ready .entry)) n (now (lines .entry)) l ⌝ }
+    ensures { λ _. ⌜ length (now (lines .exit)) ≡ queryRowsLong ⌝ }
+{
+    let left = reduce::lines_left(n, lines);
+    let shared = reduce::shared(n, lines, left);
+    reduce::show(n, lines, shared);
+    label_lines(ready, n, lines, left)
+}
+
 // The labels of a query.
 pub fn label_query(ready: &Prepared, q: Query) -> Labels
     requires { ⌜ SomePosed (now ready) q ⌝ }
     ensures { λ l. ⌜ QueryGiven (now (ready .entry)) q l ⌝ }
 {
-    let n = q.count;
     let mut lines = reduce::query_rows(q);
-    let left = reduce::lines_left(n, &lines);
-    let shared = reduce::shared(n, &lines, left);
-    reduce::show(n, &mut lines, shared);
-    label_lines(ready, n, &lines, left)
+    label_rows(ready, q.count, &mut lines)
 }
 
 pub fn no_words() -> Words

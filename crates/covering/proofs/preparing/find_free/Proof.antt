@@ -1,5 +1,5 @@
 -- `find_free`: the free columns of the views before `k` are entered.
-use Prim.Native.Nat.{_-_, _≤_}
+use Prim.Native.Nat.{_-_}
 use native.Mathlib.Omega.{arith}
 use Rattle.model.specs.Limits.{mostViews}
 use Rattle.covering.proofs.Prepared.{FreeTo, free-start, free-next, free-found}

@@ -1,12 +1,8 @@
 -- `free_columns`: the columns before `p` that the word has are free.
-use Prim.Native.Nat.{ℕ, _-_, _≤_}
-use mathlib.Core.Path.{_≡_}
-use mathlib.Core.Bool.{Bool, true, false, cond}
+use Prim.Native.Nat.{_-_}
 use native.Mathlib.Omega.{arith}
-use Rattle.words.specs.Bits.{bit}
-use Rattle.words.specs.Sets.{setBit}
 use Rattle.model.specs.Limits.{mostColumns}
-use Rattle.covering.specs.Free.{FreeAt, FreeColumns}
+use Rattle.covering.specs.Free.{FreeColumns}
 use Rattle.covering.proofs.Columns.{free-none, free-more}
 use Rattle.covering.proofs.preparing.free_columns.Statement.{statement}
 use Rattle.covering.proofs.preparing.free_columns.Tie as tie

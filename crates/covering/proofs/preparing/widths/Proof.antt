@@ -1,5 +1,4 @@
 -- `widths`: the part from the columns of the tables on.
-use mathlib.Core.Path.{_≡_}
 use native.Mathlib.Nat.{le-of-eq}
 use borrow.Author.Needs.{needs}
 use lib.Seq.{take-all}
