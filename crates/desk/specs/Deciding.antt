@@ -8,10 +8,12 @@ use lib.ListN.{length}
 use Rattle.theory.specs.Query.{Query}
 use Rattle.theory.specs.Executable.Label.{settles}
 use Rattle.model.specs.declared.Policy.{Policy}
+use Rattle.model.specs.declared.Tables.{Tables}
 use Rattle.query_text.specs.Text.{Reading, refused, accepted, read}
 use Rattle.policy_text.specs.Declared.{Declared}
 use Rattle.validity.specs.Loadable.{Loadable}
 use Rattle.labelling.specs.Settled.{granted}
+use Rattle.labelling.specs.Posed.{Ready, PosedRows}
 use Rattle.desk.specs.declared.opening.Session.{Session}
 use Rattle.desk.specs.declared.deciding.Decision.{Decision}
 use Rattle.desk.specs.Reply.{Said, said, yes, no}
@@ -65,6 +67,12 @@ decideUnder d s text = cond (unfit d s) (turnedBack s 9 0) (decideQuery d s (rea
 pub record Gives (r : Decision) (o : Verdict) : Type 0 where
   pub reply : said (r .reply) ≡ o .says
   pub session : r .session ≡ o .leaves
+
+-- under what is prepared of a policy, a query of n lines that is laid in rows is decided as each text is that reads to it
+abbrev pub RowsDecided : List ℕ → Session → ℕ → List ℕ → Decision → Type 0
+RowsDecided r s n rows o =
+    (d : Declared) (t : Tables) (Q : Query) (text : List ℕ) → Ready d t r → PosedRows d Q n rows → read (d .widths) text ≡ accepted Q
+    → Gives o (decideUnder d s text)
 
 -- "Deciding. 8. Then 9 …"
 pub record Decided (p : Policy) (s : Session) (text : List ℕ) (r : Decision) : Type 0 where

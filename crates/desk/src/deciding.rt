@@ -3,13 +3,16 @@
 ghost use mathlib.Core.Path.{_≡_};
 ghost use mathlib.Core.Bool.{_||_};
 ghost use lib.Dec.{eqb, ltb};
+ghost use lib.ListN.{length};
+ghost use Rattle.model.specs.Rows.{queryRowsLong};
 ghost use Rattle.policy_text.specs.Declared.{Declared};
-ghost use Rattle.labelling.specs.Posed.{Ready, SomeReady};
-ghost use Rattle.desk.specs.Deciding.{turnedBack, answered, decideUnder, Gives, Decided};
+ghost use Rattle.labelling.specs.Posed.{Ready, SomeReady, SomePosedRows};
+ghost use Rattle.desk.specs.Deciding.{turnedBack, answered, decideUnder, Gives, RowsDecided, Decided};
 use crate::opening::Session;
 use covering::Prepared;
 use model::Outcome;
 use model::Policy;
+use model::QueryRows;
 use model::Tables;
 
 // What deciding says; a yes and a no carry the count of partitions still open.
@@ -78,6 +81,20 @@ pub fn decide_loaded(tables: Tables, ready: &Prepared, s: Session, text: &[u8]) 
             answer(s, s.mask & l.settling)
         }
     }
+}
+
+// The same of a query that a text reads to, its n lines laid in rows; its shared variables are shown there.
+pub fn decide_rows(ready: &Prepared, s: Session, n: usize, lines: &mut QueryRows) -> Decision
+    requires { ⌜ SomePosedRows (now ready) n (now lines) × (length (now lines) ≡ queryRowsLong) ⌝ }
+    ensures { λ o. ⌜ RowsDecided (now (ready .entry)) s n (now (lines .entry)) o ⌝ }
+    ensures { λ _. ⌜ length (now (lines .exit)) ≡ queryRowsLong ⌝ }
+{
+    let every = covering::every_partition(ready);
+    if unfit(s.mask, every) {
+        return refused(s, 9, 0);
+    }
+    let l = labelling::label_rows(ready, n, lines);
+    answer(s, s.mask & l.settling)
 }
 
 // Deciding under any policy value, which is checked first: the reply, and the session as the call leaves it.

@@ -12,6 +12,7 @@ pub use deciding::Reply;
 pub use deciding::decide;
 pub use deciding::decide_checked;
 pub use deciding::decide_loaded;
+pub use deciding::decide_rows;
 pub use explaining::Explaining;
 pub use explaining::explain;
 pub use listing::Listing;
