@@ -124,7 +124,7 @@ decimal-short n h = digits-iff n .0 h
 
 -- ---- the number
 
-after-last : (n : ℕ) (l : List ℕ) (b : ℕ) → digitsAfter n (l ++ b ∷ []) ≡ digitsAfter n l * 10 + (b - 48)
+pub after-last : (n : ℕ) (l : List ℕ) (b : ℕ) → digitsAfter n (l ++ b ∷ []) ≡ digitsAfter n l * 10 + (b - 48)
 unfolding digitsAfter
 after-last n [] b = refl
 after-last n (c ∷ l) b = after-last (n * 10 + (c - 48)) l b

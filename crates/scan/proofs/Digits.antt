@@ -1,0 +1,62 @@
+-- Digits between two places of a text, and the numeral that they are.
+use mathlib.Core.Path.{_≡_, refl, sym, ap, _∙_}
+use mathlib.Core.Bool.{true}
+use mathlib.Core.List.{List, [], _∷_, _++_}
+use Prim.Native.Nat.{ℕ, _+_, _-_, _*_, _^_, _/_, _%_, _≤_, _<_}
+use native.Mathlib.Omega.{arith}
+use borrow.Author.Tests.{ne-eqb}
+use lib.Dec.{T}
+use lib.Ieee.Bits.{is-true}
+use lib.ListN.{length, getD, length-append}
+use mir.Facts.{and-yes, yes-and}
+use Rattle.words.proofs.Answers.{true-holds}
+use Rattle.text.specs.Numeral.{mostDigits, isDigit, allDigits, leads, digitsAfter, numeral}
+use Rattle.text.specs.Print.{decimal, digit}
+use Rattle.text.proofs.Decimals.{after-last, decimal-one, decimal-more, numeral-iff}
+use Rattle.text.proofs.Numerals.{numeral-is, leads-alone, leads-others}
+use Rattle.scan.specs.Places.{Between, DigitsBetween, NumeralThere}
+use Rattle.scan.specs.declared.numbers.Number.{Number}
+use Rattle.scan.proofs.Places.{between-none, between-one, between-both, between-first}
+
+-- ---- one digit more
+
+all-last : (l : List ℕ) (b : ℕ) → T (allDigits l) → T (isDigit b) → T (allDigits (l ++ b ∷ []))
+unfolding allDigits
+all-last [] b h d = yes-and (isDigit b) true d tt
+all-last (x ∷ l) b h d =
+    let k = and-yes (isDigit x) (allDigits l) h in yes-and (isDigit x) (allDigits (l ++ b ∷ [])) (k .0) (all-last l b (k .1) d)
+
+module _ {text : List ℕ} where
+  pub no-digits : (at : ℕ) → at ≤ length text → DigitsBetween text at at 0
+  unfolding allDigits digitsAfter
+  no-digits at h = record { digits = []; there = between-none at h; all = tt; few = omega arith; stand = refl }
+
+  pub more-digits : {at end v d : ℕ} → DigitsBetween text at end v → end < length text → end < at + mostDigits
+      → (isDigit (getD text end 0) ≡ true) × (d ≡ getD text end 0 - 48) → DigitsBetween text at (end + 1) (v * 10 + d)
+  more-digits {at} {end} {v} {d} r h few e =
+      let b = getD text end 0 in
+      record {
+        digits = r .digits ++ b ∷ [];
+        there = between-both (r .there) (between-one end b h refl);
+        all = all-last (r .digits) b (r .all) (true-holds (e .0));
+        few = simp length-append (omega (arith, r .there .long));
+        stand = after-last 0 (r .digits) b ∙ rw (r .stand, e .1);
+      }
+
+  -- ---- a numeral
+
+  module _ {at end v : ℕ} (r : DigitsBetween text at end v) where
+    led : leads (r .digits) ≡ true → NumeralThere text at (record { value = v; end = end })
+    led l =
+        let n = numeral-is (r .digits) (is-true (allDigits (r .digits)) (r .all)) l (r .few) in
+        let d = numeral-iff (r .digits) v .0 (n ∙ rw (r .stand)) in
+        record { there = rw (d .1) at (r .there); small = d .0 }
+
+    pub one-digit : end ≡ at + 1 → NumeralThere text at (record { value = v; end = end })
+    one-digit e = led (sym (leads-alone (r .digits) (omega (arith, r .there .long)) (omega (arith, r .there .long))))
+
+    pub many-digits : (end ≡ at → ⊥) → (end ≡ at + 1 → ⊥) → (getD text at 0 ≡ 48 → ⊥)
+        → NumeralThere text at (record { value = v; end = end })
+    many-digits f g z =
+        let long : 2 ≤ length (r .digits) = omega (arith, r .there .long) in
+        led (sym (leads-others (r .digits) long) ∙ rw (between-first (r .there) (omega arith), ne-eqb (getD text at 0) 48 z))

@@ -1,0 +1,46 @@
+-- Bytes between two places of a text: one byte, two parts, and the text behind a place.
+use mathlib.Core.Path.{_≡_, refl, sym, ap, _∙_}
+use mathlib.Core.List.{List, [], _∷_, _++_, append-nil, append-assoc}
+use Prim.Native.Nat.{ℕ, _+_, _≤_, _<_}
+use native.Mathlib.Numerals.{add-one}
+use native.Mathlib.Omega.{arith}
+use lib.ListN.{length, getD, take, drop, length-append, take-append-drop, List·getD-append}
+use lib.Seq.{length-take-le, take-suc, drop-at, getD-drop}
+use Rattle.scan.specs.Places.{Between}
+
+module _ {text : List ℕ} where
+  pub between-none : (at : ℕ) → at ≤ length text → Between text at at []
+  between-none at h = record { within = h; long = omega arith; are = sym (append-nil (take at text)) }
+
+  pub between-one : (at b : ℕ) → at < length text → getD text at 0 ≡ b → Between text at (at + 1) (b ∷ [])
+  between-one at b h e =
+      record {
+        within = omega arith;
+        long = omega arith;
+        are = rw add-one (take-suc text at 0 h ∙ ap (λ (x : ℕ). take at text ++ x ∷ []) e);
+      }
+
+  pub between-both : {at mid end : ℕ} {x y : List ℕ} → Between text at mid x → Between text mid end y → Between text at end (x ++ y)
+  between-both {at} {mid} {end} {x} {y} p q =
+      record {
+        within = q .within;
+        long = simp length-append (omega arith);
+        are = q .are ∙ ap (λ (l : List ℕ). l ++ y) (p .are) ∙ append-assoc (take at text) x y;
+      }
+
+  module _ {at end : ℕ} {bytes : List ℕ} (p : Between text at end bytes) where
+    pub between-drop : drop at text ≡ bytes ++ drop end text
+    between-drop =
+        ap (drop at)
+        (sym (take-append-drop end text)
+        ∙ ap (λ (l : List ℕ). l ++ drop end text) (p .are)
+        ∙ append-assoc (take at text) bytes (drop end text))
+        ∙ drop-at (take at text) (bytes ++ drop end text) at (length-take-le at text (omega (arith, p .within, p .long)))
+
+    pub between-first : 0 < length bytes → getD bytes 0 0 ≡ getD text at 0
+    between-first h =
+        let here : at + 0 ≡ at = omega arith in
+        sym (List·getD-append bytes (drop end text) 0 0 h)
+        ∙ ap (λ (l : List ℕ). getD l 0 0) (sym between-drop)
+        ∙ getD-drop at text 0 0
+        ∙ ap (λ (k : ℕ). getD text k 0) here
