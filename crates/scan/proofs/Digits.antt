@@ -3,6 +3,7 @@ use mathlib.Core.Path.{_≡_, refl, sym, ap, _∙_}
 use mathlib.Core.Bool.{true}
 use mathlib.Core.List.{List, [], _∷_, _++_}
 use Prim.Native.Nat.{ℕ, _+_, _-_, _*_, _^_, _/_, _%_, _≤_, _<_}
+use native.Mathlib.Decide.{decLe}
 use native.Mathlib.Omega.{arith}
 use borrow.Author.Tests.{ne-eqb}
 use lib.Dec.{T}
@@ -16,7 +17,7 @@ use Rattle.text.proofs.Decimals.{after-last, decimal-one, decimal-more, numeral
 use Rattle.text.proofs.Numerals.{numeral-is, leads-alone, leads-others}
 use Rattle.scan.specs.Places.{Between, DigitsBetween, NumeralThere}
 use Rattle.scan.specs.declared.numbers.Number.{Number}
-use Rattle.scan.proofs.Places.{between-none, between-one, between-both, between-first}
+use Rattle.scan.proofs.Places.{between-none, between-one, between-two, between-both, between-first}
 
 -- ---- one digit more
 
@@ -60,3 +61,34 @@ module _ {text : List ℕ} where
     many-digits f g z =
         let long : 2 ≤ length (r .digits) = omega (arith, r .there .long) in
         led (sym (leads-others (r .digits) long) ∙ rw (between-first (r .there) (omega arith), ne-eqb (getD text at 0) 48 z))
+
+  -- ---- a table's number of one digit or two
+
+  module _ (at d : ℕ) (first : 1 ≤ d) (last : d ≤ 9) (here : at < length text) (is : getD text at 0 ≡ digit d) where
+    pub table-one : NumeralThere text at (record { value = d; end = at + 1 })
+    table-one =
+        record {
+          there = rw (decimal-one d (omega arith)) (between-one at (digit d) here is);
+          small = omega arith;
+        }
+
+    pub table-two : (e : ℕ) → e ≤ 9 → at + 1 < length text → getD text (at + 1) 0 ≡ digit e
+        → NumeralThere text at (record { value = d * 10 + e; end = at + 2 })
+    table-two e small next is′ =
+        let tens : (d * 10 + e) / 10 ≡ d = omega arith in
+        let ones : (d * 10 + e) % 10 ≡ e = omega arith in
+        record {
+          there =
+              rw (decimal-more (d * 10 + e) (omega arith), tens, ones, decimal-one d (omega arith))
+              (between-two at (digit d) (digit e) next is is′);
+          small = omega arith;
+        }
+
+-- a byte of a value below 10 is that digit
+pub digit-byte : (b d : ℕ) → (b < 48 → 9 < d) → (48 ≤ b → d ≡ b - 48) → d ≤ 9 → b ≡ digit d
+unfolding digit
+digit-byte b d low high h = go (decLe 48 b)
+  where
+    go : Dec (48 ≤ b) → b ≡ 48 + d
+    go (yes k) = omega (arith, high k)
+    go (no n) = absurd (omega (arith, low (omega arith)))

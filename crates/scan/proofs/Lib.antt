@@ -1,3 +1,4 @@
--- What stands between two places of a text, digits and terms among it.
+-- What stands between two places of a text: digits, terms.
 pub mod Places
 pub mod Digits
+pub mod TermBytes

@@ -4,8 +4,10 @@ use mathlib.Core.List.{List, [], _∷_, _++_, append-nil, append-assoc}
 use Prim.Native.Nat.{ℕ, _+_, _≤_, _<_}
 use native.Mathlib.Numerals.{add-one}
 use native.Mathlib.Omega.{arith}
-use lib.ListN.{length, getD, take, drop, length-append, take-append-drop, List·getD-append}
-use lib.Seq.{length-take-le, take-suc, drop-at, getD-drop}
+use lib.ListN.{length, getD, take, drop, length-append, length-drop, take-append-drop, List·getD-append}
+use lib.Seq.{length-take-le, take-suc, take-add, drop-at, getD-drop}
+use Rattle.text.specs.Lines.{newline}
+use Rattle.text.specs.Names.{tableTerms}
 use Rattle.scan.specs.Places.{Between}
 
 module _ {text : List ℕ} where
@@ -27,6 +29,25 @@ module _ {text : List ℕ} where
         long = simp length-append (omega arith);
         are = q .are ∙ ap (λ (l : List ℕ). l ++ y) (p .are) ∙ append-assoc (take at text) x y;
       }
+
+  pub between-two : (at b c : ℕ) → at + 1 < length text → getD text at 0 ≡ b → getD text (at + 1) 0 ≡ c
+      → Between text at (at + 2) (b ∷ c ∷ [])
+  between-two at b c h e f =
+      let two : at + 1 + 1 ≡ at + 2 = omega arith in
+      rw two at (between-both (between-one at b (omega arith) e) (between-one (at + 1) c h f))
+
+  -- a part of the text from a place on
+  pub between-part : (at n : ℕ) (l : List ℕ) → at + n ≤ length text → take n (drop at text) ≡ l → Between text at (at + n) l
+  between-part at n l h e =
+      let long = ap length (sym e) ∙ length-take-le n (drop at text) (simp length-drop (omega arith)) in
+      record { within = h; long = omega (arith, long); are = take-add at n text ∙ ap (λ (m : List ℕ). take at text ++ m) e }
+
+  -- a names line
+  pub names-there : (at : ℕ) → at + 11 < length text → take 11 (drop at text) ≡ tableTerms → getD text (at + 11) 0 ≡ newline
+      → Between text at (at + 12) (tableTerms ++ newline ∷ [])
+  names-there at h e f =
+      let ended : at + 11 + 1 ≡ at + 12 = omega arith in
+      rw ended at (between-both (between-part at 11 tableTerms (omega arith) e) (between-one (at + 11) newline h f))
 
   module _ {at end : ℕ} {bytes : List ℕ} (p : Between text at end bytes) where
     pub between-drop : drop at text ≡ bytes ++ drop end text

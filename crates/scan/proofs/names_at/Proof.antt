@@ -1,65 +1,64 @@
+-- The bytes of the names line, and the byte that ends it.
+use mathlib.Core.Path.{sym, _∙_}
+use mathlib.Core.Bool.{false≢true}
+use native.Mathlib.Omega.{arith}
+use lib.ListN.{length-take, length-drop}
+use Rattle.words.proofs.Answers.{true-holds}
+use Rattle.text.specs.Names.{tableTerms}
+use Rattle.text.proofs.Names.{same-bytes-iff}
+use Rattle.text.proofs.Parts.{to-end}
+use Rattle.scan.proofs.Places.{names-there}
 use borrow.Author.Needs.{needs}
 use Rattle.scan.proofs.names_at.Statement.{statement}
 use Rattle.scan.proofs.names_at.Tie as tie
-use Rattle.scan.proofs.names_at.Reads as reads
-use Rattle.scan.proofs.names_at.Lts as lts
-use Rattle.text.proofs.same.Reads as same-reads
 
--- src/lib.rt:35:21
 add-if1 : tie.Need-add-if1
 add-if1 c = search needs
 
--- src/lib.rt:36:9
 returns : tie.Need-returns
-returns c = ?
+returns c is = absurd (false≢true is)
 
--- src/lib.rt:38:8
 shared-slice-read-if2 : tie.Need-shared-slice-read-if2
 shared-slice-read-if2 c = search needs
 
--- src/lib.rt:39:9
 returns-2 : tie.Need-returns-2
-returns-2 c = ?
+returns-2 c is = absurd (false≢true is)
 
--- src/lib.rt:41:13
 add-if3 : tie.Need-add-if3
 add-if3 c = search needs
 
--- src/lib.rt:41:8
 shared-slice-read-if3 : tie.Need-shared-slice-read-if3
 shared-slice-read-if3 c = search needs
 
--- src/lib.rt:42:9
 returns-3 : tie.Need-returns-3
-returns-3 c = ?
+returns-3 c is = absurd (false≢true is)
 
--- src/lib.rt:44:16
 sub-rest : tie.Need-sub-rest
 sub-rest c = search needs
 
--- src/lib.rt:44:16
 part-rest-start : tie.Need-part-rest-start
 part-rest-start c = search needs
 
--- src/lib.rt:44:16
 part-rest-end : tie.Need-part-rest-end
 part-rest-end c = search needs
 
--- src/lib.rt:45:16
 slice-aggregate-same : tie.Need-slice-aggregate-same
-slice-aggregate-same c = ?
+slice-aggregate-same c = simp (length-take, length-drop) (omega arith)
 
--- src/lib.rt:45:29
 slice-aggregate-same-2 : tie.Need-slice-aggregate-same-2
 slice-aggregate-same-2 c = search needs
 
--- src/lib.rt:45:5
 same-requires : tie.Need-same-requires
 same-requires c κs = search needs
 
--- src/lib.rt:31:1
 returns-4 : tie.Need-returns-4
-returns-4 c = ?
+unfolding tableTerms
+returns-4 c is =
+    let d = c .before .before .before .before in
+    let s = d .before .before .before .before .before .before in
+    let at = s .args .at in
+    let same = same-bytes-iff _ tableTerms .0 (true-holds (sym (c .same .ensures) ∙ is)) in
+    names-there at (omega arith) (rw (to-end at (s .args .text .now)) at same) (d .if3 .left)
 
 pub names-at-spec : {M : Type 1} → statement M
 names-at-spec =

@@ -1,15 +1,18 @@
+-- A constant has its own limit.
+use native.Mathlib.Omega.{arith}
+use borrow.Author.Tests.{eq-eqb, ne-eqb}
+use Rattle.text.specs.Numeral.{constantLimit}
+use Rattle.scan.specs.TermsAt.{limitOf}
 use Rattle.scan.proofs.terms.limit_of.Statement.{statement}
 use Rattle.scan.proofs.terms.limit_of.Tie as tie
-use Rattle.scan.proofs.terms.limit_of.Reads as reads
-use Rattle.scan.proofs.terms.limit_of.Lts as lts
 
--- src/terms.rt:36:9
 returns : tie.Need-returns
-returns c = ?
+unfolding limitOf constantLimit
+returns c = simp (eq-eqb _ _ (c .if1 .taken))
 
--- src/terms.rt:32:1
 returns-2 : tie.Need-returns-2
-returns-2 c = ?
+unfolding limitOf
+returns-2 c = simp (ne-eqb _ _ (c .if1 .left))
 
 pub limit-of-spec : {M : Type 1} → statement M
 limit-of-spec = tie.close (tie.spec returns returns-2)

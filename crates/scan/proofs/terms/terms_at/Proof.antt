@@ -1,64 +1,80 @@
+-- The loop's invariant: as many terms as were counted stand behind the start, and `r` holds them.
+use mathlib.Core.Path.{_≡_, refl}
+use mathlib.Core.List.{List}
+use Prim.Native.Nat.{ℕ, _-_, _≤_}
+use native.Mathlib.Omega.{arith}
+use borrow.Author.Needs.{needs}
+use Rattle.model.specs.Value.{pad, unusedTerm, termsValue}
+use Rattle.scan.specs.TermsAt.{TermThere}
+use Rattle.scan.proofs.TermBytes.{TermsTo, terms-none, terms-one-more, terms-ended, term-small}
 use Rattle.scan.proofs.terms.terms_at.Statement.{statement}
 use Rattle.scan.proofs.terms.terms_at.Tie as tie
-use Rattle.scan.proofs.terms.terms_at.Reads as reads
-use Rattle.scan.proofs.terms.terms_at.Lts as lts
-use Rattle.model.proofs.with_mark.Reads as with-mark-reads
-use Rattle.scan.proofs.terms.line_end.Reads as line-end-reads
-use Rattle.scan.proofs.terms.term_at.Reads as term-at-reads
 
 abbrev Inv-loop : tie.InvT-loop
-Inv-loop text start width r₀ at₀ c₀ r at c = ?
+Inv-loop text start width r₀ at₀ c₀ r at c = TermsTo text start at c r × (r .end ≡ 0) × (c ≤ width)
 
 abbrev μ-loop : tie.MeasureT-loop
-μ-loop text start width r₀ at₀ c₀ r at c = ?
+μ-loop text start width r₀ at₀ c₀ r at c = width - c
 
--- src/terms.rt:107:5
 loop-holds : tie.Need-loop-holds Inv-loop μ-loop
-loop-holds c = ?
+unfolding termsValue pad unusedTerm
+loop-holds c = (terms-none _ (c .before .pre .0 .within), refl, omega arith)
 
--- src/terms.rt:108:13
 term-at-requires : tie.Need-term-at-requires Inv-loop μ-loop
-term-at-requires c κs = ?
+term-at-requires c κs =
+    let l = c .before in record { short = l .before .before .pre .0 .short; within = l .loop .inv .0 .there .within }
 
--- src/terms.rt:110:13
 returns : tie.Need-returns Inv-loop μ-loop
-returns c = ?
+returns c some = absurd (some (c .before .before .before .before .loop .inv .1))
 
--- src/terms.rt:113:9
+-- ---- the next term
+
+abbrev turn : tie.After-u Inv-loop μ-loop → tie.At-loop Inv-loop μ-loop
+turn c = c .before .before .before .before .before
+
+there : (c : tie.After-u Inv-loop μ-loop)
+    → TermThere (turn c .before .before .args .text .now) (turn c .loop .at) (c .before .before .before .term-at .result)
+there c = c .before .before .before .term-at .ensures (c .before .if1 .left)
+
 mul-u : tie.Need-mul-u Inv-loop μ-loop
-mul-u c = ?
+mul-u c = omega (arith, turn c .before .before .pre)
 
--- src/terms.rt:113:9
 element-set-from-u : tie.Need-element-set-from-u Inv-loop μ-loop
-element-set-from-u c = ?
+element-set-from-u c = omega (arith, turn c .before .before .pre)
 
--- src/terms.rt:114:19
 with-mark-requires : tie.Need-with-mark-requires Inv-loop μ-loop
-with-mark-requires c κs = ?
+with-mark-requires c κs = term-small (there c) 2 (omega arith)
 
--- src/terms.rt:115:20
 with-mark-requires-2 : tie.Need-with-mark-requires-2 Inv-loop μ-loop
-with-mark-requires-2 c κs = ?
+with-mark-requires-2 c κs = term-small (there (c .before)) 3 (omega arith)
 
--- src/terms.rt:117:9
 add-c : tie.Need-add-c Inv-loop μ-loop
-add-c c = ?
+add-c c = let l = turn (c .before .before) in omega (arith, l .before .before .pre)
 
--- src/terms.rt:107:5
 loop-less : tie.Need-loop-less Inv-loop μ-loop
-loop-less c = ?
+loop-less c = omega arith
 
--- src/terms.rt:107:5
 loop-again : tie.Need-loop-again Inv-loop μ-loop
-loop-again c = ?
+loop-again c =
+    let u = c .before .before in
+    let l = turn u in (
+      terms-one-more _ _ (l .loop .inv .0) (there u) (omega (arith, l .before .before .pre)) (c .before .with-mark .ensures)
+          (c .with-mark2 .ensures),
+      l .loop .inv .1,
+      omega arith,
+    )
 
--- src/terms.rt:119:13
+-- ---- behind the last
+
 line-end-requires : tie.Need-line-end-requires Inv-loop μ-loop
-line-end-requires c κs = ?
+line-end-requires c κs = search needs
 
--- src/terms.rt:95:1
 returns-2 : tie.Need-returns-2 Inv-loop μ-loop
-returns-2 c = ?
+returns-2 c some =
+    let l = c .before .before in
+    let width = l .before .before .args .width in
+    let all : l .loop .c ≡ width = omega (arith, l .loop .inv .2, c .before .loop-test .left) in
+    terms-ended _ (rw all at (l .loop .inv .0)) (c .line-end .ensures some)
 
 pub terms-at-spec : {M : Type 1} → statement M
 terms-at-spec =
