@@ -6,7 +6,7 @@ use Prim.Native.Nat.{ℕ, _+_, _≤_, _<_}
 use native.Mathlib.Omega.{arith}
 use lib.Bits.{bitOr}
 use lib.Dec.{T, leb→le}
-use lib.ListN.{length, getD, set, length-append, List·getD-append}
+use lib.ListN.{length, getD, set, length-append, length-map, List·getD-append}
 use lib.Seq.{getD-append-seam, getD-set-same}
 use Rattle.theory.specs.Query.{Line, Query, shown, hidden, _∈_, NoClash}
 use Rattle.theory.specs.Executable.Test.{all}
@@ -14,7 +14,7 @@ use Rattle.theory.proofs.Executable.Test.{and-iff, all-iff}
 use Rattle.words.specs.Sets.{meet}
 use Rattle.words.proofs.Tests.{meet-iff}
 use Rattle.text.specs.Lines.{newline}
-use Rattle.text.specs.Names.{tableTerms}
+use Rattle.text.specs.Names.{bytes, tableTerms}
 use Rattle.text.specs.Print.{decimal, endEach}
 use Rattle.text.proofs.Each.{each-nil, each-cons, each-append}
 use Rattle.model.specs.Limits.{mostTables, mostColumns, mostLines, lastVariable, upTo, termWithin, lineWithin}
@@ -26,6 +26,7 @@ use Rattle.model.specs.declared.Line.{Line as LineValue}
 use Rattle.model.specs.declared.Query.{Query as QueryValue}
 use Rattle.model.proofs.LaidTerms.{RowsTo, rows-none, rows-more}
 use Rattle.model.proofs.Limits.{up-to-iff}
+use Rattle.model.proofs.Pad.{pad-length}
 use Rattle.model.proofs.Variables.{marked-none, marked-more}
 use Rattle.query_text.specs.Print.{queryText}
 use Rattle.query_text.proofs.Printed.{well-read, text-reads}
@@ -98,6 +99,17 @@ module _ {lent input rows : List ℕ} {q : QueryValue} {s h at : ℕ} (w : Lines
   pub counted-few : q .count ≤ mostLines
   counted-few = omega (arith, counted, w .few)
 
+  -- the names line stands before the place
+  pub past-names : 0 < at
+  unfolding queryText endEach tableTerms bytes
+  past-names = omega (arith, w .text .long)
+
+  held-long : length (q .lines) ≡ mostLines
+  unfolding queryValue
+  held-long =
+      ap (λ (x : QueryValue). length (x .lines)) (w .held)
+      ∙ pad-length mostLines unusedLine (map lineValue (w .lines)) (simp length-map (w .few))
+
   -- behind them stand a table's number and as many terms as that table has columns
   module _ (n : Number) (r : Terms) (width : ℕ) (table : NumeralThere input at n × (1 ≤ n .value))
       (columns : (n .value ≤ mostTables) × (width ≡ getD lent (n .value) 0)) (some : 1 ≤ width) (few : width ≤ mostColumns)
@@ -152,16 +164,18 @@ module _ {lent input rows : List ℕ} {q : QueryValue} {s h at : ℕ} (w : Lines
         λ j b. subst (λ (x : Line). LaidAt rows j (lineValue x)) (sym (List·getD-append (w .lines) (A ∷ []) none j b)) (w .laid j b) in
         rw long (rows-more (valueAt behind) kept last (into .before) (into .row))
 
-    pub lines-more : {rows′ : List ℕ} {l : LineValue} → l ≡ line → LaidInto l (q .count) rows rows′
+    -- it stands in its place of the query, and was laid from there
+    pub lines-more : {rows′ : List ℕ} (d : LineValue) → LaidInto (getD (with-line q line .lines) (q .count) d) (q .count) rows rows′
         → LinesTo lent input rows′ (with-line q line) (bitOr s (r .shown)) (bitOr h (r .hidden)) (r .end)
-    lines-more e laid =
+    lines-more d laid =
+        let here : getD (with-line q line .lines) (q .count) d ≡ line = getD-set-same (q .lines) (q .count) line d (rw held-long room) in
         record {
           lines = behind;
           held = held-more;
           few = simp length-append (omega (arith, counted, room));
           suit = each-append (Suits lent) (w .lines) (A ∷ []) (w .suit) (each-cons (Suits lent) A [] suits (each-nil (Suits lent)));
           marked = marks-more;
-          laid = laid-more e laid;
+          laid = laid-more here laid;
           text = rw (text-more (w .lines) A) (between-both (w .text) there);
           walked = line-next A (w .walked) there;
         }
