@@ -1,8 +1,8 @@
 -- Digits between two places of a text, and the numeral that they are.
-use mathlib.Core.Path.{_≡_, refl, sym, ap, _∙_}
+use mathlib.Core.Path.{_≡_, refl, sym, _∙_}
 use mathlib.Core.Bool.{true}
 use mathlib.Core.List.{List, [], _∷_, _++_}
-use Prim.Native.Nat.{ℕ, _+_, _-_, _*_, _^_, _/_, _%_, _≤_, _<_}
+use Prim.Native.Nat.{ℕ, _+_, _-_, _*_, _/_, _%_, _≤_, _<_}
 use native.Mathlib.Decide.{decLe}
 use native.Mathlib.Omega.{arith}
 use borrow.Author.Tests.{ne-eqb}
@@ -11,12 +11,11 @@ use lib.Ieee.Bits.{is-true}
 use lib.ListN.{length, getD, length-append}
 use mir.Facts.{and-yes, yes-and}
 use Rattle.words.proofs.Answers.{true-holds}
-use Rattle.text.specs.Numeral.{mostDigits, isDigit, allDigits, leads, digitsAfter, numeral}
-use Rattle.text.specs.Print.{decimal, digit}
+use Rattle.text.specs.Numeral.{mostDigits, isDigit, allDigits, leads, digitsAfter}
+use Rattle.text.specs.Print.{digit}
 use Rattle.text.proofs.Decimals.{after-last, decimal-one, decimal-more, numeral-iff}
 use Rattle.text.proofs.Numerals.{numeral-is, leads-alone, leads-others}
-use Rattle.scan.specs.Places.{Between, DigitsBetween, NumeralThere}
-use Rattle.scan.specs.declared.numbers.Number.{Number}
+use Rattle.scan.specs.Places.{DigitsBetween, NumeralThere}
 use Rattle.scan.proofs.Places.{between-none, between-one, between-two, between-both, between-first}
 
 -- ---- one digit more

@@ -1,5 +1,5 @@
 -- The columns of the tables, as they are lent.
-use mathlib.Core.Path.{_≡_, refl, sym, ap, _∙_}
+use mathlib.Core.Path.{_≡_, ap, _∙_}
 use mathlib.Core.List.{List}
 use Prim.Native.Nat.{ℕ, _+_, _-_, _≤_, _<_}
 use native.Mathlib.Decide.{decLt}
@@ -52,7 +52,8 @@ pub record Suits (lent : List ℕ) (A : Line) : Type 0 where
 pub suits-fits : {lent widths : List ℕ} {A : Line} → Widths lent widths → Suits lent A → Fits widths A
 unfolding lineWithin
 suits-fits {A = A} w s =
-    let (first, last) = up-to-iff mostTables (A .table) .0 (and-iff (upTo mostTables (A .table)) (all termWithin (A .columns)) .0 (s .within) .0) in
+    let named = and-iff (upTo mostTables (A .table)) (all termWithin (A .columns)) .0 (s .within) .0 in
+    let (first, last) = up-to-iff mostTables (A .table) .0 named in
     record {
       first = first;
       last = omega (arith, known w (A .table) first last (λ z. omega (arith, s .some, s .width)));

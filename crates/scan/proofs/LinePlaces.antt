@@ -12,11 +12,12 @@ use lib.Seq.{take-append-seam}
 use Rattle.theory.specs.Query.{Line}
 use Rattle.text.specs.Lines.{newline, before, sameBytes}
 use Rattle.text.specs.Names.{bytes, tableTerms}
-use Rattle.text.specs.Print.{decimal, joined}
+use Rattle.text.specs.Print.{decimal}
 use Rattle.text.specs.declared.Cursor.{Cursor}
-use Rattle.text.proofs.Decimals.{decimal-digits, length-one, length-more}
+use Rattle.text.proofs.Decimals.{decimal-digits, some-digit}
 use Rattle.text.proofs.Each.{Each}
 use Rattle.text.proofs.Joined.{LineByte, joined-clean, table-terms-clean}
+use Rattle.text.proofs.Lines.{before-ended}
 use Rattle.text.proofs.Names.{same-true, same-false}
 use Rattle.text.proofs.NextLines.{front, LineAt, ends-here}
 use Rattle.text.proofs.Parts.{to-end}
@@ -31,17 +32,12 @@ use Rattle.scan.proofs.TermBytes.{joined-spaced}
 
 -- ---- a line
 
-before-line : (b : ℕ) (l r : List ℕ) → ((x : ℕ) → List·Memᴰ x l → x ≡ b → ⊥) → before b (l ++ b ∷ r) ≡ length l
-unfolding before
-before-line b [] r n = rw (eq-eqb b b refl)
-before-line b (x ∷ l) r n = rw (ne-eqb x b (n x (List·Memᴰ·head refl))) (ap suc (before-line b l r (λ y m. n y (List·Memᴰ·tail m))))
-
 module _ {text : List ℕ} {at end : ℕ} (l : List ℕ) (clean : Each LineByte l) (p : Between text at end (l ++ newline ∷ [])) where
   from : drop at text ≡ l ++ newline ∷ drop end text
   from = between-drop p ∙ append-assoc l (newline ∷ []) (drop end text)
 
   before-end : before newline (drop at text) ≡ length l
-  before-end = rw from (before-line newline l (drop end text) (λ x m e. let k = clean x m in omega arith))
+  before-end = rw from (before-ended newline l (drop end text) (λ x m e. let k = clean x m in omega arith))
 
   abbrev cursor : Cursor
   cursor = record { at = length l + 1; line = 1 }
@@ -52,7 +48,7 @@ module _ {text : List ℕ} {at end : ℕ} (l : List ℕ) (clean : Each LineByte 
   line-at : LineAt text at cursor
   line-at =
       let place : length l + 1 ≡ before newline (drop at text) + 1 = rw before-end in
-      let long : length (drop at text) ≡ length l + suc (length (drop end text)) = ap length from ∙ length-append l (newline ∷ drop end text) in
+      let long = ap length from ∙ length-append l (newline ∷ drop end text) in
       ends-here text at {k = 0} (record { place = rw (to-end at text) place; number = refl }) (rw (to-end at text) (omega arith))
 
   bytes-are : front (drop at text) ≡ l
@@ -81,13 +77,6 @@ module _ {text : List ℕ} where
 pub line-bytes : (A : Line) → printQueryLine A ≡ decimal (A .table) ++ spaced (A .columns)
 unfolding printQueryLine lineFields
 line-bytes A = joined-spaced (decimal (A .table)) (A .columns)
-
-some-digit : (n : ℕ) → 1 ≤ length (decimal n)
-some-digit n = go (decLt n 10)
-  where
-    go : Dec (n < 10) → 1 ≤ length (decimal n)
-    go (yes h) = omega (arith, length-one n h)
-    go (no h) = omega (arith, length-more n (omega arith))
 
 -- a line that begins with a digit is no names line
 not-names : (A : Line) → printQueryLine A ≡ tableTerms → ⊥

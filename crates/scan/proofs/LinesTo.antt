@@ -5,7 +5,7 @@ use mathlib.Core.List.{List, [], _∷_, _++_, map, map-append, append-assoc, Lis
 use Prim.Native.Nat.{ℕ, _+_, _≤_, _<_}
 use native.Mathlib.Omega.{arith}
 use lib.Bits.{bitOr}
-use lib.Dec.{T, leb→le}
+use lib.Dec.{leb→le}
 use lib.ListN.{length, getD, set, length-append, length-map, List·getD-append}
 use lib.Seq.{getD-append-seam, getD-set-same}
 use Rattle.theory.specs.Query.{Line, Query, shown, hidden, _∈_, NoClash}
@@ -15,12 +15,13 @@ use Rattle.words.specs.Sets.{meet}
 use Rattle.words.proofs.Tests.{meet-iff}
 use Rattle.text.specs.Lines.{newline}
 use Rattle.text.specs.Names.{bytes, tableTerms}
-use Rattle.text.specs.Print.{decimal, endEach}
-use Rattle.text.proofs.Each.{each-nil, each-cons, each-append}
+use Rattle.text.specs.Print.{endEach}
+use Rattle.text.proofs.Each.{each-last}
+use Rattle.text.proofs.Joined.{ended-parts}
 use Rattle.model.specs.Limits.{mostTables, mostColumns, mostLines, lastVariable, upTo, termWithin, lineWithin}
 use Rattle.model.specs.Print.{printQueryLine}
-use Rattle.model.specs.Rows.{rowLong, LaidAt, LaidInto}
-use Rattle.model.specs.Value.{pad, unusedLine, termsValue, lineValue, queryValue}
+use Rattle.model.specs.Rows.{LaidAt, LaidInto}
+use Rattle.model.specs.Value.{pad, unusedLine, lineValue, queryValue}
 use Rattle.model.specs.Variables.{Marked}
 use Rattle.model.specs.declared.Line.{Line as LineValue}
 use Rattle.model.specs.declared.Query.{Query as QueryValue}
@@ -34,11 +35,10 @@ use Rattle.query_text.proofs.Walk.{one-more}
 use Rattle.cutting.specs.NextCut.{NextCut}
 use Rattle.cutting.proofs.Walk.{Walked}
 use Rattle.reduce.specs.Agree.{lineAt}
-use Rattle.reduce.specs.Laid.{Laid}
 use Rattle.reduce.proofs.LaidRows.{valueAt}
-use Rattle.scan.specs.Places.{Between, NumeralThere, TableAt, WidthOf}
+use Rattle.scan.specs.Places.{Between, NumeralThere}
 use Rattle.scan.specs.Scanned.{Widths, Scanned}
-use Rattle.scan.specs.TermsAt.{spaced, TermsThere}
+use Rattle.scan.specs.TermsAt.{TermsThere}
 use Rattle.scan.specs.declared.numbers.Number.{Number}
 use Rattle.scan.specs.declared.terms.Terms.{Terms}
 use Rattle.scan.proofs.Places.{between-both}
@@ -47,15 +47,10 @@ use Rattle.scan.proofs.LentWidths.{Suits, suits-fits}
 
 -- ---- the text of a query with a line more
 
-ended-more : (ls : List (List ℕ)) (l : List ℕ) → endEach (ls ++ l ∷ []) ≡ endEach ls ++ (l ++ newline ∷ [])
-unfolding endEach
-ended-more [] l = refl
-ended-more (k ∷ ls) l =
-    ap (λ (m : List ℕ). k ++ newline ∷ m) (ended-more ls l) ∙ sym (append-assoc k (newline ∷ endEach ls) (l ++ newline ∷ []))
-
 text-more : (Q : Query) (A : Line) → queryText (Q ++ A ∷ []) ≡ queryText Q ++ (printQueryLine A ++ newline ∷ [])
-unfolding queryText
-text-more Q A = rw (map-append printQueryLine Q (A ∷ [])) (ended-more (tableTerms ∷ map printQueryLine Q) (printQueryLine A))
+unfolding queryText endEach
+text-more Q A =
+    rw (map-append printQueryLine Q (A ∷ [])) (ended-parts (tableTerms ∷ map printQueryLine Q) (printQueryLine A ∷ []))
 
 -- ---- the lines before a place
 
@@ -168,12 +163,13 @@ module _ {lent input rows : List ℕ} {q : QueryValue} {s h at : ℕ} (w : Lines
     pub lines-more : {rows′ : List ℕ} (d : LineValue) → LaidInto (getD (with-line q line .lines) (q .count) d) (q .count) rows rows′
         → LinesTo lent input rows′ (with-line q line) (bitOr s (r .shown)) (bitOr h (r .hidden)) (r .end)
     lines-more d laid =
-        let here : getD (with-line q line .lines) (q .count) d ≡ line = getD-set-same (q .lines) (q .count) line d (rw held-long room) in
+        let here : getD (with-line q line .lines) (q .count) d ≡ line
+        = getD-set-same (q .lines) (q .count) line d (rw held-long room) in
         record {
           lines = behind;
           held = held-more;
           few = simp length-append (omega (arith, counted, room));
-          suit = each-append (Suits lent) (w .lines) (A ∷ []) (w .suit) (each-cons (Suits lent) A [] suits (each-nil (Suits lent)));
+          suit = each-last (Suits lent) (w .lines) A (w .suit) suits;
           marked = marks-more;
           laid = laid-more here laid;
           text = rw (text-more (w .lines) A) (between-both (w .text) there);
@@ -185,11 +181,11 @@ module _ {lent input rows : List ℕ} {q : QueryValue} {s h at : ℕ} (w : Lines
   clear : meet 64 s h ≡ false → NoClash (w .lines)
   unfolding lineWithin termWithin
   clear m n A B a b i j =
-      let each = all-iff termWithin (A .columns) .0 (and-iff (upTo mostTables (A .table)) (all termWithin (A .columns)) .0 (w .suit A a .within) .1) in
-      let small = leb→le n lastVariable (each (shown n) i) in
-      let met : meet 64 s h ≡ true =
-      meet-iff 64 s h .1 (n, omega (arith, small), w .marked .shown-bits n small .1 (A, a, i), w .marked .hidden-bits n small .1 (B, b, j)) in
-      true≢false (sym met ∙ m)
+      let terms = and-iff (upTo mostTables (A .table)) (all termWithin (A .columns)) .0 (w .suit A a .within) .1 in
+      let small = leb→le n lastVariable (all-iff termWithin (A .columns) .0 terms (shown n) i) in
+      let s-bit = w .marked .shown-bits n small .1 (A, a, i) in
+      let h-bit = w .marked .hidden-bits n small .1 (B, b, j) in
+      true≢false (sym (meet-iff 64 s h .1 (n, omega (arith, small), s-bit, h-bit)) ∙ m)
 
   pub lines-scanned : {widths : List ℕ} → Widths lent widths → (q .count ≡ 0 → ⊥) → meet 64 s h ≡ false → NextCut input at
       → Scanned widths input (record { query = q; end = at }) rows

@@ -8,19 +8,19 @@ use borrow.Author.Tests.{ne-eqb}
 use lib.Dec.{T, le→leb}
 use lib.Ieee.Bits.{is-true}
 use lib.ListN.{length, getD, set, length-append}
-use Rattle.theory.specs.Query.{Term, constant, shown, hidden, _∈_}
+use Rattle.theory.specs.Query.{Term, constant, shown, hidden}
 use Rattle.theory.specs.Executable.Test.{all, kind, number}
 use Rattle.theory.proofs.Executable.Test.{all-iff}
 use Rattle.text.specs.Lines.{space, newline}
 use Rattle.text.specs.Numeral.{constantLimit}
 use Rattle.text.specs.Print.{decimal, joined}
-use Rattle.text.proofs.Each.{each-nil, each-cons, each-append}
+use Rattle.text.proofs.Each.{each-last}
 use Rattle.model.specs.Fields.{constantByte, shownByte, hiddenByte}
 use Rattle.model.specs.Limits.{mostColumns, lastVariable, termWithin}
 use Rattle.model.specs.Marks.{markOf, withMark}
 use Rattle.model.specs.Parsed.{withShown, withHidden, bitsOf}
 use Rattle.model.specs.Print.{printTerm}
-use Rattle.model.specs.Value.{pad, unusedTerm, termValue, termsValue}
+use Rattle.model.specs.Value.{termValue, termsValue}
 use Rattle.model.specs.declared.Term.{Term as TermValue}
 use Rattle.model.proofs.TermFields.{variable-small}
 use Rattle.model.proofs.Terms.{terms-more, bits-more, mark-shown, mark-hidden}
@@ -125,8 +125,7 @@ terms-one-more {text} {start} {at} {c} {r} {t} s h w u room es eh =
       holds =
           record {
             within = all-iff termWithin (ts ++ u .is ∷ []) .1
-                (each-append (λ x. T (termWithin x)) ts (u .is ∷ []) (all-iff termWithin ts .0 (w .holds .within))
-                (each-cons (λ x. T (termWithin x)) (u .is) [] (u .within) (each-nil (λ x. T (termWithin x)))));
+                (each-last (λ x. T (termWithin x)) ts (u .is) (all-iff termWithin ts .0 (w .holds .within)) (u .within));
             held = rw (w .holds .held, u .value, ← w .count) (terms-more ts (u .is) (omega (arith, w .count)));
             shown-bits = es ∙ rw (w .holds .shown-bits, u .value, bits-more) (mark-shown (bitsOf withShown 0 ts) (u .is));
             hidden-bits = eh ∙ rw (w .holds .hidden-bits, u .value, bits-more) (mark-hidden (bitsOf withHidden 0 ts) (u .is));

@@ -40,7 +40,8 @@ returns c = (λ some. absurd (some refl), c .before .before .before .before .bef
 loop-holds : tie.Need-loop-holds Inv-loop μ-loop
 loop-holds c =
     let n = c .before in
-    (lines-none (n .before .no-query .ensures) (n .names-at .ensures (not-false _ (c .if1 .left))), n .before .before .before .before .before .pre .2)
+    let s = n .before .before .before .before .before in
+    (lines-none (n .before .no-query .ensures) (n .names-at .ensures (not-false _ (c .if1 .left))), s .pre .2)
 
 -- ---- where there is no query
 
@@ -85,7 +86,8 @@ abbrev of-terms : tie.Else6 Inv-loop μ-loop → tie.Else5 Inv-loop μ-loop
 of-terms c = c .before .before .before
 
 terms : (c : tie.Else6 Inv-loop μ-loop) → let e = of-terms c in let d = of-width e in
-    TermsThere (input (turn (of-table d))) (d .before .before .table-at .result .end) (e .before .width-of .result) (c .before .before .terms-at .result)
+    TermsThere (input (turn (of-table d))) (d .before .before .table-at .result .end) (e .before .width-of .result)
+    (c .before .before .terms-at .result)
 terms c = c .before .before .terms-at .ensures (c .if6 .left)
 
 names-at-requires-2 : tie.Need-names-at-requires-2 Inv-loop μ-loop
@@ -171,8 +173,7 @@ loop-again c =
     let e = of-terms (of-line y) in
     let d = of-width e in
     let w = turn (of-table d) .loop .inv in
-    let some = e .if5 .left in
-    (
+    let some = e .if5 .left in (
       lines-more (w .0) _ _ _ (table d) (e .before .width-of .ensures some) (omega arith) (few e) (terms (of-line y)) (room (of-table d))
           (record { table = 0; terms = [] }) (y .lay-line .ensures),
       y .lay-line .ensures .long ∙ w .1,

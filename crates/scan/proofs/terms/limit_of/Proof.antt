@@ -1,5 +1,4 @@
 -- A constant has its own limit.
-use native.Mathlib.Omega.{arith}
 use borrow.Author.Tests.{eq-eqb, ne-eqb}
 use Rattle.text.specs.Numeral.{constantLimit}
 use Rattle.scan.specs.TermsAt.{limitOf}

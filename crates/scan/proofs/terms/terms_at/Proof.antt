@@ -1,7 +1,6 @@
 -- The loop's invariant: as many terms as were counted stand behind the start, and `r` holds them.
 use mathlib.Core.Path.{_≡_, refl}
-use mathlib.Core.List.{List}
-use Prim.Native.Nat.{ℕ, _-_, _≤_}
+use Prim.Native.Nat.{_-_, _≤_}
 use native.Mathlib.Omega.{arith}
 use borrow.Author.Needs.{needs}
 use Rattle.model.specs.Value.{pad, unusedTerm, termsValue}
