@@ -1,5 +1,5 @@
 -- The lines of a query before a place of an input: none, one more, and the query that they are where the text stops there.
-use mathlib.Core.Path.{_≡_, refl, sym, ap, _∙_, subst}
+use mathlib.Core.Path.{_≡_, sym, ap, _∙_, subst}
 use mathlib.Core.Bool.{true, false, true≢false}
 use mathlib.Core.List.{List, [], _∷_, _++_, map, map-append, append-assoc, List·Memᴰ·not-nil}
 use Prim.Native.Nat.{ℕ, _+_, _≤_, _<_}
@@ -148,7 +148,8 @@ module _ {lent input rows : List ℕ} {q : QueryValue} {s h at : ℕ} (w : Lines
     there : Between input at (r .end) (printQueryLine A ++ newline ∷ [])
     there = rw (line-bytes A, append-assoc) (between-both (table .0 .there) (terms .there))
 
-    laid-more : {rows′ : List ℕ} {l : LineValue} → l ≡ line → LaidInto l (q .count) rows rows′ → RowsTo (valueAt behind) (length behind) rows′
+    laid-more : {rows′ : List ℕ} {l : LineValue} → l ≡ line → LaidInto l (q .count) rows rows′
+        → RowsTo (valueAt behind) (length behind) rows′
     unfolding lineAt
     laid-more {rows′} {l} e laid =
         let none : Line = record { table = 0; columns = [] } in
