@@ -14,7 +14,7 @@ use Rattle.theory.specs.Archive.{AllFit}
 use Rattle.text.specs.Lines.{lines, sameBytes}
 use Rattle.text.specs.Names.{tableTerms}
 use Rattle.text.specs.Print.{endEach}
-use Rattle.text.proofs.Each.{each-nil, each-cons, each-append}
+use Rattle.text.proofs.Each.{each-last}
 use Rattle.text.proofs.Names.{same-bytes-iff}
 use Rattle.text.proofs.Joined.{ended-lines}
 use Rattle.model.specs.Fields.{queryLine}
@@ -45,10 +45,6 @@ none-read widths =
       clear = λ n A B i. absurd (List·Memᴰ·not-nil i);
     }
 
--- one more behind those of which each is as it should be
-each-more : (P : Line → Type 0) (l : List Line) (A : Line) → ((B : Line) → B ∈ l → P B) → P A → (B : Line) → B ∈ l ++ A ∷ [] → P B
-each-more P l A h k = each-append P l (A ∷ []) h (each-cons P A [] k (each-nil P))
-
 -- a line with a term and without a fault may stand behind them
 more-read : (widths : List ℕ) (earlier : List Line) (A : Line) → SoFar widths earlier → 1 ≤ length (A .columns)
     → fault widths earlier A ≡ 0 → SoFar widths (earlier ++ A ∷ [])
@@ -62,10 +58,10 @@ more-read widths earlier A w t e =
     let within = T-not-not (lineWithin A) (b .0) in
     record {
       few = omega (arith, length-append earlier (A ∷ []), nleb→lt mostLines (length earlier) (a .0));
-      terms = each-more (λ B. 1 ≤ length (B .columns)) earlier A (w .terms) t;
-      within = each-more (λ B. T (lineWithin B)) earlier A (w .within) within;
+      terms = each-last (λ B. 1 ≤ length (B .columns)) earlier A (w .terms) t;
+      within = each-last (λ B. T (lineWithin B)) earlier A (w .within) within;
       fits =
-          each-more (Fits widths) earlier A (w .fits)
+          each-last (Fits widths) earlier A (w .fits)
           (checked-fits widths A within (T-not-not (known widths A) (c .0)) (T-not-not (wide widths A) (d .0)));
       clear = clear-more earlier A (w .clear) (f .0);
     }

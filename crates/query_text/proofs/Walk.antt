@@ -54,7 +54,7 @@ behind-line widths earlier k text h = of-line (readFrom widths earlier k) text h
 abbrev pub with-line : QueryValue → Parsed → QueryValue
 with-line q p = record { count = q .count + 1; lines = set (q .lines) (q .count) (record { table = p .table; terms = p .terms }) }
 
-one-more : (earlier : List Line) (A : Line) → length earlier < mostLines
+pub one-more : (earlier : List Line) (A : Line) → length earlier < mostLines
     → set (pad mostLines unusedLine (map lineValue earlier)) (length earlier) (lineValue A)
     ≡ pad mostLines unusedLine (map lineValue (earlier ++ A ∷ []))
 one-more earlier A h =

@@ -98,16 +98,15 @@ length-one n h = ap length (decimal-one n h)
 pub length-more : (n : ℕ) → 10 ≤ n → length (decimal n) ≡ length (decimal (n / 10)) + 1
 length-more n h = ap length (decimal-more n h) ∙ length-append (decimal (n / 10)) (digit (n % 10) ∷ [])
 
+pub some-digit : (n : ℕ) → 1 ≤ length (decimal n)
+some-digit n = by-cases (decLt n 10) (λ s. omega (arith, length-one n s)) (λ g. omega (arith, length-more n (omega arith)))
+
 -- a number has at most k + 1 digits exactly when it is below 10 ^ (k + 1)
 pub length-iff : (k n : ℕ) → (n < 10 ^ suc k) ↔ (length (decimal n) ≤ suc k)
 length-iff zero n = (
   λ h. omega (arith, length-one n h),
   λ h. by-cases (decLt n 10) (λ s. s) (λ m. absurd (omega (arith, length-more n (omega arith), some-digit (n / 10)))),
 )
-  where
-    some-digit : (m : ℕ) → 1 ≤ length (decimal m)
-    some-digit m =
-        by-cases (decLt m 10) (λ s. omega (arith, length-one m s)) (λ g. omega (arith, length-more m (omega arith)))
 length-iff (suc k) n = (
   λ h. by-cases (decLt n 10) (λ s. omega (arith, length-one n s))
       (λ m. omega (arith, length-more n (omega arith), length-iff k (n / 10) .0 (omega arith))),
@@ -124,7 +123,7 @@ decimal-short n h = digits-iff n .0 h
 
 -- ---- the number
 
-after-last : (n : ℕ) (l : List ℕ) (b : ℕ) → digitsAfter n (l ++ b ∷ []) ≡ digitsAfter n l * 10 + (b - 48)
+pub after-last : (n : ℕ) (l : List ℕ) (b : ℕ) → digitsAfter n (l ++ b ∷ []) ≡ digitsAfter n l * 10 + (b - 48)
 unfolding digitsAfter
 after-last n [] b = refl
 after-last n (c ∷ l) b = after-last (n * 10 + (c - 48)) l b

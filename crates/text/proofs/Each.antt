@@ -16,5 +16,9 @@ module _ {X : Type 0} (P : X → Type 0) where
   pub each-append : (k l : List X) → Each k → Each l → Each (k ++ l)
   each-append k l h hs y m = ⊎-elim (h y) (hs y) (List·Memᴰ·append-cases k m)
 
+  -- one more behind them
+  pub each-last : (l : List X) (x : X) → Each l → P x → Each (l ++ x ∷ [])
+  each-last l x h k = each-append l (x ∷ []) h (each-cons x [] k each-nil)
+
   pub each-map : {Y : Type 0} (f : Y → X) (l : List Y) → ((y : Y) → List·Memᴰ y l → P (f y)) → Each (map f l)
   each-map f l h x m = let r = Memᴰ·of-map f l m in subst P (r .2) (h (r .0) (r .1))

@@ -2,7 +2,7 @@
 -- what is written, and how many there are.
 use mathlib.Core.Path.{_≡_, refl, sym, ap, ap₂, _∙_}
 use mathlib.Core.Bool.{Bool, true, false, cond, _&&_}
-use mathlib.Core.List.{List, [], _∷_, _++_, List·Memᴰ·head, List·Memᴰ·tail}
+use mathlib.Core.List.{List, [], _∷_, _++_, append-assoc, List·Memᴰ·head, List·Memᴰ·tail}
 use Prim.Native.Nat.{ℕ, suc, _+_, _*_, _≤_, _<_}
 use native.Mathlib.Omega.{arith}
 use lib.Dec.{T, leb, ltb, leb→le, ltb→lt, eqb}
@@ -157,6 +157,13 @@ ended-lines (b ∷ text) = go (eqb b newline) refl (ended-lines text)
     go true e rest = ap₂ {C = List ℕ} _∷_ (sym (eqb-true b newline e)) rest
     go false e rest = front (s .ended) (s .rest) ∙ ap (λ (m : List ℕ). b ∷ m) rest
 
+-- lines behind lines
+pub ended-parts : (a b : List (List ℕ)) → endEach (a ++ b) ≡ endEach a ++ endEach b
+unfolding endEach
+ended-parts [] b = refl
+ended-parts (l ∷ a) b =
+    ap (λ (m : List ℕ). l ++ newline ∷ m) (ended-parts a b) ∙ sym (append-assoc l (newline ∷ endEach a) (endEach b))
+
 -- ---- how long it is
 
 -- no longer than m
@@ -180,6 +187,4 @@ length-ended m (l ∷ ls) h =
     simp length-append (omega arith)
 
 pub length-parts : (a b : List (List ℕ)) → length (endEach (a ++ b)) ≡ length (endEach a) + length (endEach b)
-unfolding endEach
-length-parts [] b = omega arith
-length-parts (l ∷ a) b = let r = length-parts a b in simp length-append (omega arith)
+length-parts a b = ap length (ended-parts a b) ∙ length-append (endEach a) (endEach b)

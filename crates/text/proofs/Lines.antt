@@ -99,6 +99,12 @@ unfolding before
 before-clean b [] n = refl
 before-clean b (x ∷ p) n = before-there b x p (n x (List·Memᴰ·head refl)) ∙ ap suc (before-clean b p (λ y m. n y (List·Memᴰ·tail m)))
 
+-- b stands first behind bytes that are others
+pub before-ended : (b : ℕ) (p r : List ℕ) → ((x : ℕ) → List·Memᴰ x p → x ≡ b → ⊥) → before b (p ++ b ∷ r) ≡ length p
+before-ended b [] r n = before-here b b r refl
+before-ended b (x ∷ p) r n =
+    before-there b x (p ++ b ∷ r) (n x (List·Memᴰ·head refl)) ∙ ap suc (before-ended b p r (λ y m. n y (List·Memᴰ·tail m)))
+
 pub split-clean : (b : ℕ) (p : List ℕ) → ((x : ℕ) → List·Memᴰ x p → x ≡ b → ⊥) → split b p ≡ record { ended = []; rest = p }
 split-clean b p n = split-none b p (before-clean b p n)
 

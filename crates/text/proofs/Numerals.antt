@@ -121,7 +121,7 @@ unfolding leads
 no-byte [] e = badly-led [] refl
 no-byte (b ∷ l) e = absurd (omega arith)
 
-numeral-is : (l : List ℕ) → allDigits l ≡ true → leads l ≡ true → length l ≤ mostDigits → numeral l ≡ some (digitsAfter 0 l)
+pub numeral-is : (l : List ℕ) → allDigits l ≡ true → leads l ≡ true → length l ≤ mostDigits → numeral l ≡ some (digitsAfter 0 l)
 unfolding numeral isNumeral
 numeral-is l d f h = rw (d, f, le-leb (length l) mostDigits h)
 
