@@ -124,7 +124,7 @@ module _ (p : Policy) where
         λ i h. widths .kept i (omega (arith, h)) ∙ getD-set-other r everyWord i w 0 (λ q. omega (arith, q, h)) in
         let none : (i : ℕ) → freeWords ≤ i → getD r′ i 0 ≡ 0 =
         λ i h.
-            widths .behind i h ∙ getD-set-other r everyWord i w 0 (λ q. omega (arith, q, h)) ∙ l .behind i (omega (arith, h)) in
+        widths .behind i h ∙ getD-set-other r everyWord i w 0 (λ q. omega (arith, q, h)) ∙ l .behind i (omega (arith, h)) in
         record {
           long = widths .long ∙ length-set r everyWord w ∙ l .long;
           laid = λ views held. record {
@@ -188,7 +188,7 @@ free-kept {rows} {rows′} k w room same f p e =
     let o = f p e in
     let at : (q : ℕ) → q < mostColumns → laidTerm rows′ k q ≡ laidTerm rows k q =
     λ q h.
-        same-term rows rows′ k q (same (markPlace k q) (omega (arith, h, room))) (same (markPlace k q + 1) (omega (arith, h, room))) in
+    same-term rows rows′ k q (same (markPlace k q) (omega (arith, h, room))) (same (markPlace k q + 1) (omega (arith, h, room))) in
     record {
       there = o .there;
       shows = ap (λ (t : Term). t .mark) (at p (o .there)) ∙ o .shows;

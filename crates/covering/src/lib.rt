@@ -26,6 +26,7 @@ use preparing::WIDTH_WORDS;
 pub use preparing::every_partition;
 pub use preparing::prepare;
 pub use preparing::prepare_for_many;
+pub use preparing::widths;
 
 // ---- covering
 
@@ -55,14 +56,7 @@ fn obeys(v: Term, w: Term, a: Term, b: Term) -> bool
 // Whether a view covers a line of its table, which has `width` columns: the view in row `v`, the line in row `a` of other rows.
 // The columns that are not in the word `bound` are free: no rule breaks there, whatever the line has. The first broken rule ends the
 // comparison.
-pub fn covers(
-    bound: u64,
-    width: usize,
-    views: &[u64],
-    v: usize,
-    lines: &[u64],
-    a: usize,
-) -> bool
+pub fn covers(bound: u64, width: usize, views: &[u64], v: usize, lines: &[u64], a: usize) -> bool
     requires { ⌜ (bound < 2 ^ width) × (width ≤ mostColumns) × HasRow (now views) v × HasRow (now lines) a ⌝ }
     ensures { λ r. ⌜ CoversRow bound width (now (views .entry)) v (now (lines .entry)) a r ⌝ }
 {

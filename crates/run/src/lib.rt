@@ -1,5 +1,7 @@
 // A run of the desk over a file of queries: from the policy's bytes and the queries' bytes to the bytes written.
 
+mod next;
+
 ghost use mathlib.Core.Path.{_≡_};
 ghost use Prim.Native.Nat.{_+_, _≤_};
 ghost use lib.ListN.{length};
@@ -11,8 +13,11 @@ ghost use Rattle.run.specs.Writing.{LineWritten, ReplyWritten, AllWritte
 use covering::Prepared;
 use desk::Reply;
 use desk::Session;
+use model::MOST_LINES;
 use model::Outcome;
+use model::ROW;
 use model::Tables;
+use next::decide_next;
 
 // The most bytes of queries, and room for the output of any such: a query text behind the first has the 12 bytes of its names line at
 // least.
@@ -74,19 +79,19 @@ fn decide_all(
     ensures { λ to. ⌜ AllWritten tables (now (ready .entry)) opened (now (queries .entry)) (now (out .entry)) start (now (out .exit)) to ⌝ }
     ensures { λ to. ⌜ to ≤ start + linesLong ⌝ }
 {
+    let mut lines = [0; MOST_LINES * ROW];
     let mut s = opened;
     let mut query: u64 = 1;
     let mut at = 0;
     let mut to = start;
     while at < queries.len() {
-        let rest = &queries[at..];
-        let n = cutting::next_cut(rest);
-        let d = desk::decide_loaded(tables, ready, s, &rest[..n]);
+        let next = decide_next(tables, ready, s, &queries[at..], &mut lines);
+        let d = next.decision;
         s = d.session;
         let reply = d.reply;
         to = put_reply(out, to, query, reply, words::ones(s.mask));
         query += 1;
-        at = at + n;
+        at = at + next.end;
     }
     to
 }
@@ -104,7 +109,7 @@ pub fn run(policy: &[u8], queries: &[u8], out: &mut [u8]) -> usize
         Outcome::Refused { number, line } => put_line(out, at, 0, b"refused", 0, number, line),
         Outcome::Accepted => {
             let p = l.policy;
-            let ready = covering::prepare(p);
+            let ready = covering::prepare_for_many(p);
             let tables = p.tables;
             let opened = desk::open_loaded(&ready);
             decide_all(tables, &ready, opened, queries, out, at)

@@ -99,10 +99,11 @@ columns-less c = c .drop-least .ensures .less
 columns-again : tie.Need-columns-again Inv-loop μ-loop Inv-columns μ-columns
 columns-again c =
     let inner = c .before .before in
-    let found = inner .before .before .before in
-    (inner .loop .inv .0,
-    passed-row (found .before .before .columns .inv .1) (found .least .ensures) (c .drop-least .ensures)
-    (λ j l. inner .loop .inv .2 j (omega (arith, l, c .before .loop-test .left))))
+    let found = inner .before .before .before in (
+      inner .loop .inv .0,
+      passed-row (found .before .before .columns .inv .1) (found .least .ensures) (c .drop-least .ensures)
+          (λ j l. inner .loop .inv .2 j (omega (arith, l, c .before .loop-test .left))),
+    )
 
 returns : tie.Need-returns Inv-loop μ-loop Inv-columns μ-columns
 returns c view line ev ea t wv wa free =

@@ -109,9 +109,12 @@ covers-requires c κs =
     let s = at .before .before .before .before in
     let (long, lines, a) = s .before .before .pre .0 in
     let (_, _, width, every, _, _) = at .loop .inv in
-    let k = small found in
-    (cut .without .ensures .below _ (rw every (low-bits-below _ _ (le-refl _))), rw width (narrow s), omega (arith, k, long),
-    omega (arith, lines, a))
+    let k = small found in (
+      cut .without .ensures .below _ (rw every (low-bits-below _ _ (le-refl _))),
+      rw width (narrow s),
+      omega (arith, k, long),
+      omega (arith, lines, a),
+    )
 
 -- the place found, behind the test of covering
 abbrev found : (c : tie.Then1 Inv-loop μ-loop) → tie.After-least Inv-loop μ-loop

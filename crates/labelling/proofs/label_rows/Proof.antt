@@ -32,12 +32,13 @@ unfolding labels settling settlingLines settles
 returns c =
     let shown = c .before .before .show .ensures in
     let shared = c .before .before .before .before in
-    let left = shared .before .before .before in
-    (λ d t Q ready g.
-    c .label-lines .ensures d t Q _ ready (g .count) (rows-shown _ g shown) (shared .shared .ensures Q (g .count) (g .laid))
-    ∙ ap (λ (R : Query). labelsValue (map (label (d .views)) (show R)) (settlingLines d (show R)))
-    (left .lines-left .ensures Q (g .count) (g .laid)),
-    shown .long ∙ left .before .before .before .pre .1)
+    let left = shared .before .before .before in (
+      λ d t Q ready g.
+          c .label-lines .ensures d t Q _ ready (g .count) (rows-shown _ g shown) (shared .shared .ensures Q (g .count) (g .laid))
+          ∙ ap (λ (R : Query). labelsValue (map (label (d .views)) (show R)) (settlingLines d (show R)))
+          (left .lines-left .ensures Q (g .count) (g .laid)),
+      shown .long ∙ left .before .before .before .pre .1,
+    )
 
 pub label-rows-spec : {M : Type 1} → statement M
 label-rows-spec = tie.close (tie.spec lines-left-requires shared-requires show-requires label-lines-requires returns)

@@ -50,11 +50,11 @@ put-line-requires c κs = search needs
 enum-told : tie.Need-enum-told
 enum-told c = search needs
 
-prepare-requires : tie.Need-prepare-requires
-prepare-requires c κs = counted (loaded (c .before .before) .2)
+prepare-for-many-requires : tie.Need-prepare-for-many-requires
+prepare-for-many-requires c κs = counted (loaded (c .before .before) .2)
 
 open-loaded-requires : tie.Need-open-loaded-requires
-open-loaded-requires c κs = c .before .before .prepare .ensures .long
+open-loaded-requires c κs = c .before .before .prepare-for-many .ensures .long
 
 decide-all-requires : tie.Need-decide-all-requires
 decide-all-requires c κs =
@@ -66,7 +66,7 @@ decide-all-requires c κs =
     let n : b .put-bytes .result ≡ namesLong = b .put-bytes .ensures .next in
     let z : length (b .put-bytes .last .0) ≡ length (s .args .out .now) = b .put-bytes .ensures .size in
     let h : mostOutput ≤ length (s .args .out .now) = s .pre .1 in
-    ((d, ready l (made .prepare .ensures)), s .pre .0, omega (arith, n, z, h))
+    ((d, ready l (made .prepare-for-many .ensures)), s .pre .0, omega (arith, n, z, h))
 
 same-length : tie.Need-same-length
 same-length c = search needs
@@ -101,7 +101,7 @@ returns-2 c =
     let n : named m .put-bytes .result ≡ namesLong = named m .put-bytes .ensures .next in
     let z : length (named m .put-bytes .last .0) ≡ length (start m .args .out .now) = named m .put-bytes .ensures .size in
     let h : mostOutput ≤ length (start m .args .out .now) = start m .pre .1 in
-    let prepared = ready l (made .prepare .ensures) in
+    let prepared = ready l (made .prepare-for-many .ensures) in
     let w = r .decide-all .ensures .0 d prepared in (
       behind-names _ (named m .put-bytes .ensures) (rw (opened .open-loaded .ensures d _ prepared) at w) (written-accepted _ _ d e),
       omega (arith, w .size, r .decide-all .ensures .1, n, z, h),
@@ -118,7 +118,7 @@ run-spec =
     slice-aggregate-put-line
     put-line-requires
     enum-told
-    prepare-requires
+    prepare-for-many-requires
     open-loaded-requires
     decide-all-requires
     same-length

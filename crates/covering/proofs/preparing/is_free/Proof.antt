@@ -44,10 +44,12 @@ loop-less c = omega arith
 
 loop-again : tie.Need-loop-again Inv-loop μ-loop
 loop-again c =
-    let inv = c .before .before .before .loop .inv in
-    (omega arith, below-more _ _ (inv .1) 
-    (⊎-elim (λ w e. absurd (false≢true (sym (w .2 .left) ∙ w .1 .ensures ∙ same-own (e ∙ sym (c .before .term-at2 .ensures)))))
-    (λ w e. w .left) (c .if2 .came)))
+    let inv = c .before .before .before .loop .inv in (
+      omega arith,
+      below-more _ _ (inv .1)
+          (⊎-elim (λ w e. absurd (false≢true (sym (w .2 .left) ∙ w .1 .ensures ∙ same-own (e ∙ sym (c .before .term-at2 .ensures)))))
+          (λ w e. w .left) (c .if2 .came)),
+    )
 
 returns-3 : tie.Need-returns-3 Inv-loop μ-loop
 returns-3 c e =
