@@ -47,3 +47,9 @@ abbrev pub WithColumn : ℕ → ℕ → Term → List ℕ → ℕ → ℕ → �
 WithColumn m p t rows b q r =
     (A B : TheLine) → t ≡ termAt (lineValue A) p → length (A .columns) ≤ mostColumns → HoldsLine rows b B
     → Upto (SameColumn A B) (p * mostColumns) m → Upto (SameColumn A B) (p * mostColumns + q) r
+
+-- q is a column, and the first of row b that has the term where one has
+pub record FirstColumn (rows : List ℕ) (b : ℕ) (t : Term) (q : ℕ) : Type 0 where
+  pub below : q < mostColumns
+  pub here : (p : ℕ) → p < mostColumns → laidTerm rows b p ≡ t → laidTerm rows b q ≡ t
+  pub first : (p : ℕ) → p < q → laidTerm rows b p ≡ t → ⊥

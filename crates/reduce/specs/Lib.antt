@@ -7,3 +7,4 @@ pub mod Left
 pub mod PairNumbers
 pub mod Pairs
 pub mod Showing
+pub mod Worded

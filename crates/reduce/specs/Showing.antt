@@ -16,7 +16,10 @@ use Rattle.model.specs.Rows.{termAt, laidTable, laidTerm}
 use Rattle.model.specs.declared.Term.{Term}
 use Rattle.model.specs.declared.Line.{Line}
 
--- "variables 0 to 63": the hidden ones of the query
+-- "variables 0 to 63": the hidden ones of a line, and of the query
+abbrev pub SmallLine : TheLine → Type 0
+SmallLine A = (n : ℕ) → hidden n ∈ A .columns → n ≤ lastVariable
+
 abbrev pub Small : Query → Type 0
 Small Q = (n : ℕ) (A : TheLine) → A ∈ Q → hidden n ∈ A .columns → n ≤ lastVariable
 
