@@ -2,6 +2,8 @@
 pub mod Below
 pub mod Agree
 pub mod LineValues
+pub mod Hidden
+pub mod LineWords
 pub mod EqualColumns
 -- The lines of a query, and those left.
 pub mod Left
@@ -19,7 +21,6 @@ pub mod Maps
 pub mod Passes
 pub mod Staying
 -- Showing.
-pub mod Hidden
 pub mod Seen
 pub mod Shown
 pub mod ShownTerms
