@@ -3,6 +3,7 @@ pub mod Below
 pub mod Agree
 pub mod LineValues
 pub mod EqualColumns
+pub mod FirstColumns
 -- The lines of a query, and those left.
 pub mod Left
 pub mod Lines
