@@ -5,6 +5,7 @@ pub mod LineValues
 pub mod Hidden
 pub mod LineWords
 pub mod EqualColumns
+pub mod FirstColumns
 -- The lines of a query, and those left.
 pub mod Left
 pub mod Lines
