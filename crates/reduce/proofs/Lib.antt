@@ -4,6 +4,9 @@ pub mod Agree
 pub mod LineValues
 pub mod Hidden
 pub mod LineWords
+pub mod Looked
+pub mod KeptColumns
+pub mod TargetLines
 pub mod EqualColumns
 pub mod FirstColumns
 -- The lines of a query, and those left.
@@ -12,7 +15,7 @@ pub mod Lines
 pub mod LaidRows
 -- The pairs of a line and a target.
 pub mod PairNumbers
-pub mod LinePairs
+pub mod GoingPairs
 pub mod Tables
 -- A map as an assignment of targets, and the search for one.
 pub mod Rows
