@@ -16,6 +16,7 @@ pub mod LaidRows
 -- The pairs of a line and a target.
 pub mod PairNumbers
 pub mod GoingPairs
+pub mod OwnTerms
 pub mod Tables
 -- A map as an assignment of targets, and the search for one.
 pub mod Rows

@@ -2,7 +2,7 @@
 use mathlib.Core.Path.{_≡_, refl, sym, ap, subst, _∙_}
 use mathlib.Core.Logic.{_↔_, _⊎_, inl, inr, ⊎-elim}
 use mathlib.Core.Bool.{Bool, cond}
-use mathlib.Core.List.{List, []}
+use mathlib.Core.List.{List}
 use Prim.Native.Nat.{ℕ, _+_, _*_, _≤_, _<_}
 use native.Mathlib.Decide.{ℕ-discrete, decLt}
 use native.Mathlib.Omega.{arith}
@@ -12,7 +12,6 @@ use lib.ListN.{length, getD, set, length-set}
 use lib.Seq.{getD-set-same, getD-set-other}
 use Rattle.theory.specs.Query.{Query}
 use Rattle.theory.specs.Query.{Line as TheLine}
-use Rattle.theory.proofs.Tuples.{getD-mem}
 use Rattle.words.specs.Bits.{bit}
 use Rattle.words.specs.Sets.{setBit, Upto}
 use Rattle.words.proofs.Bits.{bit-zero}
@@ -25,7 +24,7 @@ use Rattle.reduce.specs.Agree.{lineAt}
 use Rattle.reduce.specs.Laid.{Laid}
 use Rattle.reduce.specs.Showing.{Small, SmallLine}
 use Rattle.reduce.specs.Worded.{lineWords, queryWordsLong, columnsWord, hiddenWord, twiceWord, HiddenAt, Repeats, LineWorded, LineEntered, Worded}
-use Rattle.reduce.proofs.Lines.{laid-few}
+use Rattle.reduce.proofs.Lines.{laid-few, small-line}
 
 -- ---- the columns of a line
 
@@ -142,11 +141,8 @@ words-kept {j = j} same w = record {
 
 pub words-more : {Q : Query} {rows before after : List ℕ} (i : ℕ) → Laid Q rows → Small Q → i < length Q → WordedTo Q i before
     → LineEntered rows i before after → WordedTo Q (i + 1) after
-unfolding lineAt
 words-more {Q} {rows} {before} {after} i laid small l w e j h = go (ℕ-discrete j i)
   where
     go : Dec (j ≡ i) → LineWorded (lineAt Q j) after j
-    go (yes x) =
-        rw x (e .line (lineAt Q i) (laid .row i l) (laid-few laid i l)
-        (λ n m. small n (lineAt Q i) (getD-mem Q i (record { table = 0; columns = [] }) l) m))
+    go (yes x) = rw x (e .line (lineAt Q i) (laid .row i l) (laid-few laid i l) (small-line small i l))
     go (no f) = words-kept (λ k b. e .others k (omega arith)) (w j (omega arith))

@@ -31,7 +31,7 @@ use Rattle.reduce.proofs.LineValues.{used, unused}
 
 -- ---- terms
 
-value-same : (t u : TheTerm) → termValue t ≡ termValue u → t ≡ u
+pub value-same : (t u : TheTerm) → termValue t ≡ termValue u → t ≡ u
 value-same t u e = sym (as-term t) ∙ ap asTerm e ∙ as-term u
 
 -- a term that is no hidden variable stands over itself
@@ -49,35 +49,35 @@ same-kept (hidden n) u f = tt
 
 -- ---- two lines
 
+-- the column has no hidden variable
+abbrev Plain : TheLine → ℕ → Type 0
+Plain A p = (n : ℕ) → HiddenAt A n p → ⊥
+
+pub plain-same : (A S : TheLine) → Goes A S → (p : ℕ) → p < length (A .columns) → Plain A p → at A p ≡ at S p
+plain-same A S g p l f =
+    kept-same (at A p) (at S p) (λ n e. f n (record { there = l; is = e }))
+    (g .kept (at A p, at S p) (zip-place (A .columns) (S .columns) p (constant 0) (constant 0) (g .width) l))
+
 module _ (A S : TheLine) (few : length (A .columns) ≤ mostColumns) (few′ : length (S .columns) ≤ mostColumns) where
-  -- the columns of A that have no hidden variable
-  abbrev Plain : ℕ → Type 0
-  Plain p = (n : ℕ) → HiddenAt A n p → ⊥
-
-  plain-same : Goes A S → (p : ℕ) → p < length (A .columns) → Plain p → at A p ≡ at S p
-  plain-same g p l f =
-      kept-same (at A p) (at S p) (λ n e. f n (record { there = l; is = e }))
-      (g .kept (at A p, at S p) (zip-place (A .columns) (S .columns) p (constant 0) (constant 0) (g .width) l))
-
-  pub goes-terms : T (goes A S) → (p : ℕ) → Plain p → termAt (lineValue A) p ≡ termAt (lineValue S) p
+  pub goes-terms : T (goes A S) → (p : ℕ) → Plain A p → termAt (lineValue A) p ≡ termAt (lineValue S) p
   goes-terms t p f = go (decLt p (length (A .columns)))
     where
       g : Goes A S
       g = goes-iff A S .0 t
 
       go : Dec (p < length (A .columns)) → termAt (lineValue A) p ≡ termAt (lineValue S) p
-      go (yes l) = used A few p l ∙ ap termValue (plain-same g p l f) ∙ sym (used S few′ p (omega (arith, g .width)))
+      go (yes l) = used A few p l ∙ ap termValue (plain-same A S g p l f) ∙ sym (used S few′ p (omega (arith, g .width)))
       go (no n) = unused A few p (omega arith) ∙ sym (unused S few′ p (omega (arith, g .width)))
 
   -- where A has no hidden variable, its target has none
-  pub goes-plain : T (goes A S) → (p n : ℕ) → Plain p → HiddenAt S n p → ⊥
+  pub goes-plain : T (goes A S) → (p n : ℕ) → Plain A p → HiddenAt S n p → ⊥
   goes-plain t p n f h =
       let g = goes-iff A S .0 t in
       let l : p < length (A .columns) = omega (arith, g .width, h .there) in
-      f n (record { there = l; is = plain-same g p l f ∙ h .is })
+      f n (record { there = l; is = plain-same A S g p l f ∙ h .is })
 
   pub terms-go : A .table ≡ S .table → length (A .columns) ≡ length (S .columns)
-      → ((p : ℕ) → p < mostColumns → Plain p → termAt (lineValue A) p ≡ termAt (lineValue S) p) → T (goes A S)
+      → ((p : ℕ) → p < mostColumns → Plain A p → termAt (lineValue A) p ≡ termAt (lineValue S) p) → T (goes A S)
   terms-go table width same =
       goes-iff A S .1 (record {
         table = table;

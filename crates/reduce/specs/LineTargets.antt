@@ -7,8 +7,10 @@ use lib.Dec.{T}
 use lib.ListN.{length}
 use Rattle.theory.specs.Query.{Query}
 use Rattle.words.specs.Bits.{bit}
+use Rattle.model.specs.Limits.{mostColumns}
 use Rattle.model.specs.Rows.{laidTable, laidTerm}
 use Rattle.reduce.specs.Agree.{goes, lineAt}
+use Rattle.reduce.specs.Showing.{hiddenTerm}
 use Rattle.reduce.specs.Worded.{columnsWord}
 
 -- rows a and s have the same terms in the columns of a word
@@ -23,3 +25,9 @@ pub record Near (rows words : List ℕ) (a kept s : ℕ) : Type 0 where
 -- the word has the lines that line a could go to
 abbrev pub TargetWord : Query → ℕ → ℕ → Type 0
 TargetWord Q a m = (s : ℕ) → (bit m s ≡ 1) ↔ ((s < length Q) × T (goes (lineAt Q a) (lineAt Q s)))
+
+-- row t has one term wherever row i has one hidden variable of the word
+abbrev pub KeepsOwn : List ℕ → ℕ → ℕ → ℕ → Type 0
+KeepsOwn rows i t w =
+    (p q : ℕ) → p < mostColumns → q < mostColumns → T (hiddenTerm (laidTerm rows i p)) → bit w (laidTerm rows i p .number) ≡ 1
+    → laidTerm rows i p ≡ laidTerm rows i q → laidTerm rows t p ≡ laidTerm rows t q
