@@ -1,34 +1,45 @@
 -- A line that could go to another goes by itself exactly when the other has one term wherever it has one hidden variable twice.
 use mathlib.Core.Path.{_≡_, refl, sym, ap, subst, _∙_}
 use mathlib.Core.Logic.{_↔_}
-use mathlib.Core.Bool.{Bool, true, false}
+use mathlib.Core.Bool.{Bool, true, false, not, _&&_}
 use mathlib.Core.List.{List}
 use Prim.Native.Nat.{ℕ, _+_, _≤_, _<_}
 use native.Mathlib.Decide.{ℕ-discrete, decLt}
 use native.Mathlib.Omega.{arith}
+use borrow.Author.Tests.{not-true, not-false}
+use lib.Bits.{bitAnd}
 use lib.Dec.{T}
 use lib.ListN.{length}
+use mir.Facts.{eqb-yes, yes-eqb}
 use Rattle.theory.specs.Query.{constant, shown, hidden, Query}
 use Rattle.theory.specs.Query.{Term as TheTerm, Line as TheLine}
 use Rattle.theory.specs.Cover.{at}
 use Rattle.theory.proofs.Tuples.{zip-place, place-zip}
+use Rattle.theory.proofs.Executable.Test.{and-iff}
 use Rattle.theory.proofs.Executable.Reduce.{agrees-iff}
-use Rattle.words.specs.Bits.{bit}
+use Rattle.words.specs.Bits.{bit, isSet}
+use Rattle.words.proofs.Answers.{true-holds}
+use Rattle.words.proofs.Bits.{bit-zero}
+use Rattle.words.proofs.Marks.{by-test}
+use Rattle.words.proofs.Masks.{bit-and-iff}
 use Rattle.model.specs.Limits.{mostColumns}
-use Rattle.model.specs.Value.{termValue, lineValue}
+use Rattle.model.specs.Value.{sameTerm, termValue, lineValue}
 use Rattle.model.specs.Rows.{termAt, laidTerm}
 use Rattle.model.specs.declared.Term.{Term}
 use Rattle.reduce.specs.Agree.{goes, agree, lineAt}
 use Rattle.reduce.specs.Columns.{FirstColumn}
 use Rattle.reduce.specs.LineTargets.{KeepsOwn}
 use Rattle.reduce.specs.PairNumbers.{lineOf, targetOf}
-use Rattle.reduce.specs.Pairs.{Going, Candidate}
+use Rattle.reduce.specs.Pairs.{Going, Goings, Candidate, CandidateWord}
 use Rattle.reduce.specs.Showing.{SmallLine, hiddenTerm}
 use Rattle.reduce.specs.Worded.{twiceWord, HiddenAt, Repeats, LineWorded, Given}
 use Rattle.reduce.proofs.Agree.{Goes, Joint, goes-iff, agree-iff}
+use Rattle.reduce.proofs.FirstColumns.{same-term-iff}
 use Rattle.reduce.proofs.Hidden.{at-hidden, hidden-at}
 use Rattle.reduce.proofs.Lines.{laid-few, small-line}
 use Rattle.reduce.proofs.LineValues.{used}
+use Rattle.reduce.proofs.Looked.{Sieved, sieved-none, sieved-all}
+use Rattle.reduce.proofs.PairNumbers.{moving, moving-set}
 use Rattle.reduce.proofs.TargetLines.{value-same, plain-same}
 
 -- ---- by the first column of a variable
@@ -76,6 +87,35 @@ module _ (rows : List ℕ) (i t w : ℕ) where
   pub own-broken : {p q : ℕ} → p < mostColumns → Own p → FirstColumn rows i (laidTerm rows i p) q
       → (laidTerm rows t p ≡ laidTerm rows t q → ⊥) → KeepsOwn rows i t w → ⊥
   own-broken {p} {q} b h f n k = n (k p q b (f .below) (h .0) (h .1) (sym (f .here p b refl)))
+
+  -- no variable stands in two columns
+  pub own-nothing : w ≡ 0 → KeepsOwn rows i t w
+  own-nothing z p q b d h s e = absurd (omega (arith, bit-zero (laidTerm rows i p .number), rw z at s))
+
+  -- the terms and tests of one column, as they are read
+  module _ (p : ℕ) {x : Term} (on : Bool) (ex : x ≡ laidTerm rows i p) (eo : on ≡ (hiddenTerm x && isSet w (x .number))) where
+    own-is : T on ↔ Own p
+    own-is =
+        let t = laidTerm rows i p in
+        let a = and-iff (hiddenTerm t) (isSet w (t .number)) in
+        by-test (rw ex at eo) (λ h. let (y, z) = a .0 h in (y, eqb-yes z), λ h. a .1 (h .0, yes-eqb (h .1)))
+
+    pub own-skipped : on ≡ false → OwnTo p → OwnTo (p + 1)
+    own-skipped e o = own-more o (λ h. absurd (subst T e (own-is .1 h)))
+
+    module _ {q : ℕ} {u v : Term} (same : Bool) (first : FirstColumn rows i x q) (eu : u ≡ laidTerm rows t p) (ev : v ≡ laidTerm rows t q)
+        (es : same ≡ sameTerm u v) where
+      same-is : T same ↔ (laidTerm rows t p ≡ laidTerm rows t q)
+      same-is = by-test (rw (eu, ev) at es) (same-term-iff (laidTerm rows t p) (laidTerm rows t q))
+
+      pub own-passed : not same ≡ false → OwnTo p → OwnTo (p + 1)
+      own-passed e o =
+          own-more o (λ h. (q, subst (λ (y : Term). FirstColumn rows i y q) ex first, same-is .0 (true-holds (not-false same e))))
+
+      pub own-failed : p < mostColumns → on ≡ true → not same ≡ true → KeepsOwn rows i t w → ⊥
+      own-failed b e n =
+          own-broken b (own-is .0 (true-holds e)) (subst (λ (y : Term). FirstColumn rows i y q) ex first)
+          (λ h. subst T (not-true same n) (same-is .1 h))
 
 -- ---- two lines
 
@@ -166,7 +206,7 @@ module _ {Q : Query} {n : ℕ} {rows words : List ℕ} (g : Given Q n rows words
       let kept = k c d b e (rw (row c b) h) set (row c b ∙ same ∙ sym (row d e)) in
       value-same (at S c) (at S d) (sym (target-term c (one .there)) ∙ kept ∙ target-term d (other .there))
 
-  pub candidate-iff : Candidate Q p ↔ KeepsOwn rows i t (twiceWord words i)
+  candidate-iff : Candidate Q p ↔ KeepsOwn rows i t (twiceWord words i)
   candidate-iff =
       let r = agree-iff A S A S in (
         λ c. twice-own (joint-twice A S over (r .0 (c .goes) .2)),
@@ -176,3 +216,36 @@ module _ {Q : Query} {n : ℕ} {rows words : List ℕ} (g : Given Q n rows words
           goes = r .1 (over, over, twice-joint A S over (own-twice k));
         },
       )
+
+  pub candidate-test : {r : Bool} → (r ≡ true) ↔ KeepsOwn rows i t (twiceWord words i) → (r ≡ true) ↔ Candidate Q p
+  candidate-test w = (λ e. candidate-iff .1 (w .0 e), λ c. w .1 (candidate-iff .0 c))
+
+  -- a line that stays goes by itself
+  pub stay-candidate : i ≡ t → Candidate Q p
+  stay-candidate e = candidate-iff .1 (λ c d b l h s same. rw (← e) same)
+
+pub candidate-going : {Q : Query} {p : ℕ} → Candidate Q p → Going Q p
+candidate-going {Q} {p} c =
+    let A = lineAt Q (lineOf p) in
+    let S = lineAt Q (targetOf p) in
+    record { line = c .line; target = c .target; goes = goes-iff A S .1 (agree-iff A S A S .0 (c .goes) .0) }
+
+-- ---- the candidates among the pairs that go
+
+pub candidates-first : {Q : Query} {n : ℕ} {rows words : List ℕ} (g : Given Q n rows words) (m : ℕ) → Goings Q m
+    → Sieved (Candidate Q) m (bitAnd m moving) m
+candidates-first g m goings =
+    sieved-none (λ b e. bit-and-iff m moving b .0 e .0)
+    (λ b e z.
+    let going = goings b .0 e in
+    let moves : (lineOf b ≡ targetOf b → ⊥) → ⊥ =
+    λ f. omega (arith, z, bit-and-iff m moving b .1 (e, moving-set b (omega (arith, going .line, g .laid .lines)) f)) in
+    stay-candidate g b going (stable (ℕ-discrete (lineOf b) (targetOf b)) moves))
+  where
+    stable : {P : Type 0} → Dec P → ((P → ⊥) → ⊥) → P
+    stable (yes x) f = x
+    stable (no n) f = absurd (f n)
+
+pub candidates-all : {Q : Query} {c m : ℕ} → Goings Q c → Sieved (Candidate Q) c 0 m → CandidateWord Q m
+candidates-all goings k p =
+    let r = sieved-all k p in (λ e. r .0 e .1, λ h. r .1 (goings p .1 (candidate-going h), h))
