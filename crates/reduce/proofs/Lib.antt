@@ -11,6 +11,8 @@ pub mod LaidRows
 -- The pairs of a line and a target.
 pub mod PairNumbers
 pub mod LinePairs
+pub mod PairRows
+pub mod Links
 pub mod Tables
 -- A map as an assignment of targets, and the search for one.
 pub mod Rows

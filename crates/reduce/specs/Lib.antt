@@ -4,6 +4,7 @@ pub mod Columns
 pub mod Extends
 pub mod Laid
 pub mod Left
+pub mod Links
 pub mod PairNumbers
 pub mod Pairs
 pub mod Showing
