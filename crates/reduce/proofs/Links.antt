@@ -3,22 +3,28 @@ use mathlib.Core.Path.{_≡_, refl, sym, ap, subst, _∙_}
 use mathlib.Core.Logic.{_↔_, _⊎_, inl, inr, ⊎-elim}
 use mathlib.Core.List.{List}
 use Prim.Native.Nat.{ℕ, _+_, _*_, _-_, _/_, _%_, _^_, _<_}
-use native.Mathlib.Decide.{ℕ-discrete}
+use native.Mathlib.Decide.{ℕ-discrete, decLt}
 use native.Mathlib.Omega.{arith}
 use lib.Bits.{bitAnd, bitOr}
 use lib.ListN.{length, getD, set, length-set}
 use lib.Seq.{getD-set-same, getD-set-other}
+use Rattle.theory.specs.Query.{hidden}
 use Rattle.words.specs.Bits.{bit}
-use Rattle.words.specs.Sets.{Least, LeastDropped}
+use Rattle.words.specs.Sets.{Upto, Least, LeastDropped}
 use Rattle.words.proofs.Bits.{bit-zero, bit-within}
 use Rattle.words.proofs.Masks.{bit-and-iff, bit-or-iff}
 use Rattle.words.proofs.Lowest.{dropped-same, dropped-other}
 use Rattle.words.proofs.Marks.{left-before}
 use Rattle.words.proofs.ClearBits.{low-bits-set, low-bits-below}
 use Rattle.model.specs.Limits.{mostLines}
+use Rattle.model.specs.Rows.{laidTerm}
+use Rattle.model.specs.Value.{termValue}
+use Rattle.model.specs.declared.Term.{Term}
+use Rattle.reduce.specs.Columns.{FirstColumn}
 use Rattle.reduce.specs.PairNumbers.{mostPairs, pairOf, lineOf, targetOf}
-use Rattle.reduce.specs.Links.{LineBits, LinksPut}
+use Rattle.reduce.specs.Links.{LineBits, AgreeWord, HasVariable, Linked, LinksPut}
 use Rattle.reduce.proofs.PairNumbers.{line-of, target-of}
+use Rattle.reduce.proofs.FirstColumns.{first-unique}
 use Rattle.reduce.proofs.PairRows.{row-bits, row-of-bits}
 
 -- ---- a word of pairs, line by line
@@ -70,6 +76,21 @@ module _ {P : ℕ → Type 0} {row : ℕ} where
   pub rows-all : {m : ℕ} → RowsSet P row 0 m → (k : ℕ) → (bit m k ≡ 1) ↔ ((bit row (lineOf k) ≡ 1) × P k)
   rows-all r k = let w = r .done k in (λ e. let h = w .0 e in (h .0, h .2), λ h. w .1 (h .0, bit-zero (lineOf k), h .1))
 
+-- no bit behind the lines
+pub upto-lines : {P : ℕ → Type 0} {x : ℕ} → Upto P mostLines x → LineBits x
+upto-lines {x = x} u i e = go (decLt i mostLines)
+  where
+    go : Dec (i < mostLines) → i < mostLines
+    go (yes l) = l
+    go (no n) = absurd (omega (arith, u .past i (omega arith)))
+
+-- the rows that agree with row t
+pub agreeing : (rows : List ℕ) (t p q : ℕ) {x : Term} {r : ℕ} → x ≡ laidTerm rows t p → Upto (λ u. x ≡ laidTerm rows u q) mostLines r
+    → (u : ℕ) → u < mostLines
+    → (bit r u ≡ 1) ↔ (laidTerm rows (lineOf (pairOf t u)) p ≡ laidTerm rows (targetOf (pairOf t u)) q)
+agreeing rows t p q e w u l =
+    let v = w .below u l in rw (line-of t u l, target-of t u l) (λ h. sym e ∙ v .0 h, λ h. v .1 (e ∙ h))
+
 -- ---- a word of pairs, variable by variable
 
 -- of the pairs of lines of `row`, those are set that pass the tests of the variables no longer in `rest`
@@ -109,6 +130,18 @@ module _ {P : ℕ → ℕ → Type 0} {row c : ℕ} where
   pub passed-all : {w : ℕ} → TestsPassed P row c 0 w → (k : ℕ) → bit row (lineOf k) ≡ 1
       → (bit w k ≡ 1) ↔ ((n : ℕ) → bit c n ≡ 1 → P n k)
   passed-all r k h = let v = r .done k h in (λ e n y. v .0 e n y (bit-zero n), λ f. v .1 (λ n y z. f n y))
+
+-- a variable that rows a and b have links the rows that agree in its first columns
+pub linking : {rows : List ℕ} (n row x : ℕ) {a b p q : ℕ} → HasVariable rows a n → HasVariable rows b n
+    → FirstColumn rows a (termValue (hidden n)) p → FirstColumn rows b (termValue (hidden n)) q → AgreeWord rows p q row x
+    → (k : ℕ) → bit row (lineOf k) ≡ 1 → (bit x k ≡ 1) ↔ Linked rows n a b (lineOf k) (targetOf k)
+linking {rows} n row x h g first second w k e = (
+  λ s i j f d.
+      let x = first-unique (h .0) (h .1) (h .2) first f in
+      let y = first-unique (g .0) (g .1) (g .2) second d in
+      ap (laidTerm rows (lineOf k)) (sym x) ∙ w k .0 s .1 ∙ ap (laidTerm rows (targetOf k)) y,
+  λ f. w k .1 (e, f _ _ first second),
+)
 
 -- ---- links put into a table
 
