@@ -13,6 +13,8 @@ pub mod PairNumbers
 pub mod LinePairs
 pub mod PairRows
 pub mod Links
+pub mod LaidColumns
+pub mod LinkedPairs
 pub mod Tables
 -- A map as an assignment of targets, and the search for one.
 pub mod Rows
