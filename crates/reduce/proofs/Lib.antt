@@ -15,6 +15,7 @@ pub mod PairRows
 pub mod Links
 pub mod LaidColumns
 pub mod LinkedPairs
+pub mod PairedLines
 pub mod Tables
 -- A map as an assignment of targets, and the search for one.
 pub mod Rows
