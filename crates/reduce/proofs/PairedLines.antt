@@ -1,12 +1,12 @@
 -- The table of compatible candidates, line by line and for each line by the later lines.
 use mathlib.Core.Path.{_≡_, refl, sym, _∙_}
 use mathlib.Core.Logic.{_↔_, _⊎_, inl, inr, ⊎-elim}
-use mathlib.Core.List.{List}
+use mathlib.Core.List.{List, []}
 use Prim.Native.Nat.{ℕ, _-_, _^_, _≤_, _<_}
 use native.Mathlib.Decide.{ℕ-discrete}
 use native.Mathlib.Omega.{arith}
 use lib.Bits.{bitAnd}
-use lib.ListN.{length, getD}
+use lib.ListN.{length, getD, replicate}
 use Rattle.theory.specs.Query.{Query}
 use Rattle.words.specs.Bits.{bit}
 use Rattle.words.specs.Sets.{Least, LeastDropped}
@@ -15,6 +15,8 @@ use Rattle.words.proofs.ClearBits.{low-bits-set}
 use Rattle.words.proofs.Lowest.{dropped-same, dropped-other}
 use Rattle.words.proofs.Marks.{left-before}
 use Rattle.model.specs.Limits.{mostLines}
+use Rattle.model.specs.Value.{pad}
+use Rattle.model.proofs.Pad.{pad-get}
 use Rattle.reduce.specs.PairNumbers.{mostPairs, pairOf, lineOf, targetOf}
 use Rattle.reduce.specs.Extends.{TargetsOf}
 use Rattle.reduce.specs.Links.{Linked, LinkWord, LinksPut, RowPaired}
@@ -116,12 +118,16 @@ pub record LinesPaired (Q : Query) (rows m rest : ℕ) (table : List ℕ) : Type
   pub pairs : (p b : ℕ) → bit m p ≡ 1 → bit m b ≡ 1 → bit rows (lineOf p) ≡ 1 → bit rest (lineOf p) ≡ 0 → bit rows (lineOf b) ≡ 1
       → lineOf p < lineOf b → (bit (getD table p 0) b ≡ 1) ↔ Joined Q p b
 
+no-entry : (p : ℕ) → _≡_ {A = ℕ} (getD (replicate mostPairs 0) p 0) 0
+unfolding pad
+no-entry p = pad-get mostPairs 0 [] p
+
 module _ {Q : Query} {rows m : ℕ} where
-  pub paired-none : {table : List ℕ} → ((p : ℕ) → getD table p 0 ≡ 0) → LinesPaired Q rows m rows table
-  paired-none f = record {
+  pub paired-none : LinesPaired Q rows m rows (replicate mostPairs 0)
+  paired-none = record {
     some = λ i e. e;
     later = λ i j e h l. h;
-    empty = λ p b e. rw (f p) (bit-zero b);
+    empty = λ p b e. rw (no-entry p) (bit-zero b);
     pairs = λ p b x y h z. absurd (omega arith);
   }
 

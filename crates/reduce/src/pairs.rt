@@ -115,7 +115,7 @@ fn pair_row(lines: &[u64], words: &[u64], candidates: u64, a: usize, later: u64,
 // For each candidate of a line of `rows` the targets of later lines of `rows` that are compatible with it.
 pub fn pair_words(lines: &[u64], words: &[u64], rows: u64, candidates: u64) -> [u64; PAIRS]
     requires { ⌜ (length (now lines) ≡ queryRowsLong) × (length (now words) ≡ queryWordsLong) × (rows < 2 ^ mostLines) ⌝ }
-    ensures { λ r. ⌜ ((Q : TheQuery) (n : ℕ) → Given Q n (now (lines .entry)) (now (words .entry)) → rows < 2 ^ n → CandidateWord Q candidates → PairsTabled Q rows candidates r) ⌝ }
+    ensures { λ r. ⌜ ((Q : TheQuery) (n : ℕ) → Given Q n (now (lines .entry)) (now (words .entry)) → CandidateWord Q candidates → PairsTabled Q rows candidates r) ⌝ }
     ensures { λ r. ⌜ length r ≡ mostPairs ⌝ }
 {
     let mut table = [0; PAIRS];
