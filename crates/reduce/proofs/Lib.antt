@@ -16,7 +16,6 @@ pub mod Links
 pub mod LaidColumns
 pub mod LinkedPairs
 pub mod PairedLines
-pub mod Tables
 -- A map as an assignment of targets, and the search for one.
 pub mod Rows
 pub mod Assign
