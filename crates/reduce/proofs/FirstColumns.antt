@@ -1,10 +1,10 @@
 -- The first column of a row that has a term.
-use mathlib.Core.Path.{_≡_, sym, ap, _∙_}
+use mathlib.Core.Path.{_≡_, refl, sym, ap, _∙_}
 use mathlib.Core.Logic.{_↔_}
 use mathlib.Core.Bool.{Bool, true, false, false≢true}
 use mathlib.Core.List.{List}
-use Prim.Native.Nat.{ℕ, _+_, _<_}
-use native.Mathlib.Decide.{ℕ-discrete}
+use Prim.Native.Nat.{ℕ, zero, suc, _+_, _<_}
+use native.Mathlib.Decide.{ℕ-discrete, decLt}
 use native.Mathlib.Omega.{arith}
 use lib.Dec.{T, eqb}
 use mir.Facts.{eqb-yes, yes-eqb}
@@ -52,3 +52,27 @@ module _ {rows : List ℕ} {b : ℕ} {t : Term} where
 
   pub found-none : NoneBefore rows b t mostColumns → FirstColumn rows b t 0
   found-none f = record { below = omega arith; here = λ p l e. absurd (f .none p l e); first = λ p l e. omega arith }
+
+  -- one column, where some column has the term
+  pub first-unique : {p q : ℕ} (k : ℕ) → k < mostColumns → laidTerm rows b k ≡ t → FirstColumn rows b t p → FirstColumn rows b t q → p ≡ q
+  first-unique {p} {q} k l e f g = go (decLt p q) (decLt q p)
+    where
+      go : Dec (p < q) → Dec (q < p) → p ≡ q
+      go (yes h) d = absurd (g .first p h (f .here k l e))
+      go (no n) (yes h) = absurd (f .first q h (g .here k l e))
+      go (no n) (no m) = omega arith
+
+  -- a search from column q on
+  find-first : (n q : ℕ) → NoneBefore rows b t q → q + n ≡ mostColumns → (p : ℕ) × FirstColumn rows b t p
+  find-first zero q f e = let l : q ≡ mostColumns = omega arith in (0, found-none (rw l at f))
+  find-first (suc n) q f e =
+      go (sameTerm t (laidTerm rows b q)) refl (λ h. find-first n (q + 1) (none-more (sameTerm t (laidTerm rows b q)) f refl refl h) (omega arith))
+    where
+      go : (on : Bool) → on ≡ sameTerm t (laidTerm rows b q) → (sameTerm t (laidTerm rows b q) ≡ false → (p : ℕ) × FirstColumn rows b t p)
+          → (p : ℕ) × FirstColumn rows b t p
+      go true h later = (q, first-found true (omega arith) f refl h refl)
+      go false h later = later (sym h)
+
+-- there is one
+pub first-column : (rows : List ℕ) (b : ℕ) (t : Term) → (q : ℕ) × FirstColumn rows b t q
+first-column rows b t = find-first mostColumns 0 (record { none = λ p l e. omega arith }) (omega arith)

@@ -17,7 +17,11 @@ pub mod LaidRows
 pub mod PairNumbers
 pub mod GoingPairs
 pub mod OwnTerms
-pub mod Tables
+pub mod PairRows
+pub mod Links
+pub mod LaidColumns
+pub mod LinkedPairs
+pub mod PairedLines
 -- A map as an assignment of targets, and the search for one.
 pub mod Rows
 pub mod Assign

@@ -2,11 +2,13 @@
 // only through hidden variables that both have, and a candidate sends each of its variables to one term.
 
 ghost use mathlib.Core.Path.{_≡_};
-ghost use Prim.Native.Nat.{ℕ, _^_, _≤_, _<_};
+ghost use Prim.Native.Nat.{ℕ, _^_, _<_};
 ghost use lib.ListN.{length};
 ghost use Rattle.theory.specs.Query.{Query as TheQuery};
+ghost use Rattle.words.specs.Sets.{Upto};
 ghost use Rattle.model.specs.Limits.{mostColumns, mostLines};
-ghost use Rattle.model.specs.Rows.{queryRowsLong};
+ghost use Rattle.model.specs.Rows.{queryRowsLong, laidTerm};
+ghost use Rattle.reduce.specs.Links.{LineBits, AgreeWord, LinkWord, LinksPut, RowPaired};
 ghost use Rattle.reduce.specs.Pairs.{CandidateWord, PairsTabled};
 ghost use Rattle.reduce.specs.PairNumbers.{mostPairs};
 ghost use Rattle.reduce.specs.Worded.{queryWordsLong, Given};
@@ -27,6 +29,8 @@ const EVERY_PAIR: u64 = 0xffff_ffff_ffff_ffff;
 
 // The rows that have the term in column q. Rows behind the last line are no candidates, whatever they have.
 fn agree_row(lines: &[u64], t: Term, q: usize) -> u64
+    requires { ⌜ (length (now lines) ≡ queryRowsLong) × (q < mostColumns) ⌝ }
+    ensures { λ r. ⌜ Upto (λ u. t ≡ laidTerm (now (lines .entry)) u q) mostLines r ⌝ }
 {
     let mut m = 0;
     let mut u = 0;
@@ -40,6 +44,8 @@ fn agree_row(lines: &[u64], t: Term, q: usize) -> u64
 
 // The targets t of `row` and rows u such that t has in column p what u has in column q, as bit t * MOST_LINES + u.
 fn agree_word(lines: &[u64], p: usize, q: usize, row: u64) -> u64
+    requires { ⌜ (length (now lines) ≡ queryRowsLong) × (p < mostColumns) × (q < mostColumns) × LineBits row ⌝ }
+    ensures { λ r. ⌜ AgreeWord (now (lines .entry)) p q row r ⌝ }
 {
     let mut m: u64 = 0;
     let mut rest = row;
@@ -55,6 +61,8 @@ fn agree_word(lines: &[u64], p: usize, q: usize, row: u64) -> u64
 // The targets t of line a and u of line b that agree on each of the hidden variables `shared`, which both lines have, as bit
 // t * MOST_LINES + u. The first column of a variable is enough, since candidates go by themselves.
 fn link_word(lines: &[u64], shared: u64, a: usize, b: usize, row: u64) -> u64
+    requires { ⌜ (length (now lines) ≡ queryRowsLong) × (a < mostLines) × (b < mostLines) × LineBits row ⌝ }
+    ensures { λ r. ⌜ LinkWord (now (lines .entry)) shared a b row r ⌝ }
 {
     let mut w = EVERY_PAIR;
     let mut rest = shared;
@@ -73,6 +81,8 @@ fn link_word(lines: &[u64], shared: u64, a: usize, b: usize, row: u64) -> u64
 
 // For each target t of line a, which are `row`, the targets of line b that `w` has beside it.
 fn put_links(w: u64, row: u64, a: usize, b: usize, table: &mut [u64])
+    requires { ⌜ (length (now table) ≡ mostPairs) × (a < mostLines) × (b < mostLines) × LineBits row ⌝ }
+    ensures { λ _. ⌜ LinksPut w row a b (now (table .entry)) (now (table .exit)) ⌝ }
 {
     let mut rest = row;
     while rest != 0 {
@@ -86,6 +96,10 @@ fn put_links(w: u64, row: u64, a: usize, b: usize, table: &mut [u64])
 
 // The links of line a with the lines `later`.
 fn pair_row(lines: &[u64], words: &[u64], candidates: u64, a: usize, later: u64, table: &mut [u64])
+    requires { ⌜ (length (now lines) ≡ queryRowsLong) × (length (now words) ≡ queryWordsLong) × (length (now table) ≡ mostPairs) ⌝ }
+    requires { ⌜ (a < mostLines) × LineBits later ⌝ }
+    ensures { λ _. ⌜ ((Q : TheQuery) (n : ℕ) → Given Q n (now (lines .entry)) (now (words .entry)) → CandidateWord Q candidates → RowPaired Q candidates a later (now (table .entry)) (now (table .exit))) ⌝ }
+    ensures { λ _. ⌜ length (now (table .exit)) ≡ mostPairs ⌝ }
 {
     let row = row_of(candidates, TARGETS, a as u64);
     let mut rest = later;
@@ -101,7 +115,7 @@ fn pair_row(lines: &[u64], words: &[u64], candidates: u64, a: usize, later: u64,
 // For each candidate of a line of `rows` the targets of later lines of `rows` that are compatible with it.
 pub fn pair_words(lines: &[u64], words: &[u64], rows: u64, candidates: u64) -> [u64; PAIRS]
     requires { ⌜ (length (now lines) ≡ queryRowsLong) × (length (now words) ≡ queryWordsLong) × (rows < 2 ^ mostLines) ⌝ }
-    ensures { λ r. ⌜ ((Q : TheQuery) (n : ℕ) → Given Q n (now (lines .entry)) (now (words .entry)) → rows < 2 ^ n → CandidateWord Q candidates → PairsTabled Q rows candidates r) ⌝ }
+    ensures { λ r. ⌜ ((Q : TheQuery) (n : ℕ) → Given Q n (now (lines .entry)) (now (words .entry)) → CandidateWord Q candidates → PairsTabled Q rows candidates r) ⌝ }
     ensures { λ r. ⌜ length r ≡ mostPairs ⌝ }
 {
     let mut table = [0; PAIRS];
