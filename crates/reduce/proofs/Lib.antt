@@ -2,6 +2,11 @@
 pub mod Below
 pub mod Agree
 pub mod LineValues
+pub mod Hidden
+pub mod LineWords
+pub mod Looked
+pub mod KeptColumns
+pub mod TargetLines
 pub mod EqualColumns
 pub mod FirstColumns
 -- The lines of a query, and those left.
@@ -10,7 +15,8 @@ pub mod Lines
 pub mod LaidRows
 -- The pairs of a line and a target.
 pub mod PairNumbers
-pub mod LinePairs
+pub mod GoingPairs
+pub mod OwnTerms
 pub mod PairRows
 pub mod Links
 pub mod LaidColumns
@@ -24,7 +30,6 @@ pub mod Maps
 pub mod Passes
 pub mod Staying
 -- Showing.
-pub mod Hidden
 pub mod Seen
 pub mod Shown
 pub mod ShownTerms

@@ -5,6 +5,7 @@ pub mod Columns
 pub mod Extends
 pub mod Laid
 pub mod Left
+pub mod LineTargets
 pub mod Links
 pub mod PairNumbers
 pub mod Pairs

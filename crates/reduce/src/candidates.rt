@@ -6,10 +6,11 @@ ghost use mathlib.Core.Logic.{_↔_};
 ghost use Prim.Native.Nat.{ℕ, _<_};
 ghost use lib.ListN.{length};
 ghost use Rattle.theory.specs.Query.{Query as TheQuery};
-ghost use Rattle.model.specs.Limits.{mostColumns, mostLines};
+ghost use Rattle.model.specs.Limits.{mostLines};
 ghost use Rattle.model.specs.Rows.{queryRowsLong};
+ghost use Rattle.reduce.specs.LineTargets.{KeepsOwn};
 ghost use Rattle.reduce.specs.Pairs.{Goings, CandidateWord};
-ghost use Rattle.reduce.specs.Worded.{queryWordsLong, Given};
+ghost use Rattle.reduce.specs.Worded.{queryWordsLong, twiceWord, Given};
 use crate::columns::column_of;
 use crate::hiding::twice_of;
 use crate::showing::is_shared;
@@ -21,6 +22,8 @@ pub const MOVING: u64 = 0x7fbf_dfef_f7fb_fdfe;
 
 // Whether row t has one term wherever row i has one of the variables `twice`.
 fn keeps_own(lines: &[u64], i: usize, t: usize, twice: u64) -> bool
+    requires { ⌜ (length (now lines) ≡ queryRowsLong) × (i < mostLines) × (t < mostLines) ⌝ }
+    ensures { λ r. ⌜ (r ≡ true) ↔ KeepsOwn (now (lines .entry)) i t twice ⌝ }
 {
     let mut p = 0;
     while p < MOST_COLUMNS {
@@ -38,6 +41,8 @@ fn keeps_own(lines: &[u64], i: usize, t: usize, twice: u64) -> bool
 
 // The same, told at once of a line that has no variable in two columns.
 fn goes_itself(lines: &[u64], words: &[u64], i: usize, t: usize) -> bool
+    requires { ⌜ (length (now lines) ≡ queryRowsLong) × (length (now words) ≡ queryWordsLong) × (i < mostLines) × (t < mostLines) ⌝ }
+    ensures { λ r. ⌜ (r ≡ true) ↔ KeepsOwn (now (lines .entry)) i t (twiceWord (now (words .entry)) i) ⌝ }
 {
     let twice = twice_of(words, i);
     if twice == 0 {

@@ -2,11 +2,15 @@
 // with target p % MOST_LINES.
 
 ghost use mathlib.Core.Path.{_≡_};
+ghost use mathlib.Core.Bool.{true};
+ghost use mathlib.Core.Logic.{_↔_};
 ghost use Prim.Native.Nat.{_^_, _≤_, _<_};
 ghost use lib.ListN.{length};
 ghost use Rattle.theory.specs.Query.{Query as TheQuery};
 ghost use Rattle.model.specs.Limits.{mostColumns, mostLines};
 ghost use Rattle.model.specs.Rows.{queryRowsLong};
+ghost use Rattle.words.specs.Sets.{Upto};
+ghost use Rattle.reduce.specs.LineTargets.{SameAt, Near, TargetWord};
 ghost use Rattle.reduce.specs.Pairs.{Goings};
 ghost use Rattle.reduce.specs.Worded.{queryWordsLong, Given};
 use crate::hiding::columns_of;
@@ -19,6 +23,7 @@ const COLUMNS: u64 = (1 << MOST_COLUMNS) - 1;
 // Whether rows a and s have the same terms in these columns.
 fn same_at(lines: &[u64], a: usize, s: usize, columns: u64) -> bool
     requires { ⌜ (length (now lines) ≡ queryRowsLong) × (a < mostLines) × (s < mostLines) × (columns < 2 ^ mostColumns) ⌝ }
+    ensures { λ r. ⌜ (r ≡ true) ↔ SameAt (now (lines .entry)) a s columns ⌝ }
 {
     let mut rest = columns;
     while rest != 0 {
@@ -34,6 +39,8 @@ fn same_at(lines: &[u64], a: usize, s: usize, columns: u64) -> bool
 // The lines of line a's table that have no hidden variable in the columns `kept`, as bits. One word is tested for each line, so that
 // nothing branches: the pairs are many and few pass.
 fn near(n: usize, lines: &[u64], words: &[u64], a: usize, kept: u64) -> u64
+    requires { ⌜ (n ≤ mostLines) × (length (now lines) ≡ queryRowsLong) × (length (now words) ≡ queryWordsLong) × (a < mostLines) ⌝ }
+    ensures { λ r. ⌜ Upto (Near (now (lines .entry)) (now (words .entry)) a kept) n r ⌝ }
 {
     let table = model::table_at(lines, a);
     let mut m = 0;
@@ -48,8 +55,11 @@ fn near(n: usize, lines: &[u64], words: &[u64], a: usize, kept: u64) -> u64
 
 // The lines that line a could go to, itself among them.
 fn goings_of(n: usize, lines: &[u64], words: &[u64], a: usize) -> u64
+    requires { ⌜ (n ≤ mostLines) × (length (now lines) ≡ queryRowsLong) × (length (now words) ≡ queryWordsLong) × (a < n) ⌝ }
+    ensures { λ r. ⌜ r < 2 ^ mostLines ⌝ }
+    ensures { λ r. ⌜ ((Q : TheQuery) → Given Q n (now (lines .entry)) (now (words .entry)) → TargetWord Q a r) ⌝ }
 {
-    let kept = COLUMNS ^ columns_of(words, a);
+    let kept = COLUMNS & (COLUMNS ^ columns_of(words, a));
     let mut m = words::set_bit(0, a as u64);
     let mut rest = words::clear_bit(near(n, lines, words, a, kept), a as u64);
     while rest != 0 {
