@@ -28,6 +28,7 @@ pub mod Assign
 pub mod Maps
 -- Taking lines out.
 pub mod Passes
+pub mod GoingAlone
 pub mod Staying
 -- Showing.
 pub mod Seen

@@ -14,14 +14,11 @@ use Rattle.reduce.specs.Worded.{hiddenWord}
 abbrev pub VariablesIn : (words : List ℕ) (rows w : ℕ) → Type 0
 VariablesIn words rows w = (j n : ℕ) → bit rows j ≡ 1 → bit (hiddenWord words j) n ≡ 1 → bit w n ≡ 1
 
--- of the first k columns, those in which row i has one of the variables `others` have it in row b too
-abbrev pub KeepsBefore : (rows : List ℕ) (i b others k : ℕ) → Type 0
-KeepsBefore rows i b others k =
-    (p : ℕ) → p < k → T (hiddenTerm (laidTerm rows i p) && isSet others (laidTerm rows i p .number)) → laidTerm rows i p ≡ laidTerm rows b p
-
 -- row b has each of the variables `others` that row i has, where row i has it
 abbrev pub Keeps : (rows : List ℕ) (i b others : ℕ) → Type 0
-Keeps rows i b others = KeepsBefore rows i b others mostColumns
+Keeps rows i b others =
+    (p : ℕ) → p < mostColumns → T (hiddenTerm (laidTerm rows i p) && isSet others (laidTerm rows i p .number))
+    → laidTerm rows i p ≡ laidTerm rows b p
 
 -- one of the targets does
 pub record GoesAlone (rows : List ℕ) (i targets others : ℕ) : Type 0 where
