@@ -20,11 +20,10 @@ use Rattle.words.proofs.SetBits.{set-bit-iff, set-bit-below}
 use Rattle.model.specs.Limits.{mostLines}
 use Rattle.reduce.specs.Agree.{goes, lineAt}
 use Rattle.reduce.specs.LineTargets.{SameAt, Near, TargetWord}
-use Rattle.reduce.specs.PairNumbers.{pairOf, lineOf, targetOf}
+use Rattle.reduce.specs.PairNumbers.{lineOf, targetOf}
 use Rattle.reduce.specs.Pairs.{Going, Goings}
 use Rattle.reduce.specs.Worded.{columnsWord, Given}
 use Rattle.reduce.proofs.KeptColumns.{keptColumns}
-use Rattle.reduce.proofs.PairNumbers.{line-of, target-of}
 use Rattle.reduce.proofs.TargetLines.{goes-near, same-goes, goes-self}
 
 -- ---- the targets of line a

@@ -1,12 +1,12 @@
 -- The columns without a hidden variable as a word, and the one test of two lines that is made before their terms are compared.
-use mathlib.Core.Path.{_≡_, refl, sym, _∙_}
+use mathlib.Core.Path.{_≡_, sym, _∙_}
 use mathlib.Core.Logic.{_↔_, ⊎-elim}
 use mathlib.Core.Bool.{cond}
 use mathlib.Core.List.{List}
 use Prim.Native.Nat.{ℕ, _+_, _-_, _^_, _<_}
 use native.Mathlib.Nat.{lt-of-le-of-lt}
 use native.Mathlib.Omega.{arith}
-use lib.Bits.{bitAnd, bitOr, bitXor, differ, and-le-l, and-le-r, or-add-and, xor-add-and, xor-self}
+use lib.Bits.{bitAnd, bitOr, bitXor, and-le-l, and-le-r, or-add-and, xor-add-and, xor-self}
 use lib.Dec.{T, eqb}
 use mir.Facts.{eqb-yes, yes-eqb}
 use Rattle.words.specs.Bits.{bit}

@@ -1,13 +1,10 @@
 -- Lines that one map can send to lines, column by column.
-pub mod Below
 pub mod Agree
 pub mod LineValues
 pub mod Hidden
 pub mod LineWords
 pub mod Looked
 pub mod KeptColumns
-pub mod TargetLines
-pub mod EqualColumns
 pub mod FirstColumns
 -- The lines of a query, and those left.
 pub mod Left
@@ -15,11 +12,12 @@ pub mod Lines
 pub mod LaidRows
 -- The pairs of a line and a target.
 pub mod PairNumbers
-pub mod GoingPairs
-pub mod OwnTerms
 pub mod PairRows
 pub mod Links
 pub mod LaidColumns
+pub mod TargetLines
+pub mod GoingPairs
+pub mod OwnTerms
 pub mod LinkedPairs
 pub mod PairedLines
 -- A map as an assignment of targets, and the search for one.

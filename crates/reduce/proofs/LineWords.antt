@@ -1,10 +1,10 @@
 -- The three words of a line, column by column, and those of a query, line by line.
-use mathlib.Core.Path.{_≡_, refl, sym, ap, subst, _∙_}
+use mathlib.Core.Path.{_≡_, subst}
 use mathlib.Core.Logic.{_↔_, _⊎_, inl, inr, ⊎-elim}
 use mathlib.Core.Bool.{Bool, cond}
 use mathlib.Core.List.{List}
 use Prim.Native.Nat.{ℕ, _+_, _*_, _≤_, _<_}
-use native.Mathlib.Decide.{ℕ-discrete, decLt}
+use native.Mathlib.Decide.{ℕ-discrete}
 use native.Mathlib.Omega.{arith}
 use lib.Bits.{bitAnd, bitOr}
 use lib.Dec.{T}
@@ -18,12 +18,10 @@ use Rattle.words.proofs.Bits.{bit-zero}
 use Rattle.words.proofs.Masks.{bit-and-iff, bit-or-iff}
 use Rattle.words.proofs.Marks.{upto-none, upto-more, upto-all}
 use Rattle.model.specs.Limits.{mostColumns}
-use Rattle.model.specs.Rows.{LaidAt}
-use Rattle.model.specs.Value.{lineValue}
 use Rattle.reduce.specs.Agree.{lineAt}
 use Rattle.reduce.specs.Laid.{Laid}
-use Rattle.reduce.specs.Showing.{Small, SmallLine}
-use Rattle.reduce.specs.Worded.{lineWords, queryWordsLong, columnsWord, hiddenWord, twiceWord, HiddenAt, Repeats, LineWorded, LineEntered, Worded}
+use Rattle.reduce.specs.Showing.{Small}
+use Rattle.reduce.specs.Worded.{lineWords, columnsWord, hiddenWord, twiceWord, HiddenAt, Repeats, LineWorded, LineEntered}
 use Rattle.reduce.proofs.Lines.{laid-few, small-line}
 
 -- ---- the columns of a line

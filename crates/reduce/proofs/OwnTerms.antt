@@ -1,6 +1,6 @@
 -- A line that could go to another goes by itself exactly when the other has one term wherever it has one hidden variable twice.
 use mathlib.Core.Path.{_≡_, refl, sym, ap, subst, _∙_}
-use mathlib.Core.Logic.{_↔_}
+use mathlib.Core.Logic.{_↔_, ⊎-elim}
 use mathlib.Core.Bool.{Bool, true, false, not, _&&_}
 use mathlib.Core.List.{List}
 use Prim.Native.Nat.{ℕ, _+_, _≤_, _<_}
@@ -11,12 +11,10 @@ use lib.Bits.{bitAnd}
 use lib.Dec.{T}
 use lib.ListN.{length}
 use mir.Facts.{eqb-yes, yes-eqb}
-use Rattle.theory.specs.Query.{constant, shown, hidden, Query}
-use Rattle.theory.specs.Query.{Term as TheTerm, Line as TheLine}
+use Rattle.theory.specs.Query.{hidden, Query}
+use Rattle.theory.specs.Query.{Line as TheLine}
 use Rattle.theory.specs.Cover.{at}
-use Rattle.theory.proofs.Tuples.{zip-place, place-zip}
 use Rattle.theory.proofs.Executable.Test.{and-iff}
-use Rattle.theory.proofs.Executable.Reduce.{agrees-iff}
 use Rattle.words.specs.Bits.{bit, isSet}
 use Rattle.words.proofs.Answers.{true-holds}
 use Rattle.words.proofs.Bits.{bit-zero}
@@ -26,33 +24,22 @@ use Rattle.model.specs.Limits.{mostColumns}
 use Rattle.model.specs.Value.{sameTerm, termValue, lineValue}
 use Rattle.model.specs.Rows.{termAt, laidTerm}
 use Rattle.model.specs.declared.Term.{Term}
-use Rattle.reduce.specs.Agree.{goes, agree, lineAt}
+use Rattle.reduce.specs.Agree.{goes, lineAt}
 use Rattle.reduce.specs.Columns.{FirstColumn}
 use Rattle.reduce.specs.LineTargets.{KeepsOwn}
 use Rattle.reduce.specs.PairNumbers.{lineOf, targetOf}
 use Rattle.reduce.specs.Pairs.{Going, Goings, Candidate, CandidateWord}
-use Rattle.reduce.specs.Showing.{SmallLine, hiddenTerm}
-use Rattle.reduce.specs.Worded.{twiceWord, HiddenAt, Repeats, LineWorded, Given}
-use Rattle.reduce.proofs.Agree.{Goes, Joint, goes-iff, agree-iff}
-use Rattle.reduce.proofs.FirstColumns.{same-term-iff}
+use Rattle.reduce.specs.Showing.{hiddenTerm}
+use Rattle.reduce.specs.Worded.{twiceWord, HiddenAt, Given}
+use Rattle.reduce.proofs.Agree.{Goes, goes-iff, agree-iff}
+use Rattle.reduce.proofs.FirstColumns.{same-term-iff, first-unique}
 use Rattle.reduce.proofs.Hidden.{at-hidden, hidden-at}
+use Rattle.reduce.proofs.LaidColumns.{value-same, hidden-or-not, goes-same, joint-columns, laid-column}
 use Rattle.reduce.proofs.Lines.{laid-few, small-line}
-use Rattle.reduce.proofs.LineValues.{used}
 use Rattle.reduce.proofs.Looked.{Sieved, sieved-none, sieved-all}
 use Rattle.reduce.proofs.PairNumbers.{moving, moving-set}
-use Rattle.reduce.proofs.TargetLines.{value-same, plain-same}
 
 -- ---- by the first column of a variable
-
--- the first column of a term is one
-first-one : {rows : List ℕ} {i : ℕ} {x : Term} {p q r : ℕ} → p < mostColumns → laidTerm rows i p ≡ x → FirstColumn rows i x q
-    → FirstColumn rows i x r → q ≡ r
-first-one {q = q} {r} b e f g = go (decLt q r) (decLt r q)
-  where
-    go : Dec (q < r) → Dec (r < q) → q ≡ r
-    go (yes l) d = absurd (g .first q l (f .here _ b e))
-    go (no n) (yes l) = absurd (f .first r l (g .here _ b e))
-    go (no n) (no m) = omega arith
 
 module _ (rows : List ℕ) (i t w : ℕ) where
   -- column p of row i has a variable of the word
@@ -81,7 +68,7 @@ module _ (rows : List ℕ) (i t w : ℕ) where
   own-all o p q b d h s e =
       let (x, f, u) = o .own p b (h, s) in
       let (y, g, v) = o .own q d (rw e at h, rw e at s) in
-      let one : x ≡ y = first-one b e (rw e at f) g in
+      let one : x ≡ y = first-unique p b e (rw e at f) g in
       u ∙ ap (laidTerm rows t) one ∙ sym v
 
   pub own-broken : {p q : ℕ} → p < mostColumns → Own p → FirstColumn rows i (laidTerm rows i p) q
@@ -123,35 +110,17 @@ module _ (rows : List ℕ) (i t w : ℕ) where
 abbrev Twice : TheLine → TheLine → Type 0
 Twice A S = (n p q : ℕ) → p < q → HiddenAt A n p → HiddenAt A n q → at S p ≡ at S q
 
-module _ (A S : TheLine) (go : Goes A S) where
-  joint-twice : Joint A S A S → Twice A S
-  joint-twice j n p q l h k =
-      let i = zip-place (A .columns) (S .columns) p (constant 0) (constant 0) (go .width) (h .there) in
-      let m = zip-place (A .columns) (S .columns) q (constant 0) (constant 0) (go .width) (k .there) in
-      agrees-iff (at A p, at S p) (at A q, at S q) .0 (j (at A p, at S p) i (at A q, at S q) m) (h .is ∙ sym (k .is))
+twice-columns : {A S : TheLine} → Goes A S → Twice A S → (p q : ℕ) → p < length (A .columns) → q < length (A .columns)
+    → at A p ≡ at A q → at S p ≡ at S q
+twice-columns {A} {S} g f p q l k e = ⊎-elim (λ r. apart (r .0) (r .1) (decLt p q) (decLt q p)) plain (hidden-or-not (at A p))
+  where
+    plain : ((n : ℕ) → at A p ≡ hidden n → ⊥) → at S p ≡ at S q
+    plain h = sym (goes-same g p l h) ∙ e ∙ goes-same g q k (λ n x. h n (e ∙ x))
 
-  equal-terms : Twice A S → (p q : ℕ) → p < length (A .columns) → q < length (A .columns) → at A p ≡ at A q → at S p ≡ at S q
-  equal-terms f p q l k e = by (at A p) refl
-    where
-      plain : ((n : ℕ) → at A p ≡ hidden n → ⊥) → at S p ≡ at S q
-      plain h =
-          sym (plain-same A S go p l (λ n x. h n (x .is))) ∙ e ∙ plain-same A S go q k (λ n x. h n (e ∙ x .is))
-
-      apart : (n : ℕ) → at A p ≡ hidden n → Dec (p < q) → Dec (q < p) → at S p ≡ at S q
-      apart n h (yes b) d = f n p q b (record { there = l; is = h }) (record { there = k; is = sym e ∙ h })
-      apart n h (no x) (yes b) = sym (f n q p b (record { there = k; is = sym e ∙ h }) (record { there = l; is = h }))
-      apart n h (no x) (no y) = let z : p ≡ q = omega arith in ap (at S) z
-
-      by : (t : TheTerm) → at A p ≡ t → at S p ≡ at S q
-      by (constant c) h = plain (λ n x. let z : _≡_ {A = ℕ} 0 1 = cc in omega arith)
-      by (shown c) h = plain (λ n x. let z : _≡_ {A = ℕ} 0 1 = cc in omega arith)
-      by (hidden n) h = apart n h (decLt p q) (decLt q p)
-
-  twice-joint : Twice A S → Joint A S A S
-  twice-joint f y i z j =
-      let (p, pa, ps, ey, fy) = place-zip (A .columns) (S .columns) (constant 0) (constant 0) y i in
-      let (q, qa, qs, ez, fz) = place-zip (A .columns) (S .columns) (constant 0) (constant 0) z j in
-      agrees-iff y z .1 (λ e. fy ∙ equal-terms f p q pa qa (sym ey ∙ e ∙ ez) ∙ sym fz)
+    apart : (n : ℕ) → at A p ≡ hidden n → Dec (p < q) → Dec (q < p) → at S p ≡ at S q
+    apart n h (yes b) d = f n p q b (record { there = l; is = h }) (record { there = k; is = sym e ∙ h })
+    apart n h (no x) (yes b) = sym (f n q p b (record { there = k; is = sym e ∙ h }) (record { there = l; is = h }))
+    apart n h (no x) (no y) = let z : p ≡ q = omega arith in ap (at S) z
 
 -- ---- the lines of a query
 
@@ -171,21 +140,18 @@ module _ {Q : Query} {n : ℕ} {rows words : List ℕ} (g : Given Q n rows words
   few : length (A .columns) ≤ mostColumns
   few = laid-few (g .laid) i (going .line)
 
-  few′ : length (S .columns) ≤ mostColumns
-  few′ = laid-few (g .laid) t (going .target)
-
   over : Goes A S
   over = goes-iff A S .0 (going .goes)
 
   row : (c : ℕ) → c < mostColumns → laidTerm rows i c ≡ termAt (lineValue A) c
   row = g .laid .row i (going .line) .term
 
-  row′ : (c : ℕ) → c < mostColumns → laidTerm rows t c ≡ termAt (lineValue S) c
-  row′ = g .laid .row t (going .target) .term
+  -- the line's term in one of its columns, and the target's
+  line-term : (c : ℕ) → c < length (A .columns) → laidTerm rows i c ≡ termValue (at A c)
+  line-term c l = laid-column (g .laid) i (going .line) c l
 
-  -- the target's term in a column of the line
   target-term : (c : ℕ) → c < length (A .columns) → laidTerm rows t c ≡ termValue (at S c)
-  target-term c l = row′ c (omega (arith, few)) ∙ used S few′ c (omega (arith, over .width))
+  target-term c l = laid-column (g .laid) t (going .target) c (omega (arith, over .width))
 
   twice-own : Twice A S → KeepsOwn rows i t (twiceWord words i)
   twice-own f c d b e h s same =
@@ -193,7 +159,7 @@ module _ {Q : Query} {n : ℕ} {rows words : List ℕ} (g : Given Q n rows words
       let other = at-hidden A few d (rw (row d e) at (rw same at h)) in
       let number = ap (λ (x : Term). x .number) (sym (row c b) ∙ same ∙ row d e) in
       let is = one .is ∙ ap hidden number ∙ sym (other .is) in
-      target-term c (one .there) ∙ ap termValue (equal-terms A S over f c d (one .there) (other .there) is) ∙ sym (target-term d (other .there))
+      target-term c (one .there) ∙ ap termValue (twice-columns over f c d (one .there) (other .there) is) ∙ sym (target-term d (other .there))
 
   own-twice : KeepsOwn rows i t (twiceWord words i) → Twice A S
   own-twice k m c d l one other =
@@ -202,18 +168,19 @@ module _ {Q : Query} {n : ℕ} {rows words : List ℕ} (g : Given Q n rows words
       let (h, number) = hidden-at A few c (small-line (g .small) i (going .line)) m one in
       let twice = g .worded .line i (going .line) .twice m .1 (record { first = c; second = d; apart = l; one = one; other = other }) in
       let set = subst (λ (x : ℕ). bit (twiceWord words i) x ≡ 1) (sym (ap (λ (x : Term). x .number) (row c b) ∙ number)) twice in
-      let same = used A few c (one .there) ∙ ap termValue (one .is ∙ sym (other .is)) ∙ sym (used A few d (other .there)) in
-      let kept = k c d b e (rw (row c b) h) set (row c b ∙ same ∙ sym (row d e)) in
+      let same = line-term c (one .there) ∙ ap termValue (one .is ∙ sym (other .is)) ∙ sym (line-term d (other .there)) in
+      let kept = k c d b e (rw (row c b) h) set same in
       value-same (at S c) (at S d) (sym (target-term c (one .there)) ∙ kept ∙ target-term d (other .there))
 
   candidate-iff : Candidate Q p ↔ KeepsOwn rows i t (twiceWord words i)
   candidate-iff =
-      let r = agree-iff A S A S in (
-        λ c. twice-own (joint-twice A S over (r .0 (c .goes) .2)),
+      let r = agree-iff A S A S in
+      let j = joint-columns over over in (
+        λ c. twice-own (λ m x y l one other. j .0 (r .0 (c .goes) .2) x y (one .there) (other .there) (one .is ∙ sym (other .is))),
         λ k. record {
           line = going .line;
           target = going .target;
-          goes = r .1 (over, over, twice-joint A S over (own-twice k));
+          goes = r .1 (over, over, j .1 (twice-columns over (own-twice k)));
         },
       )
 

@@ -2,45 +2,35 @@
 -- hidden variable.
 use mathlib.Core.Path.{_≡_, refl, sym, ap, subst, _∙_}
 use mathlib.Core.Logic.{_↔_, ⊎-elim}
-use mathlib.Core.List.{List, [], zip}
+use mathlib.Core.List.{List, []}
 use Prim.Native.Nat.{ℕ, _≤_, _<_}
 use native.Mathlib.Decide.{decLt}
 use native.Mathlib.Omega.{arith}
 use lib.Dec.{T}
 use lib.ListN.{length}
-use Rattle.theory.specs.Query.{constant, shown, hidden, Query, _∈_}
+use Rattle.theory.specs.Query.{constant, shown, hidden, Query}
 use Rattle.theory.specs.Query.{Term as TheTerm, Line as TheLine}
 use Rattle.theory.specs.Cover.{at}
 use Rattle.theory.specs.Executable.Reduce.{keeps}
-use Rattle.theory.proofs.Tuples.{getD-mem, zip-place, place-zip}
+use Rattle.theory.proofs.Tuples.{getD-mem, place-zip}
 use Rattle.theory.proofs.Executable.Test.{same-iff}
 use Rattle.words.specs.Bits.{bit}
 use Rattle.words.proofs.Bits.{bit-cases}
 use Rattle.model.specs.Limits.{mostColumns}
 use Rattle.model.specs.Value.{termValue, lineValue}
 use Rattle.model.specs.Rows.{termAt, laidTable, laidTerm}
-use Rattle.model.specs.Abstract.{asTerm}
-use Rattle.model.proofs.Values.{as-term}
 use Rattle.reduce.specs.Agree.{goes, lineAt}
 use Rattle.reduce.specs.LineTargets.{SameAt, Near}
-use Rattle.reduce.specs.Worded.{columnsWord, HiddenAt, LineWorded, Given}
+use Rattle.reduce.specs.Worded.{columnsWord, HiddenAt, Given}
 use Rattle.reduce.proofs.Agree.{Goes, goes-iff}
 use Rattle.reduce.proofs.KeptColumns.{keptColumns, kept-iff}
+use Rattle.reduce.proofs.LaidColumns.{value-same, goes-same}
 use Rattle.reduce.proofs.Lines.{laid-few}
 use Rattle.reduce.proofs.LineValues.{used, unused}
 
 -- ---- terms
 
-pub value-same : (t u : TheTerm) → termValue t ≡ termValue u → t ≡ u
-value-same t u e = sym (as-term t) ∙ ap asTerm e ∙ as-term u
-
--- a term that is no hidden variable stands over itself
-kept-same : (t u : TheTerm) → ((n : ℕ) → t ≡ hidden n → ⊥) → T (keeps (t, u)) → t ≡ u
-unfolding keeps
-kept-same (constant c) u f h = same-iff (constant c) u .0 h
-kept-same (shown n) u f h = same-iff (shown n) u .0 h
-kept-same (hidden n) u f h = absurd (f n refl)
-
+-- a term stands over one that is the same unless it is a hidden variable
 same-kept : (t u : TheTerm) → (((n : ℕ) → t ≡ hidden n → ⊥) → t ≡ u) → T (keeps (t, u))
 unfolding keeps
 same-kept (constant c) u f = same-iff (constant c) u .1 (f (λ n e. let z : _≡_ {A = ℕ} 0 1 = cc in omega arith))
@@ -53,10 +43,8 @@ same-kept (hidden n) u f = tt
 abbrev Plain : TheLine → ℕ → Type 0
 Plain A p = (n : ℕ) → HiddenAt A n p → ⊥
 
-pub plain-same : (A S : TheLine) → Goes A S → (p : ℕ) → p < length (A .columns) → Plain A p → at A p ≡ at S p
-plain-same A S g p l f =
-    kept-same (at A p) (at S p) (λ n e. f n (record { there = l; is = e }))
-    (g .kept (at A p, at S p) (zip-place (A .columns) (S .columns) p (constant 0) (constant 0) (g .width) l))
+plain-same : {A S : TheLine} → Goes A S → (p : ℕ) → p < length (A .columns) → Plain A p → at A p ≡ at S p
+plain-same g p l f = goes-same g p l (λ n e. f n (record { there = l; is = e }))
 
 module _ (A S : TheLine) (few : length (A .columns) ≤ mostColumns) (few′ : length (S .columns) ≤ mostColumns) where
   pub goes-terms : T (goes A S) → (p : ℕ) → Plain A p → termAt (lineValue A) p ≡ termAt (lineValue S) p
@@ -66,7 +54,7 @@ module _ (A S : TheLine) (few : length (A .columns) ≤ mostColumns) (few′ : l
       g = goes-iff A S .0 t
 
       go : Dec (p < length (A .columns)) → termAt (lineValue A) p ≡ termAt (lineValue S) p
-      go (yes l) = used A few p l ∙ ap termValue (plain-same A S g p l f) ∙ sym (used S few′ p (omega (arith, g .width)))
+      go (yes l) = used A few p l ∙ ap termValue (plain-same g p l f) ∙ sym (used S few′ p (omega (arith, g .width)))
       go (no n) = unused A few p (omega arith) ∙ sym (unused S few′ p (omega (arith, g .width)))
 
   -- where A has no hidden variable, its target has none
@@ -74,7 +62,7 @@ module _ (A S : TheLine) (few : length (A .columns) ≤ mostColumns) (few′ : l
   goes-plain t p n f h =
       let g = goes-iff A S .0 t in
       let l : p < length (A .columns) = omega (arith, g .width, h .there) in
-      f n (record { there = l; is = plain-same A S g p l f ∙ h .is })
+      f n (record { there = l; is = plain-same g p l f ∙ h .is })
 
   pub terms-go : A .table ≡ S .table → length (A .columns) ≡ length (S .columns)
       → ((p : ℕ) → p < mostColumns → Plain A p → termAt (lineValue A) p ≡ termAt (lineValue S) p) → T (goes A S)

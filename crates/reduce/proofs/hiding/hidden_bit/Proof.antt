@@ -1,6 +1,5 @@
 -- `hidden_bit`: a one shifted to the variable's number, where the term is a hidden variable.
-use mathlib.Core.Path.{_≡_, subst, _∙_}
-use Prim.Native.Nat.{_<_}
+use mathlib.Core.Path.{subst}
 use native.Mathlib.Omega.{arith}
 use lib.Dec.{T}
 use borrow.Author.Needs.{needs}
