@@ -26,6 +26,7 @@ pub mod Assign
 pub mod Maps
 -- Taking lines out.
 pub mod Passes
+pub mod GoingAlone
 pub mod Staying
 -- Showing.
 pub mod Seen

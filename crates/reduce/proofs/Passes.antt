@@ -32,6 +32,10 @@ sends-of {Q = Q} w s A i = s A (lines-subset w Q i)
 pub folds-all : (Q : Query) (n : ℕ) → length Q ≡ n → Folds Q (2 ^ n - 1)
 folds-all Q n e = (hidden, rw (lines-all Q n e) (sends-self Q))
 
+-- lines to which all can be sent, sent on
+pub folds-on : {Q : Query} (w v : ℕ) → Folds Q w → (m : ℕ → Term) × Sends m (linesAt w Q) (linesAt v Q) → Folds Q v
+folds-on w v f r = (λ n. image (r .0) (f .0 n), sends-twice (f .0) (r .0) (f .1) (r .1))
+
 pub lines-below : {w n : ℕ} → w < 2 ^ n → n ≤ mostLines → w < 2 ^ mostLines
 lines-below {n = n} small few = lt-of-lt-of-le small (pow-mono {i = n} few)
 
@@ -68,8 +72,7 @@ module _ {Q : Query} {rows c : ℕ} {words : List ℕ} (tabled : PairsTabled Q r
     out = lines-without left Q i l (λ j h. k .front j (omega arith))
 
     all-to-rest : Extends rows rest c words → Folds Q rest
-    all-to-rest x =
-        let (m, s) = extends-sends tabled rest rest-small x in (λ n. image m (folds .0 n), sends-twice (folds .0) m (folds .1) s)
+    all-to-rest x = folds-on rows rest folds (extends-sends tabled rest rest-small x)
 
     -- the search tells whether the line may go
     may-go : T (mayGo (linesAt left Q) i) ↔ Extends rows rest c words

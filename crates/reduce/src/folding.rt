@@ -1,12 +1,15 @@
 // The lines without those that can go while the others stay.
 
 ghost use mathlib.Core.Path.{_≡_};
-ghost use Prim.Native.Nat.{ℕ, _^_, _≤_, _<_};
+ghost use mathlib.Core.Bool.{true};
+ghost use Prim.Native.Nat.{_^_, _≤_, _<_};
 ghost use lib.ListN.{length};
 ghost use Rattle.theory.specs.Query.{Query as TheQuery};
-ghost use Rattle.model.specs.Limits.{mostColumns, mostLines};
+ghost use Rattle.model.specs.Limits.{mostLines};
 ghost use Rattle.model.specs.Rows.{queryRowsLong};
+ghost use Rattle.reduce.specs.Alone.{VariablesIn, Keeps, GoesAlone};
 ghost use Rattle.reduce.specs.Left.{Folds};
+ghost use Rattle.reduce.specs.Links.{LineBits};
 ghost use Rattle.reduce.specs.Pairs.{CandidateWord};
 ghost use Rattle.reduce.specs.Worded.{queryWordsLong, Given};
 use crate::assignment::row_of;
@@ -16,6 +19,8 @@ use model::MOST_COLUMNS;
 
 // Whether row b has each variable of `others` that row i has, where row i has it.
 fn stays(lines: &[u64], i: usize, b: usize, others: u64) -> bool
+    requires { ⌜ (length (now lines) ≡ queryRowsLong) × (i < mostLines) × (b < mostLines) ⌝ }
+    ensures { λ r. ⌜ (r ≡ true → Keeps (now (lines .entry)) i b others) ⌝ }
 {
     let mut p = 0;
     while p < MOST_COLUMNS {
@@ -33,6 +38,8 @@ fn stays(lines: &[u64], i: usize, b: usize, others: u64) -> bool
 
 // Whether line i can go to one of its targets while lines with the hidden variables `others` stay.
 fn goes_alone(lines: &[u64], i: usize, targets: u64, others: u64) -> bool
+    requires { ⌜ (length (now lines) ≡ queryRowsLong) × (i < mostLines) × LineBits targets ⌝ }
+    ensures { λ r. ⌜ (r ≡ true → GoesAlone (now (lines .entry)) i targets others) ⌝ }
 {
     let mut rest = targets;
     while rest != 0 {
@@ -46,6 +53,8 @@ fn goes_alone(lines: &[u64], i: usize, targets: u64, others: u64) -> bool
 
 // The hidden variables of some lines.
 fn variables(words: &[u64], rows: u64) -> u64
+    requires { ⌜ (length (now words) ≡ queryWordsLong) × LineBits rows ⌝ }
+    ensures { λ r. ⌜ VariablesIn (now (words .entry)) rows r ⌝ }
 {
     let mut m = 0;
     let mut rest = rows;
