@@ -1,61 +1,36 @@
--- The hidden variables of a line as bits.
-use mathlib.Core.Path.{_≡_, refl, sym, ap, subst, _∙_}
-use mathlib.Core.Logic.{_↔_, _⊎_, inl, inr, ⊎-elim}
-use mathlib.Core.Bool.{Bool, true, false, cond}
-use Prim.Native.Nat.{ℕ, _+_, _≤_, _<_}
+-- The hidden variables of a line, in its columns and in the terms of its value.
+use mathlib.Core.Path.{_≡_, refl, sym, ap, _∙_}
+use mathlib.Core.Logic.{_↔_}
+use mathlib.Core.Bool.{Bool, true, false, cond, not}
+use Prim.Native.Nat.{ℕ, _^_, _≤_, _<_}
 use native.Mathlib.Decide.{ℕ-discrete, decLt}
 use native.Mathlib.Omega.{arith}
+use borrow.Author.Tests.{ne-eqb}
 use lib.Dec.{T, eqb, leb, leb→le, le→leb}
 use lib.ListN.{length}
+use lib.Pow.{pow-pos}
 use Rattle.theory.specs.Cover.{at}
-use Rattle.theory.specs.Query.{constant, shown, hidden, _∈_}
+use Rattle.theory.specs.Query.{constant, shown, hidden}
 use Rattle.theory.specs.Query.{Term as TheTerm, Line as TheLine}
 use Rattle.theory.specs.Executable.Test.{kind, number}
-use Rattle.theory.proofs.Tuples.{getD-mem, mem-getD}
+use Rattle.theory.proofs.Tuples.{getD-mem}
 use Rattle.theory.proofs.Executable.Test.{and-iff}
 use Rattle.words.specs.Bits.{bit}
-use Rattle.words.specs.Sets.{setBit}
 use Rattle.words.proofs.Bits.{bit-zero}
-use Rattle.words.proofs.SetBits.{set-bit-same, set-bit-other}
+use Rattle.words.proofs.Masks.{bit-power-same, bit-power-other}
 use Rattle.model.specs.Limits.{mostColumns, lastVariable}
 use Rattle.model.specs.Value.{unusedTerm, termValue, lineValue}
 use Rattle.model.specs.declared.Term.{Term}
-use Rattle.model.specs.declared.Line.{Line}
 use Rattle.model.specs.Rows.{termAt}
-use Rattle.reduce.specs.Showing.{hiddenTerm, hiddenSet, HiddenWord}
+use Rattle.reduce.specs.Showing.{SmallLine, hiddenTerm}
+use Rattle.reduce.specs.Worded.{HiddenAt}
 use Rattle.reduce.proofs.LineValues.{used, unused}
 
 pub hidden-small : (t : Term) → T (hiddenTerm t) → t .number ≤ lastVariable
 unfolding hiddenTerm
 hidden-small t h = omega (arith, leb→le (t .number) lastVariable (and-iff (eqb (t .mark) 3) (leb (t .number) lastVariable) .0 h .1))
 
--- a bit set if the test passes
-put-iff : (on : Bool) (m p n : ℕ) → (bit (cond on (setBit m p) m) n ≡ 1) ↔ ((bit m n ≡ 1) ⊎ (T on × (p ≡ n)))
-put-iff false m p n = (λ e. inl e, ⊎-elim (λ e. e) (λ r. absurd (r .0)))
-put-iff true m p n = go (ℕ-discrete n p)
-  where
-    go : Dec (n ≡ p) → (bit (setBit m p) n ≡ 1) ↔ ((bit m n ≡ 1) ⊎ (T true × (p ≡ n)))
-    go (yes e) = (λ h. inr (tt, sym e), λ s. rw e (set-bit-same m p))
-    go (no f) = let o = set-bit-other m p n f in (λ h. inl (sym o ∙ h), ⊎-elim (λ h. o ∙ h) (λ r. absurd (f (sym (r .1)))))
-
-pub hidden-none : (l : Line) → HiddenWord l 0 0
-hidden-none l n = (λ e. absurd (omega (arith, bit-zero n)), λ r. absurd (omega (arith, r .1)))
-
-pub hidden-more : (l : Line) (k m r : ℕ) → HiddenWord l k m → r ≡ hiddenSet m (termAt l k) → HiddenWord l (k + 1) r
-unfolding hiddenSet
-hidden-more l k m r w e n =
-    let t = termAt l k in
-    let p = put-iff (hiddenTerm t) m (t .number) n in (
-      λ h. ⊎-elim (λ x. let (b, f, g, i) = w n .0 x in (b, omega arith, g, i)) (λ x. (k, omega arith, x .0, x .1)) (p .0 (rw e at h)),
-      λ s. rw e (p .1 (go s (ℕ-discrete (s .0) k))),
-    )
-  where
-    go : (s : (b : ℕ) × (b < k + 1) × T (hiddenTerm (termAt l b)) × (termAt l b .number ≡ n)) → Dec (s .0 ≡ k)
-        → (bit m n ≡ 1) ⊎ (T (hiddenTerm (termAt l k)) × (termAt l k .number ≡ n))
-    go s (yes q) = inr (subst (λ (b : ℕ). T (hiddenTerm (termAt l b)) × (termAt l b .number ≡ n)) q (s .2, s .3))
-    go s (no f) = inl (w n .1 (s .0, omega (arith, s .1), s .2, s .3))
-
--- ---- the values of lines
+-- ---- the values of terms
 
 value-hidden : (u : TheTerm) (n : ℕ) → T (hiddenTerm (termValue u)) → termValue u .number ≡ n → u ≡ hidden n
 unfolding hiddenTerm termValue kind number
@@ -75,23 +50,63 @@ hidden-number : (n : ℕ) → termValue (hidden n) .number ≡ n
 unfolding termValue kind number
 hidden-number n = refl
 
--- the hidden variables of a line's value are those of the line that have a bit
-pub hidden-in : (A : TheLine) (n : ℕ) → length (A .columns) ≤ mostColumns
-    → ((b : ℕ) × (b < mostColumns) × T (hiddenTerm (termAt (lineValue A) b)) × (termAt (lineValue A) b .number ≡ n))
-    ↔ ((n ≤ lastVariable) × (hidden n ∈ A .columns))
-hidden-in A n few = (
-  λ r. to (r .0) (r .2) (r .3) (decLt (r .0) (length (A .columns))),
-  λ r.
-      let (p, l, q) = mem-getD (constant 0) (r .1) in
-      let v : termAt (lineValue A) p ≡ termValue (hidden n) = used A few p l ∙ ap termValue q in
-      (p, omega arith, rw v (hidden-value n (r .0)), rw v (hidden-number n)),
-)
+-- ---- the columns of a line
+
+-- the hidden variable of a column has a bit
+pub small-at : (A : TheLine) → SmallLine A → (n p : ℕ) → HiddenAt A n p → n ≤ lastVariable
+small-at A small n p h = small n (rw (h .is) at (getD-mem (A .columns) p (constant 0) (h .there)))
+
+module _ (A : TheLine) (few : length (A .columns) ≤ mostColumns) (p : ℕ) where
+  abbrev term : Term
+  term = termAt (lineValue A) p
+
+  pub at-hidden : T (hiddenTerm term) → HiddenAt A (term .number) p
+  at-hidden t = go (decLt p (length (A .columns)))
+    where
+      go : Dec (p < length (A .columns)) → HiddenAt A (term .number) p
+      go (yes l) = let v = used A few p l in
+          record { there = l; is = value-hidden (at A p) (term .number) (rw v at t) (ap (λ (u : Term). u .number) (sym v)) }
+      go (no f) = absurd (unused-hidden (rw (unused A few p (omega arith)) at t))
+
+  pub hidden-at : SmallLine A → (n : ℕ) → HiddenAt A n p → T (hiddenTerm term) × (term .number ≡ n)
+  hidden-at small n h =
+      let v : term ≡ termValue (hidden n) = used A few p (h .there) ∙ ap termValue (h .is) in
+      (rw v (hidden-value n (small-at A small n p h)), rw v (hidden-number n))
+
+-- ---- the bit of a hidden variable
+
+-- no other term has a bit
+abbrev pub hiddenBit : Term → ℕ
+hiddenBit t = cond (hiddenTerm t) (2 ^ t .number) 0
+
+if-power : (b : Bool) (k n : ℕ) → bit (cond b (2 ^ k) 0) n ≡ 1 → T b × (k ≡ n)
+if-power true k n e = go (ℕ-discrete n k)
   where
-    to : (b : ℕ) → T (hiddenTerm (termAt (lineValue A) b)) → termAt (lineValue A) b .number ≡ n → Dec (b < length (A .columns))
-        → (n ≤ lastVariable) × (hidden n ∈ A .columns)
-    to b t q (yes l) =
-        let v = used A few b l in
-        let i : at A b ≡ hidden n = value-hidden (at A b) n (rw v at t) (rw v at q) in
-        let small = hidden-small (termAt (lineValue A) b) t in
-        (rw q at small, subst (λ (u : TheTerm). u ∈ A .columns) i (getD-mem (A .columns) b (constant 0) l))
-    to b t q (no f) = absurd (unused-hidden (rw (unused A few b (omega arith)) at t))
+    go : Dec (n ≡ k) → T true × (k ≡ n)
+    go (yes x) = (tt, sym x)
+    go (no f) = absurd (omega (arith, bit-power-other k n f, e))
+if-power false k n e = absurd (omega (arith, bit-zero n))
+
+power-if : (b : Bool) (k n : ℕ) → T b → k ≡ n → bit (cond b (2 ^ k) 0) n ≡ 1
+power-if true k n t e = rw e (bit-power-same n)
+power-if false k n t e = absurd t
+
+some-power : (b : Bool) (k : ℕ) → not (eqb (cond b (2 ^ k) 0) 0) ≡ b
+some-power true k = rw (ne-eqb (2 ^ k) 0 (λ e. omega (arith, pow-pos k)))
+some-power false k = refl
+
+module _ (A : TheLine) (few : length (A .columns) ≤ mostColumns) (small : SmallLine A) (p : ℕ) where
+  abbrev word : ℕ
+  word = hiddenBit (termAt (lineValue A) p)
+
+  pub bit-hidden : (n : ℕ) → (bit word n ≡ 1) ↔ HiddenAt A n p
+  bit-hidden n =
+      let t = termAt (lineValue A) p in (
+        λ e. let (h, k) = if-power (hiddenTerm t) (t .number) n e in rw k at (at-hidden A few p h),
+        λ h. let (u, k) = hidden-at A few p small n h in power-if (hiddenTerm t) (t .number) n u k,
+      )
+
+  pub some-hidden : T (not (eqb word 0)) ↔ ((n : ℕ) × HiddenAt A n p)
+  some-hidden =
+      let t = termAt (lineValue A) p in
+      rw (some-power (hiddenTerm t) (t .number)) (λ h. (t .number, at-hidden A few p h), λ r. hidden-at A few p small (r .0) (r .1) .0)

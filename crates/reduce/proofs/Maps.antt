@@ -21,7 +21,7 @@ use Rattle.reduce.proofs.Agree.{agree-swap}
 use Rattle.reduce.proofs.Assign.{Assigned, assigned-iff}
 use Rattle.reduce.proofs.Left.{in-lines, lines-in}
 
-module _ {Q : Query} {c : ℕ} {words : List ℕ} (tabled : PairsTabled Q c words) (rows targets : ℕ) where
+module _ {Q : Query} {rows c : ℕ} {words : List ℕ} (tabled : PairsTabled Q rows c words) (targets : ℕ) where
   -- line i with target t and line j with target u
   abbrev Agreed : (i t j u : ℕ) → Type 0
   Agreed i t j u = T (agree (lineAt Q i) (lineAt Q t) (lineAt Q j) (lineAt Q u))
@@ -37,8 +37,10 @@ module _ {Q : Query} {c : ℕ} {words : List ℕ} (tabled : PairsTabled Q c word
     before i j h g l =
         let s = x .target i in
         let t = x .target j in
-        rw (line-of i s (small i h), target-of i s (small i h), line-of j t (small j g), target-of j t (small j g)) at
-        (tabled .pairs (pairOf i (x .target i)) (x .candidate i h) (pairOf j (x .target j)) .0 (x .joint i j h g l) .1)
+        let d = line-of i s (small i h) in
+        let e = line-of j t (small j g) in
+        rw (d, target-of i s (small i h), e, target-of j t (small j g)) at
+        (tabled .pairs (pairOf i s) (pairOf j t) (x .candidate i h) (x .candidate j g) (rw d h) (rw e g) (rw (d, e) l) .0 (x .joint i j h g l))
 
     extends-assigned : Assigned Q rows (linesAt targets Q)
     extends-assigned = record {
@@ -100,11 +102,12 @@ module _ {Q : Query} {c : ℕ} {words : List ℕ} (tabled : PairsTabled Q c word
       allowed = λ i h. right i h .allowed;
       candidate = candidate;
       joint = λ i j h g l.
-          tabled .pairs (pairOf i (t i)) (candidate i h) (pairOf j (t j)) .1 (
-            candidate j g,
-            (let b = small-target i h in let d = small-target j g in
-                rw (line-of i (t i) b, target-of i (t i) b, line-of j (t j) d, target-of j (t j) d) (agreeing i j h g)),
-          );
+          let b = small-target i h in
+          let d = small-target j g in
+          let x = line-of i (t i) b in
+          let y = line-of j (t j) d in
+          tabled .pairs (pairOf i (t i)) (pairOf j (t j)) (candidate i h) (candidate j g) (rw x h) (rw y g) (rw (x, y) l) .1
+          (rw (x, target-of i (t i) b, y, target-of j (t j) d) (agreeing i j h g));
     }
 
   pub extends-sends : targets < 2 ^ mostLines → Extends rows targets c words → (m : ℕ → Term) × Sends m (linesAt rows Q) (linesAt targets Q)

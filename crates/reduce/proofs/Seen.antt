@@ -1,5 +1,5 @@
 -- Variables seen in the lines so far: in one of them, and in two.
-use mathlib.Core.Path.{_≡_, refl, sym}
+use mathlib.Core.Path.{_≡_, refl, sym, subst}
 use mathlib.Core.Logic.{_↔_, inl, inr, ⊎-elim}
 use mathlib.Core.Bool.{Bool, true, false, cond, _&&_, _||_, and-false, or-false, or-assoc}
 use mathlib.Core.List.{List, [], _∷_, _++_}
@@ -7,19 +7,18 @@ use Prim.Native.Nat.{ℕ, _≤_}
 use native.Mathlib.Omega.{arith}
 use lib.Bits.{bitAnd, bitOr}
 use lib.Dec.{T}
-use lib.ListN.{length}
-use Rattle.theory.specs.Query.{Line, Query}
+use Rattle.theory.specs.Query.{Term, constant, hidden, Line, Query, _∈_}
 use Rattle.theory.specs.Executable.Test.{any}
 use Rattle.theory.specs.Executable.Show.{standsIn, shared}
+use Rattle.theory.proofs.Tuples.{getD-mem, mem-getD}
 use Rattle.theory.proofs.Executable.Test.{and-iff, or-iff}
 use Rattle.theory.proofs.Executable.Show.{standsIn-iff}
 use Rattle.words.specs.Bits.{bit}
 use Rattle.words.proofs.Bits.{bit-zero}
 use Rattle.words.proofs.Masks.{bit-and-iff, bit-or-iff}
-use Rattle.model.specs.Limits.{mostColumns, lastVariable}
-use Rattle.model.specs.Value.{lineValue}
-use Rattle.reduce.specs.Showing.{HiddenIf, SharedWord}
-use Rattle.reduce.proofs.Hidden.{hidden-in}
+use Rattle.model.specs.Limits.{lastVariable}
+use Rattle.reduce.specs.Showing.{SharedWord}
+use Rattle.reduce.specs.Worded.{HiddenAt}
 
 -- ---- one line more, where it is there
 
@@ -59,22 +58,39 @@ seen-none = record {
   twos = λ n l. (λ e. absurd (omega (arith, bit-zero n)), λ t. absurd t);
 }
 
-module _ {R : Query} {once twice : ℕ} (s : Seen R once twice) (there : Bool) (A : Line) (few : length (A .columns) ≤ mostColumns) (w : ℕ)
-    (word : HiddenIf there (lineValue A) w) where
-  here : (n : ℕ) → n ≤ lastVariable → (bit w n ≡ 1) ↔ T (there && standsIn n A)
-  here n l =
-      let h = hidden-in A n few in
+-- a variable stands in a line where one of its columns has it
+hidden-in : (A : Line) (n : ℕ) → ((p : ℕ) × HiddenAt A n p) ↔ (hidden n ∈ A .columns)
+hidden-in A n = (
+  λ r. subst (λ (t : Term). t ∈ A .columns) (r .1 .is) (getD-mem (A .columns) (r .0) (constant 0) (r .1 .there)),
+  λ m. let (p, l, e) = mem-getD (constant 0) m in (p, record { there = l; is = e }),
+)
+
+-- the word of a line, where the line is there
+bit-if : (there : Bool) (w n : ℕ) → (bit (cond there w 0) n ≡ 1) ↔ (T there × (bit w n ≡ 1))
+bit-if true w n = (λ e. (tt, e), λ r. r .1)
+bit-if false w n = (λ e. absurd (omega (arith, bit-zero n)), λ r. absurd (r .0))
+
+module _ {R : Query} {once twice : ℕ} (s : Seen R once twice) (there : Bool) (A : Line) (v : ℕ)
+    (word : (n : ℕ) → (bit v n ≡ 1) ↔ ((p : ℕ) × HiddenAt A n p)) where
+  abbrev w : ℕ
+  w = cond there v 0
+
+  here : (n : ℕ) → (bit w n ≡ 1) ↔ T (there && standsIn n A)
+  here n =
+      let b = bit-if there v n in
+      let h = hidden-in A n in
+      let i = standsIn-iff n A in
       let a = and-iff there (standsIn n A) in (
-        λ e. let (t, r) = word n .0 e in a .1 (t, standsIn-iff n A .1 (h .0 r .1)),
-        λ t. let (t, r) = a .0 t in word n .1 (t, h .1 (l, standsIn-iff n A .0 r)),
+        λ e. let (t, r) = b .0 e in a .1 (t, i .1 (h .0 (word n .0 r))),
+        λ t. let (t, r) = a .0 t in b .1 (t, word n .1 (h .1 (i .0 r))),
       )
 
   one-more : (n : ℕ) → n ≤ lastVariable → (bit (bitOr once w) n ≡ 1) ↔ T (any (standsIn n) R || (there && standsIn n A))
   one-more n l =
       let o = bit-or-iff once w n in
       let b = or-iff (any (standsIn n) R) (there && standsIn n A) in (
-        λ e. b .1 (⊎-elim (λ x. inl (s .ones n l .0 x)) (λ x. inr (here n l .0 x)) (o .0 e)),
-        λ t. o .1 (⊎-elim (λ x. inl (s .ones n l .1 x)) (λ x. inr (here n l .1 x)) (b .0 t)),
+        λ e. b .1 (⊎-elim (λ x. inl (s .ones n l .0 x)) (λ x. inr (here n .0 x)) (o .0 e)),
+        λ t. o .1 (⊎-elim (λ x. inl (s .ones n l .1 x)) (λ x. inr (here n .1 x)) (b .0 t)),
       )
 
   two-more : (n : ℕ) → n ≤ lastVariable
@@ -86,11 +102,11 @@ module _ {R : Query} {once twice : ℕ} (s : Seen R once twice) (there : Bool) (
       let b = or-iff (shared R n) (any (standsIn n) R && (there && standsIn n A)) in (
         λ e.
             let both : bit (bitAnd once w) n ≡ 1 → T (any (standsIn n) R && (there && standsIn n A)) =
-            λ x. let (y, z) = k .0 x in a .1 (s .ones n l .0 y, here n l .0 z) in
+            λ x. let (y, z) = k .0 x in a .1 (s .ones n l .0 y, here n .0 z) in
             b .1 (⊎-elim (λ x. inl (s .twos n l .0 x)) (λ x. inr (both x)) (o .0 e)),
         λ t.
             let both : T (any (standsIn n) R && (there && standsIn n A)) → bit (bitAnd once w) n ≡ 1 =
-            λ x. let (y, z) = a .0 x in k .1 (s .ones n l .1 y, here n l .1 z) in
+            λ x. let (y, z) = a .0 x in k .1 (s .ones n l .1 y, here n .1 z) in
             o .1 (⊎-elim (λ x. inl (s .twos n l .1 x)) (λ x. inr (both x)) (b .0 t)),
       )
 

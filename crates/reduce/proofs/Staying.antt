@@ -1,41 +1,27 @@
 -- Where no line could go to another, no line may go.
 use mathlib.Core.Path.{_≡_, refl, sym, ap, _∙_}
-use mathlib.Core.Logic.{_≢_, ⊎-elim}
-use mathlib.Core.Bool.{false, _||_, false≢true}
+use mathlib.Core.Bool.{false, false≢true}
 use Prim.Native.Nat.{ℕ, zero, suc, _-_, _^_, _≤_, _<_}
 use native.Mathlib.Nat.{le-refl, le-step}
 use native.Mathlib.Omega.{arith}
-use lib.Dec.{T, eqb}
+use lib.Dec.{T}
 use lib.ListN.{length}
-use mir.Facts.{eqb-yes}
 use Rattle.theory.specs.Query.{Query, over, _∈_}
 use Rattle.theory.specs.Reduce.{image, without}
-use Rattle.theory.specs.Executable.Test.{allBelow}
 use Rattle.theory.specs.Executable.Reduce.{mayGo, reduceBelow, reduce}
-use Rattle.theory.proofs.Executable.Test.{or-iff, allBelow-iff, same-test}
-use Rattle.words.specs.Bits.{bit, isSet}
+use Rattle.theory.proofs.Executable.Test.{same-test}
 use Rattle.words.specs.Sets.{clearBit, meet}
 use Rattle.words.proofs.ClearBits.{clear-bit-iff, low-bits-set}
 use Rattle.words.proofs.Tests.{meet-iff}
 use Rattle.model.specs.Limits.{mostLines}
-use Rattle.reduce.specs.PairNumbers.{mostPairs, pairOf, lineOf, targetOf}
+use Rattle.reduce.specs.PairNumbers.{pairOf}
 use Rattle.reduce.specs.Agree.{goes, lineAt}
 use Rattle.reduce.specs.Left.{linesAt}
 use Rattle.reduce.specs.Pairs.{Goings}
-use Rattle.reduce.proofs.PairNumbers.{line-of, target-of}
+use Rattle.reduce.proofs.PairNumbers.{line-of, target-of, moving, moving-set}
 use Rattle.reduce.proofs.Agree.{goes-iff}
 use Rattle.reduce.proofs.Assign.{goes-image, may-go-sends}
 use Rattle.reduce.proofs.Left.{in-lines, lines-in, lines-without, lines-all}
-
--- the pairs of two lines, as bits
-abbrev moving : ℕ
-moving = 9205322385119247870
-
-moving-set : (p : ℕ) → p < mostPairs → lineOf p ≢ targetOf p → bit moving p ≡ 1
-unfolding allBelow
-moving-set p l f =
-    let all = allBelow-iff (λ k. eqb (lineOf k) (targetOf k) || isSet moving k) mostPairs .0 tt in
-    ⊎-elim (λ t. absurd (f (eqb-yes t))) (λ t. eqb-yes t) (or-iff (eqb (lineOf p) (targetOf p)) (isSet moving p) .0 (all p l))
 
 module _ (Q : Query) (g : ℕ) (goings : Goings Q g) (few : length Q ≤ mostLines) (none : meet 64 g moving ≡ false) where
   full : ℕ

@@ -10,33 +10,21 @@ use Rattle.theory.specs.Query.{hidden, Query, _∈_}
 use Rattle.theory.specs.Query.{Line as TheLine}
 use Rattle.theory.specs.Executable.Show.{shared}
 use Rattle.words.specs.Bits.{bit, isSet}
-use Rattle.words.specs.Sets.{setBit}
 use Rattle.model.specs.Limits.{mostColumns, lastVariable}
-use Rattle.model.specs.Rows.{termAt, laidTable, laidTerm}
+use Rattle.model.specs.Rows.{laidTable, laidTerm}
 use Rattle.model.specs.declared.Term.{Term}
 use Rattle.model.specs.declared.Line.{Line}
 
--- "variables 0 to 63": the hidden ones of the query
+-- "variables 0 to 63": the hidden ones of a line, and of the query
+abbrev pub SmallLine : TheLine → Type 0
+SmallLine A = (n : ℕ) → hidden n ∈ A .columns → n ≤ lastVariable
+
 abbrev pub Small : Query → Type 0
 Small Q = (n : ℕ) (A : TheLine) → A ∈ Q → hidden n ∈ A .columns → n ≤ lastVariable
 
 -- a hidden variable whose number has a bit
 unfoldable pub hiddenTerm : Term → Bool
 hiddenTerm t = eqb (t .mark) 3 && leb (t .number) lastVariable
-
-unfoldable pub hiddenSet : ℕ → Term → ℕ
-unfolding hiddenTerm setBit
-hiddenSet m t = cond (hiddenTerm t) (setBit m (t .number)) m
-
--- w has the hidden variables of the line's first k terms
-abbrev pub HiddenWord : Line → ℕ → ℕ → Type 0
-HiddenWord l k w =
-    (n : ℕ) → (bit w n ≡ 1) ↔ ((b : ℕ) × (b < k) × T (hiddenTerm (termAt l b)) × (termAt l b .number ≡ n))
-
--- the same where the line is there, and nothing where it is not
-abbrev pub HiddenIf : Bool → Line → ℕ → Type 0
-HiddenIf there l w =
-    (n : ℕ) → (bit w n ≡ 1) ↔ (T there × ((b : ℕ) × (b < mostColumns) × T (hiddenTerm (termAt l b)) × (termAt l b .number ≡ n)))
 
 -- w has the shared variables
 abbrev pub SharedWord : Query → ℕ → Type 0

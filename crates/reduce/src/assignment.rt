@@ -12,7 +12,7 @@ use crate::pairs::PAIRS;
 use model::MOST_LINES;
 
 // The targets of line k that are among `targets`: bit j for target j.
-fn row_of(candidates: u64, targets: u64, k: u64) -> u64
+pub fn row_of(candidates: u64, targets: u64, k: u64) -> u64
     requires { ⌜ (k < mostLines) × (targets < 2 ^ mostLines) ⌝ }
     ensures { λ r. ⌜ TargetsOf candidates targets k r ⌝ }
 {

@@ -2,16 +2,16 @@
 
 ghost use mathlib.Core.Path.{_≡_};
 ghost use mathlib.Core.Bool.{_&&_};
-ghost use Prim.Native.Nat.{_≤_, _<_};
+ghost use Prim.Native.Nat.{_≤_};
 ghost use lib.ListN.{length};
 ghost use Rattle.theory.specs.Query.{Query as TheQuery};
 ghost use Rattle.words.specs.Bits.{isSet};
-ghost use Rattle.model.specs.Limits.{mostColumns, mostLines};
-ghost use Rattle.model.specs.Rows.{queryRowsLong, LaidAt};
-ghost use Rattle.model.specs.declared.Line.{Line};
-ghost use Rattle.reduce.specs.Laid.{Laid};
+ghost use Rattle.model.specs.Limits.{mostLines};
+ghost use Rattle.model.specs.Rows.{queryRowsLong};
 ghost use Rattle.reduce.specs.Left.{linesAt};
-ghost use Rattle.reduce.specs.Showing.{hiddenTerm, hiddenSet, HiddenWord, HiddenIf, SharedWord, showValue, ShownRows};
+ghost use Rattle.reduce.specs.Showing.{hiddenTerm, SharedWord, showValue, ShownRows};
+ghost use Rattle.reduce.specs.Worded.{queryWordsLong, Worded};
+use crate::hiding::hidden_of;
 use model::HIDDEN;
 use model::LAST_VARIABLE;
 use model::MOST_COLUMNS;
@@ -19,7 +19,7 @@ use model::SHOWN;
 use model::Term;
 
 // A hidden variable whose number has a bit.
-fn is_hidden(t: Term) -> bool
+pub fn is_hidden(t: Term) -> bool
     ensures { λ r. ⌜ r ≡ hiddenTerm t ⌝ }
 {
     if t.mark != HIDDEN {
@@ -28,53 +28,17 @@ fn is_hidden(t: Term) -> bool
     t.number <= LAST_VARIABLE
 }
 
-// The word with the bit of the term set, if it is a hidden variable.
-fn with_hidden(m: u64, t: Term) -> u64
-    ensures { λ r. ⌜ r ≡ hiddenSet m t ⌝ }
-{
-    if is_hidden(t) {
-        return words::set_bit(m, t.number);
-    }
-    m
-}
-
-// The hidden variables of the line in row i, as bits.
-fn hidden_word(lines: &[u64], i: usize) -> u64
-    requires { ⌜ (length (now lines) ≡ queryRowsLong) × (i < mostLines) ⌝ }
-    ensures { λ r. ⌜ ((l : Line) → LaidAt (now (lines .entry)) i l → HiddenWord l mostColumns r) ⌝ }
-{
-    let mut m = 0;
-    let mut k = 0;
-    while k < MOST_COLUMNS {
-        let t = model::term_at(lines, i, k);
-        m = with_hidden(m, t);
-        k += 1;
-    }
-    m
-}
-
-// The hidden variables of a line that is there.
-fn hidden_if(there: bool, lines: &[u64], i: usize) -> u64
-    requires { ⌜ (length (now lines) ≡ queryRowsLong) × (i < mostLines) ⌝ }
-    ensures { λ r. ⌜ ((l : Line) → LaidAt (now (lines .entry)) i l → HiddenIf there l r) ⌝ }
-{
-    if !there {
-        return 0;
-    }
-    hidden_word(lines, i)
-}
-
 // The hidden variables that stand in two or more of the lines left of n lines, as bits.
-pub fn shared(n: usize, lines: &[u64], left: u64) -> u64
-    requires { ⌜ (n ≤ mostLines) × (length (now lines) ≡ queryRowsLong) ⌝ }
-    ensures { λ r. ⌜ ((Q : TheQuery) → length Q ≡ n → Laid Q (now (lines .entry)) → SharedWord (linesAt left Q) r) ⌝ }
+pub fn shared(n: usize, words: &[u64], left: u64) -> u64
+    requires { ⌜ (n ≤ mostLines) × (length (now words) ≡ queryWordsLong) ⌝ }
+    ensures { λ r. ⌜ ((Q : TheQuery) → length Q ≡ n → Worded Q (now (words .entry)) → SharedWord (linesAt left Q) r) ⌝ }
 {
     let mut once = 0;
     let mut twice = 0;
     let mut i = 0;
     while i < n {
         let there = words::has_bit(left, i as u64);
-        let w = hidden_if(there, lines, i);
+        let w = words::value_if(hidden_of(words, i), there);
         twice = twice | (once & w);
         once = once | w;
         i += 1;
@@ -82,7 +46,7 @@ pub fn shared(n: usize, lines: &[u64], left: u64) -> u64
     twice
 }
 
-fn is_shared(shared: u64, t: Term) -> bool
+pub fn is_shared(shared: u64, t: Term) -> bool
     ensures { λ r. ⌜ r ≡ (hiddenTerm t && isSet shared (t .number)) ⌝ }
 {
     if !is_hidden(t) {

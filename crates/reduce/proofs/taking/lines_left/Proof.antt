@@ -1,6 +1,5 @@
 -- `lines_left`: where no line could go to another all stay; else what the search leaves.
 use mathlib.Core.Path.{sym, _∙_}
-use native.Mathlib.Omega.{arith}
 use borrow.Author.Needs.{needs}
 use borrow.Author.Tests.{not-true}
 use Rattle.reduce.proofs.Staying.{nothing-goes}
@@ -17,16 +16,16 @@ low-bits-requires : tie.Need-low-bits-requires
 low-bits-requires c κs = search needs
 
 returns : tie.Need-returns
-returns c = λ Q e laid.
+returns c = λ Q g.
     rw (c .low-bits .ensures)
-    (nothing-goes Q _ (c .before .before .before .goings .ensures Q e laid) (omega (arith, laid .lines))
-    (sym (c .before .before .meets .ensures) ∙ not-true _ (c .before .if1 .taken)) _ (sym e))
+    (nothing-goes Q _ (c .before .before .before .goings .ensures Q g) (g .laid .lines)
+    (sym (c .before .before .meets .ensures) ∙ not-true _ (c .before .if1 .taken)) _ (sym (g .count)))
 
 searched-requires : tie.Need-searched-requires
 searched-requires c κs = search needs
 
 returns-2 : tie.Need-returns-2
-returns-2 c = λ Q e laid. c .searched .ensures Q e laid (c .before .before .before .goings .ensures Q e laid)
+returns-2 c = λ Q g. c .searched .ensures Q g (c .before .before .before .goings .ensures Q g)
 
 pub lines-left-spec : {M : Type 1} → statement M
 lines-left-spec =

@@ -19,8 +19,8 @@ abbrev Inv-loop : tie.InvT-loop
 Inv-loop n rows candidates table left₀ i₀ left i =
     (i ≤ n)
     × (left < 2 ^ mostLines)
-    × ((Q : Query) (e : length Q ≡ n) (t : PairsTabled Q candidates table) (there : (j : ℕ) → bit rows j ≡ 1 → j < length Q)
-    (f : Folds Q rows) → Taking t rows there f i left)
+    × ((Q : Query) (e : length Q ≡ n) (t : PairsTabled Q rows candidates table) (there : (j : ℕ) → bit rows j ≡ 1 → j < length Q)
+    (f : Folds Q rows) → Taking t there f i left)
 
 abbrev μ-loop : tie.MeasureT-loop
 μ-loop n rows candidates table left₀ i₀ left i = i
@@ -32,7 +32,7 @@ loop-holds : tie.Need-loop-holds Inv-loop μ-loop
 loop-holds c = (
   omega arith,
   rw (c .low-bits .ensures) (low-bits-below (c .before .args .n) mostLines (c .before .pre .0)),
-  λ Q e t there f. rw (c .low-bits .ensures) (taking-none t _ there f (c .before .args .n) e),
+  λ Q e t there f. rw (c .low-bits .ensures) (taking-none t there f (c .before .args .n) e),
 )
 
 sub-i : tie.Need-sub-i Inv-loop μ-loop
@@ -59,7 +59,7 @@ loop-again c =
       cleared mostLines _ _ (rest .ensures) (at .inv .1),
       λ Q l t there f.
           rw (rest .ensures)
-          (taking-out t _ there f (at .i - 1) (at .left) (rw e at (at .inv .2 Q l t there f)) (omega arith)
+          (taking-out t there f (at .i - 1) (at .left) (rw e at (at .inv .2 Q l t there f)) (omega arith)
           (rw (rest .ensures) at (c .before .search .ensures .0 (c .if1 .taken)))),
     )
 
@@ -74,7 +74,7 @@ loop-again-2 c =
       omega arith,
       at .inv .1,
       λ Q l t there f.
-          taking-kept t _ there f (at .i - 1) (at .left) (rw e at (at .inv .2 Q l t there f)) (omega arith)
+          taking-kept t there f (at .i - 1) (at .left) (rw e at (at .inv .2 Q l t there f)) (omega arith)
           (λ x. false≢true (sym (c .if1 .left) ∙ c .before .search .ensures .1 (rw (rest .ensures) x))),
     )
 
@@ -84,7 +84,7 @@ returns c =
     let start = c .before .before .before in
     let there : (j : ℕ) → bit (start .args .rows) j ≡ 1 → j < length Q = λ j h. rw e (bit-within (start .args .n) j (start .pre .1) h) in
     let none : c .before .loop .i ≡ 0 = omega arith in
-    taking-all t _ there f _ (rw none at (c .before .loop .inv .2 Q e t there f))
+    taking-all t there f _ (rw none at (c .before .loop .inv .2 Q e t there f))
 
 pub taken-spec : {M : Type 1} → statement M
 taken-spec =

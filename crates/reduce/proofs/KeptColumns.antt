@@ -1,0 +1,80 @@
+-- The columns without a hidden variable as a word, and the one test of two lines that is made before their terms are compared.
+use mathlib.Core.Path.{_≡_, sym, _∙_}
+use mathlib.Core.Logic.{_↔_, ⊎-elim}
+use mathlib.Core.Bool.{cond}
+use mathlib.Core.List.{List}
+use Prim.Native.Nat.{ℕ, _+_, _-_, _^_, _<_}
+use native.Mathlib.Nat.{lt-of-le-of-lt}
+use native.Mathlib.Omega.{arith}
+use lib.Bits.{bitAnd, bitOr, bitXor, and-le-l, and-le-r, or-add-and, xor-add-and, xor-self}
+use lib.Dec.{T, eqb}
+use mir.Facts.{eqb-yes, yes-eqb}
+use Rattle.words.specs.Bits.{bit}
+use Rattle.words.specs.Sets.{setBit, Upto}
+use Rattle.words.proofs.Bits.{bit-zero, bit-cases, bit-within, bits-ext}
+use Rattle.words.proofs.ClearBits.{bit-xor, low-bits-set}
+use Rattle.words.proofs.Marks.{upto-more}
+use Rattle.words.proofs.Masks.{bit-and-iff}
+use Rattle.model.specs.Limits.{mostColumns}
+use Rattle.model.specs.Rows.{laidTable}
+use Rattle.reduce.specs.LineTargets.{Near}
+use Rattle.reduce.specs.Worded.{columnsWord}
+
+-- ---- words that have nothing in common, or all
+
+or-none : (a b : ℕ) → (bitOr a b ≡ 0) ↔ ((a ≡ 0) × (b ≡ 0))
+or-none a b = (
+  λ e. (omega (arith, or-add-and a b, and-le-l a b, and-le-r a b), omega (arith, or-add-and a b, and-le-l a b, and-le-r a b)),
+  λ r. omega (arith, or-add-and a b, r .0, r .1),
+)
+
+xor-none : (a b : ℕ) → (bitXor a b ≡ 0) ↔ (a ≡ b)
+xor-none a b = (λ e. omega (arith, xor-add-and a b, and-le-l a b, and-le-r a b), λ e. rw e (xor-self b))
+
+and-none : (w a b : ℕ) → a < 2 ^ w → (bitAnd a b ≡ 0) ↔ ((k : ℕ) → bit a k ≡ 1 → bit b k ≡ 1 → ⊥)
+and-none w a b small = (
+  λ e k x y. let h = bit-and-iff a b k .1 (x, y) in omega (arith, bit-zero k, rw e at h),
+  λ f. bits-ext w (bitAnd a b) 0 (lt-of-le-of-lt (and-le-l a b) small) (lt-of-le-of-lt (omega arith) small)
+      (λ k l.
+      ⊎-elim (λ z. z ∙ sym (bit-zero k)) (λ e. let r = bit-and-iff a b k .0 e in absurd (f k (r .0) (r .1)))
+      (bit-cases (bitAnd a b) k)),
+)
+
+-- one word tells whether a row is near, from the tables of the rows and the hidden columns of its line
+near-iff : (rows words : List ℕ) (a kept s : ℕ) {t u w : ℕ} → kept < 2 ^ 64 → t ≡ laidTable rows a → u ≡ laidTable rows s
+    → w ≡ columnsWord words s → T (eqb (bitOr (bitXor t u) (bitAnd kept w)) 0) ↔ Near rows words a kept s
+near-iff rows words a kept s {t} {u} {w} small et eu ew =
+    let o = or-none (bitXor t u) (bitAnd kept w) in
+    let x = xor-none t u in
+    let k = and-none 64 kept w small in (
+      λ e. let r = o .0 (eqb-yes e) in record { table = sym et ∙ x .0 (r .0) ∙ eu; apart = rw ew at (k .0 (r .1)) },
+      λ r. yes-eqb (o .1 (x .1 (et ∙ r .table ∙ sym eu), k .1 (rw ew (r .apart)))),
+    )
+
+pub near-more : (rows words : List ℕ) (a kept s : ℕ) {t u w m : ℕ} (r : ℕ) → kept < 2 ^ 64 → t ≡ laidTable rows a → u ≡ laidTable rows s
+    → w ≡ columnsWord words s → r ≡ cond (eqb (bitOr (bitXor t u) (bitAnd kept w)) 0) (setBit m s) m → Upto (Near rows words a kept) s m
+    → Upto (Near rows words a kept) (s + 1) r
+near-more rows words a kept s {t} {u} {w} r small et eu ew er k =
+    rw er (upto-more (eqb (bitOr (bitXor t u) (bitAnd kept w)) 0) k (near-iff rows words a kept s small et eu ew))
+
+-- ---- every column but those of a word
+
+abbrev every : ℕ
+every = 2 ^ mostColumns - 1
+
+abbrev pub keptColumns : ℕ → ℕ
+keptColumns w = bitAnd every (bitXor every w)
+
+pub kept-small : (w : ℕ) → keptColumns w < 2 ^ mostColumns
+kept-small w = omega (arith, and-le-l every (bitXor every w))
+
+pub kept-iff : (w p : ℕ) → (bit (keptColumns w) p ≡ 1) ↔ ((p < mostColumns) × (bit w p ≡ 0))
+kept-iff w p =
+    let a = bit-and-iff every (bitXor every w) p in
+    let x = bit-xor every w p in (
+      λ e. let (h, k) = a .0 e in
+          let none : bit w p ≡ 1 → ⊥ = λ o. let z = sym x ∙ k in omega (arith, rw (h, o) at z) in
+          (bit-within mostColumns p (omega arith) h, ⊎-elim (λ z. z) (λ o. absurd (none o)) (bit-cases w p)),
+      λ r. let h = low-bits-set mostColumns p (r .0) in
+          a .1 (h, x ∙ rw (h, r .1)),
+    )
