@@ -38,9 +38,9 @@ module _ {lent widths : List ℕ} (w : Widths lent widths) (t : ℕ) (first : 1 
       (up-to-iff mostColumns (getD widths (t - 1) 0) .0 (w .narrow (getD widths (t - 1) 0) (getD-mem widths (t - 1) 0 (known f))) .1)
 
 -- a table has no more columns than a line may have terms
-pub few-columns : {lent : List ℕ} → SomeWidths lent → (t width : ℕ) → 1 ≤ t → WidthOf lent t width → (width ≡ 0 → ⊥) → width ≤ mostColumns
-few-columns (widths, w) t width first is f =
-    let (last, e) = is f in rw e (width-small w t first last (λ z. f (e ∙ z)))
+pub few-columns : {lent : List ℕ} → SomeWidths lent → (t width : ℕ) → 1 ≤ t → WidthOf lent t width → 1 ≤ width → width ≤ mostColumns
+few-columns (widths, w) t width first is some =
+    let (last, e) = is some in rw e (width-small w t first last (λ z. omega (arith, e ∙ z)))
 
 -- a line within the limits, with as many terms as were lent for its table
 pub record Suits (lent : List ℕ) (A : Line) : Type 0 where

@@ -23,7 +23,7 @@ pub record Between (text : List ℕ) (at end : ℕ) (bytes : List ℕ) : Type 0 
   pub long : end ≡ at + length bytes
   pub are : take end text ≡ take at text ++ bytes
 
--- the names line of a query stands at the place, with its end
+-- where the answer is yes, the names line of a query stands at the place, with its end
 abbrev pub NamesAt : List ℕ → ℕ → Bool → Type 0
 NamesAt text at r = r ≡ true → Between text at (at + 12) (tableTerms ++ newline ∷ [])
 
@@ -40,17 +40,18 @@ pub record NumeralThere (text : List ℕ) (at : ℕ) (n : Number) : Type 0 where
   pub there : Between text at (n .end) (decimal (n .value))
   pub small : n .value < 10 ^ mostDigits
 
+-- a numeral at the place, or none
 abbrev pub NumberAt : List ℕ → ℕ → Number → Type 0
 NumberAt text at n = (n .end ≡ 0 → ⊥) → NumeralThere text at n
 
--- a table's number is not 0
+-- a numeral that is not 0, as a table's number is, or none
 abbrev pub TableAt : List ℕ → ℕ → Number → Type 0
 TableAt text at n = (n .end ≡ 0 → ⊥) → NumeralThere text at n × (1 ≤ n .value)
 
--- the columns of a table that there may be
+-- the columns of a table that there may be; 0 says nothing
 abbrev pub WidthOf : List ℕ → ℕ → ℕ → Type 0
-WidthOf lent table width = (width ≡ 0 → ⊥) → (table ≤ mostTables) × (width ≡ getD lent table 0)
+WidthOf lent table width = 1 ≤ width → (table ≤ mostTables) × (width ≡ getD lent table 0)
 
--- a line ends at the place
+-- a line ends at the place, or it does not
 abbrev pub EndAt : List ℕ → ℕ → ℕ → Type 0
 EndAt text at end = (end ≡ 0 → ⊥) → Between text at end (newline ∷ [])

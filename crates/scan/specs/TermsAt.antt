@@ -29,6 +29,7 @@ pub record TermThere (text : List ℕ) (at : ℕ) (r : TermEnd) : Type 0 where
   pub within : T (termWithin is)
   pub there : Between text at (r .end) (space ∷ printTerm is)
 
+-- such a term at the place, or none
 abbrev pub TermAt : List ℕ → ℕ → TermEnd → Type 0
 TermAt text at r = (r .end ≡ 0 → ⊥) → TermThere text at r
 
@@ -52,5 +53,6 @@ pub record TermsThere (text : List ℕ) (at width : ℕ) (r : Terms) : Type 0 wh
   pub holds : HoldsTerms r are
   pub there : Between text at (r .end) (spaced are ++ newline ∷ [])
 
+-- such terms at the place, or none
 abbrev pub TermsAt : List ℕ → ℕ → ℕ → Terms → Type 0
 TermsAt text at width r = (r .end ≡ 0 → ⊥) → TermsThere text at width r

@@ -12,7 +12,7 @@ use Rattle.model.specs.Limits.{mostColumns, mostLines}
 use Rattle.model.specs.Rows.{queryRowsLong}
 use Rattle.model.specs.declared.Query.{Query as QueryValue}
 use Rattle.cutting.proofs.Walk.{ends}
-use Rattle.scan.specs.Places.{NumeralThere}
+use Rattle.scan.specs.Places.{Place, NumeralThere}
 use Rattle.scan.specs.Scanned.{ScannedUnder}
 use Rattle.scan.specs.TermsAt.{spaced, TermsThere}
 use Rattle.scan.proofs.LinePlaces.{names-next}
@@ -48,9 +48,12 @@ loop-holds c =
 abbrev At : Type 0
 At = tie.At-loop Inv-loop μ-loop
 
+abbrev start : At → tie.Start Inv-loop μ-loop
+start l = l .before .before .before .before .before .before .before
+
 -- the rows are as many as they were
-same-long : (l : At) → length (l .loop .rows) ≡ length (l .before .before .before .before .before .before .before .args .rows .now)
-same-long l = l .loop .inv .1 ∙ sym (l .before .before .before .before .before .before .before .pre .2)
+same-long : (l : At) → length (l .loop .rows) ≡ length (start l .args .rows .now)
+same-long l = l .loop .inv .1 ∙ sym (start l .pre .2)
 
 none : {widths input : List ℕ} {q : QueryValue} (l : At)
     → ScannedUnder widths input (record { query = q; end = 0 }) (l .loop .rows) × (length (l .loop .rows) ≡ queryRowsLong)
@@ -62,7 +65,10 @@ abbrev turn : tie.Else3 Inv-loop μ-loop → At
 turn c = c .before .before .before .before
 
 abbrev input : At → List ℕ
-input l = l .before .before .before .before .before .before .before .args .input .now
+input l = start l .args .input .now
+
+place : (l : At) → Place (input l) (l .loop .at)
+place l = record { short = start l .pre .1; within = l .loop .inv .0 .text .within }
 
 room : (c : tie.Else3 Inv-loop μ-loop) → turn c .loop .q .count < mostLines
 room c = omega (arith, counted-few (turn c .loop .inv .0), c .if3 .left)
@@ -77,10 +83,13 @@ table c = c .before .before .table-at .ensures (c .if4 .left)
 abbrev of-width : tie.Else5 Inv-loop μ-loop → tie.Else4 Inv-loop μ-loop
 of-width c = c .before .before
 
+some : (c : tie.Else5 Inv-loop μ-loop) → 1 ≤ c .before .width-of .result
+some c = omega (arith, c .if5 .left)
+
 few : (c : tie.Else5 Inv-loop μ-loop) → c .before .width-of .result ≤ mostColumns
 few c =
-    let s = turn (of-table (of-width c)) .before .before .before .before .before .before .before in
-    few-columns (s .pre .0) _ _ (table (of-width c) .1) (c .before .width-of .ensures) (c .if5 .left)
+    let s = start (turn (of-table (of-width c))) in
+    few-columns (s .pre .0) _ _ (table (of-width c) .1) (c .before .width-of .ensures) (some c)
 
 abbrev of-terms : tie.Else6 Inv-loop μ-loop → tie.Else5 Inv-loop μ-loop
 of-terms c = c .before .before .before
@@ -91,9 +100,7 @@ terms : (c : tie.Else6 Inv-loop μ-loop) → let e = of-terms c in let d = of-wi
 terms c = c .before .before .terms-at .ensures (c .if6 .left)
 
 names-at-requires-2 : tie.Need-names-at-requires-2 Inv-loop μ-loop
-names-at-requires-2 c κs =
-    let l = c .before in
-    record { short = l .before .before .before .before .before .before .before .pre .1; within = l .loop .inv .0 .text .within }
+names-at-requires-2 c κs = place (c .before)
 
 same-length : tie.Need-same-length Inv-loop μ-loop
 same-length c = same-long (c .before .before .before .before)
@@ -102,9 +109,7 @@ returns-2 : tie.Need-returns-2 Inv-loop μ-loop
 returns-2 c = none (c .before .before .before .before)
 
 table-at-requires : tie.Need-table-at-requires Inv-loop μ-loop
-table-at-requires c κs =
-    let l = turn c in
-    record { short = l .before .before .before .before .before .before .before .pre .1; within = l .loop .inv .0 .text .within }
+table-at-requires c κs = place (turn c)
 
 same-length-2 : tie.Need-same-length-2 Inv-loop μ-loop
 same-length-2 c = same-long (c .before .before .before .before .before .before .before)
@@ -114,7 +119,7 @@ returns-3 c = none (c .before .before .before .before .before .before .before)
 
 width-of-requires : tie.Need-width-of-requires Inv-loop μ-loop
 width-of-requires c κs =
-    let s = turn (of-table c) .before .before .before .before .before .before .before in s .pre .0 .1 .long
+    let s = start (turn (of-table c)) in s .pre .0 .1 .long
 
 same-length-3 : tie.Need-same-length-3 Inv-loop μ-loop
 same-length-3 c = same-long (c .before .before .before .before .before .before .before .before .before)
@@ -124,7 +129,7 @@ returns-4 c = none (c .before .before .before .before .before .before .before .b
 
 terms-at-requires : tie.Need-terms-at-requires Inv-loop μ-loop
 terms-at-requires c κs =
-    let s = turn (of-table (of-width c)) .before .before .before .before .before .before .before in
+    let s = start (turn (of-table (of-width c))) in
     (record { short = s .pre .1; within = table (of-width c) .0 .there .within }, few c)
 
 same-length-4 : tie.Need-same-length-4 Inv-loop μ-loop
@@ -172,9 +177,8 @@ loop-again c =
     let y = c .before .before .before .before in
     let e = of-terms (of-line y) in
     let d = of-width e in
-    let w = turn (of-table d) .loop .inv in
-    let some = e .if5 .left in (
-      lines-more (w .0) _ _ _ (table d) (e .before .width-of .ensures some) (omega arith) (few e) (terms (of-line y)) (room (of-table d))
+    let w = turn (of-table d) .loop .inv in (
+      lines-more (w .0) _ _ _ (table d) (e .before .width-of .ensures (some e)) (some e) (few e) (terms (of-line y)) (room (of-table d))
           (record { table = 0; terms = [] }) (y .lay-line .ensures),
       y .lay-line .ensures .long ∙ w .1,
     )
