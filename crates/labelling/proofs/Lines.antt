@@ -29,6 +29,7 @@ use Rattle.covering.specs.Prepared.{grantWord, tableWidth, Tabled}
 use Rattle.covering.specs.Labelled.{Labelled, Reached}
 use Rattle.reduce.specs.Agree.{lineAt}
 use Rattle.reduce.specs.Left.{linesAt}
+use Rattle.reduce.specs.Worded.{Worded, Given}
 use Rattle.reduce.specs.Showing.{SharedWord, showValue, showLine, ShownRows}
 use Rattle.reduce.proofs.Left.{in-lines, lines-subset}
 use Rattle.reduce.proofs.Lines.{laid-few}
@@ -140,6 +141,18 @@ module _ {d : Declared} {Q : Query} {w : ℕ} {lines : List ℕ} (r : Rows d Q w
       line-of (showTerm R)
       (line-shown R w word (λ A m. r .columns A (lines-subset left Q m)) (λ n A m. r .small n A (lines-subset left Q m))
       (lineAt Q i) (in-lines left Q i h (eqb-true _ _ e)))
+
+-- the rows of a query, and the words of its lines: under the tables of a policy lines of one table have one width
+pub rows-given : {d : Declared} {Q : Query} {n : ℕ} {lines words : List ℕ} → PosedRows d Q n lines → Worded Q words
+    → Given Q n lines words
+rows-given {d} g w = record {
+  count = g .count;
+  laid = g .laid;
+  worded = w;
+  small = g .small;
+  widths = λ A B a b e.
+      g .fits A a .width ∙ ap (λ (t : ℕ). getD (d .widths) (t - 1) 0) e ∙ sym (g .fits B b .width);
+}
 
 -- the rows of a query laid out and then shown
 pub rows-shown : {d : Declared} {Q : Query} {n : ℕ} {lines lines′ : List ℕ} (w : ℕ) → PosedRows d Q n lines → ShownRows n lines w lines′

@@ -17,6 +17,7 @@ use model::Policy;
 use model::Query;
 use model::QueryRows;
 use model::Tables;
+use reduce::LINE_WORDS;
 
 // Up to eight words; unused ones are 0.
 pub struct Words {
@@ -64,8 +65,10 @@ pub fn label_rows(ready: &Prepared, n: usize, lines: &mut QueryRows) -> Labels
     ensures { λ l. ⌜ PosedRowsGiven (now (ready .entry)) n (now (lines .entry)) l ⌝ }
     ensures { λ _. ⌜ length (now (lines .exit)) ≡ queryRowsLong ⌝ }
 {
-    let left = reduce::lines_left(n, lines);
-    let shared = reduce::shared(n, lines, left);
+    let mut words = [0; MOST_LINES * LINE_WORDS];
+    reduce::enter_query(n, lines, &mut words);
+    let left = reduce::lines_left(n, lines, &words);
+    let shared = reduce::shared(n, &words, left);
     reduce::show(n, lines, shared);
     label_lines(ready, n, lines, left)
 }

@@ -36,7 +36,7 @@ fn decide_again(tables: Tables, ready: &Prepared, text: &[u8], times: u64) -> u6
 fn prepare_and_decide(p: Policy, text: &[u8], times: u64) -> u64
     requires { ⌜ SomePolicy p ⌝ }
 {
-    let ready = covering::prepare(p);
+    let ready = covering::prepare_for_many(p);
     let tables = p.tables;
     decide_again(tables, &ready, text, times)
 }

@@ -37,7 +37,7 @@ fn label_again(ready: &Prepared, q: Query, times: u64) -> u64
 fn read_and_label(p: Policy, query: &[u8], times: u64) -> u64
     requires { ⌜ SomePolicy p ⌝ }
 {
-    let ready = covering::prepare(p);
+    let ready = covering::prepare_for_many(p);
     let tables = p.tables;
     let r = query_text::read_query(tables, query);
     let outcome = r.outcome;

@@ -12,13 +12,10 @@ ghost use Rattle.reduce.specs.Showing.{hiddenTerm, Small};
 ghost use Rattle.reduce.specs.Worded.{queryWordsLong, columnsWord, hiddenWord, twiceWord, LineEntered, Worded};
 use crate::showing::is_hidden;
 use model::MOST_COLUMNS;
-use model::MOST_LINES;
 use model::Term;
 
 // The columns of a line that have a hidden variable, its hidden variables, and those that stand in two columns.
-const LINE_WORDS: usize = 3;
-
-pub type QueryWords = [u64; MOST_LINES * LINE_WORDS];
+pub const LINE_WORDS: usize = 3;
 
 // The columns of line i that have a hidden variable, as bits.
 pub fn columns_of(words: &[u64], i: usize) -> u64

@@ -11,7 +11,7 @@ mod pairs;
 mod showing;
 mod taking;
 
-pub use hiding::QueryWords;
+pub use hiding::LINE_WORDS;
 pub use hiding::enter_query;
 pub use laying::query_rows;
 pub use showing::shared;

@@ -4,14 +4,14 @@ use Rattle.labelling.proofs.Posing.{counted, ready}
 use Rattle.measure.proofs.deciding.prepare_and_decide.Statement.{statement}
 use Rattle.measure.proofs.deciding.prepare_and_decide.Tie as tie
 
-prepare-requires : tie.Need-prepare-requires
-prepare-requires c κs = let (d, l) = c .before .pre in counted l
+prepare-for-many-requires : tie.Need-prepare-for-many-requires
+prepare-for-many-requires c κs = let (d, l) = c .before .pre in counted l
 
 decide-again-requires : tie.Need-decide-again-requires
-decide-again-requires c κs = let (d, l) = c .before .before .before .before .pre in (d, ready l (c .before .before .prepare .ensures))
+decide-again-requires c κs = let (d, l) = c .before .before .before .before .pre in (d, ready l (c .before .before .prepare-for-many .ensures))
 
 returns : tie.Need-returns
 returns c = search needs
 
 pub prepare-and-decide-spec : {M : Type 1} → statement M
-prepare-and-decide-spec = tie.close (tie.spec prepare-requires decide-again-requires returns)
+prepare-and-decide-spec = tie.close (tie.spec prepare-for-many-requires decide-again-requires returns)

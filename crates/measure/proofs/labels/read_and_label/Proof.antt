@@ -6,8 +6,8 @@ use Rattle.labelling.proofs.Readings.{read-accepted}
 use Rattle.measure.proofs.labels.read_and_label.Statement.{statement}
 use Rattle.measure.proofs.labels.read_and_label.Tie as tie
 
-prepare-requires : tie.Need-prepare-requires
-prepare-requires c κs = let (d, l) = c .before .pre in counted l
+prepare-for-many-requires : tie.Need-prepare-for-many-requires
+prepare-for-many-requires c κs = let (d, l) = c .before .pre in counted l
 
 read-query-requires : tie.Need-read-query-requires
 read-query-requires c κs = search needs
@@ -22,7 +22,7 @@ label-again-requires c κs =
     let read = m .before .read-query in
     let (d, l) = made .before .before .pre in
     let (Q, e, o, q) = read-accepted (read-text (d .widths) _) (read .result) (read .ensures (d .widths) (tables-of l)) (m .match .keys1) in
-    (d, _, Q, ready l (made .prepare .ensures), posed d _ Q (l .good) e q)
+    (d, _, Q, ready l (made .prepare-for-many .ensures), posed d _ Q (l .good) e q)
 
 enum-told-2 : tie.Need-enum-told-2
 enum-told-2 c = search needs
@@ -37,7 +37,7 @@ pub read-and-label-spec : {M : Type 1} → statement M
 read-and-label-spec =
     tie.close
     (tie.spec
-    prepare-requires
+    prepare-for-many-requires
     read-query-requires
     enum-told
     label-again-requires
