@@ -94,14 +94,19 @@ module _ (words : List ℕ) (i columns hidden twice : ℕ) where
 
   pub entered-others : (j : ℕ) → j < i * lineWords → getD entered j 0 ≡ getD words j 0
   entered-others j h =
-      rw (getD-set-other _ (i * lineWords + 2) j twice 0 (λ e. omega arith), getD-set-other _ (i * lineWords + 1) j hidden 0 (λ e. omega arith),
-      getD-set-other _ (i * lineWords) j columns 0 (λ e. omega arith))
+      rw (
+        getD-set-other _ (i * lineWords + 2) j twice 0 (λ e. omega arith),
+        getD-set-other _ (i * lineWords + 1) j hidden 0 (λ e. omega arith),
+        getD-set-other _ (i * lineWords) j columns 0 (λ e. omega arith),
+      )
 
   module _ (room : i * lineWords + lineWords ≤ length words) where
     entered-columns : columnsWord entered i ≡ columns
     entered-columns =
-        rw (getD-set-other _ (i * lineWords + 2) (i * lineWords) twice 0 (λ e. omega arith),
-        getD-set-other _ (i * lineWords + 1) (i * lineWords) hidden 0 (λ e. omega arith))
+        rw (
+          getD-set-other _ (i * lineWords + 2) (i * lineWords) twice 0 (λ e. omega arith),
+          getD-set-other _ (i * lineWords + 1) (i * lineWords) hidden 0 (λ e. omega arith),
+        )
         (getD-set-same words (i * lineWords) columns 0 (omega arith))
 
     entered-hidden : hiddenWord entered i ≡ hidden

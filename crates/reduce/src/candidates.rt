@@ -60,7 +60,12 @@ pub fn candidates(lines: &[u64], words: &[u64], goings: u64) -> u64
     let mut rest = goings & MOVING;
     while rest != 0 {
         let p = words::least(rest);
-        if !goes_itself(lines, words, p as usize / MOST_LINES, p as usize % MOST_LINES) {
+        if !goes_itself(
+            lines,
+            words,
+            p as usize / MOST_LINES,
+            p as usize % MOST_LINES,
+        ) {
             m = words::clear_bit(m, p);
         }
         rest = words::drop_least(rest);
