@@ -35,7 +35,9 @@ and-none : (w a b : ℕ) → a < 2 ^ w → (bitAnd a b ≡ 0) ↔ ((k : ℕ) →
 and-none w a b small = (
   λ e k x y. let h = bit-and-iff a b k .1 (x, y) in omega (arith, bit-zero k, rw e at h),
   λ f. bits-ext w (bitAnd a b) 0 (lt-of-le-of-lt (and-le-l a b) small) (lt-of-le-of-lt (omega arith) small)
-      (λ k l. ⊎-elim (λ z. z ∙ sym (bit-zero k)) (λ e. let r = bit-and-iff a b k .0 e in absurd (f k (r .0) (r .1))) (bit-cases (bitAnd a b) k)),
+      (λ k l.
+      ⊎-elim (λ z. z ∙ sym (bit-zero k)) (λ e. let r = bit-and-iff a b k .0 e in absurd (f k (r .0) (r .1)))
+      (bit-cases (bitAnd a b) k)),
 )
 
 -- one word tells whether a row is near, from the tables of the rows and the hidden columns of its line

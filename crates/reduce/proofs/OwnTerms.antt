@@ -159,7 +159,8 @@ module _ {Q : Query} {n : ℕ} {rows words : List ℕ} (g : Given Q n rows words
       let other = at-hidden A few d (rw (row d e) at (rw same at h)) in
       let number = ap (λ (x : Term). x .number) (sym (row c b) ∙ same ∙ row d e) in
       let is = one .is ∙ ap hidden number ∙ sym (other .is) in
-      target-term c (one .there) ∙ ap termValue (twice-columns over f c d (one .there) (other .there) is) ∙ sym (target-term d (other .there))
+      let kept = twice-columns over f c d (one .there) (other .there) is in
+      target-term c (one .there) ∙ ap termValue kept ∙ sym (target-term d (other .there))
 
   own-twice : KeepsOwn rows i t (twiceWord words i) → Twice A S
   own-twice k m c d l one other =

@@ -94,8 +94,9 @@ module _ {Q : Query} {n : ℕ} {rows words : List ℕ} (g : Given Q n rows words
 
   plain-kept : (p : ℕ) → p < mostColumns → ((n : ℕ) → HiddenAt A n p → ⊥) → bit kept p ≡ 1
   plain-kept p b f =
-      kept-iff (columnsWord words a) p .1
-      (b, ⊎-elim (λ z. z) (λ e. let r = g .worded .line a l .columns p .0 e in absurd (f (r .0) (r .1))) (bit-cases (columnsWord words a) p))
+      let w = columnsWord words a in
+      let none : bit w p ≡ 1 → ⊥ = λ e. let r = g .worded .line a l .columns p .0 e in f (r .0) (r .1) in
+      kept-iff w p .1 (b, ⊎-elim (λ z. z) (λ e. absurd (none e)) (bit-cases w p))
 
   module _ (s : ℕ) (k : s < length Q) where
     abbrev S : TheLine

@@ -31,7 +31,7 @@ term-at-requires-2 : tie.Need-term-at-requires-2 Inv-loop μ-loop
 term-at-requires-2 c κs = (omega arith, omega arith)
 
 term-at-requires-3 : tie.Need-term-at-requires-3 Inv-loop μ-loop
-term-at-requires-3 c κs = (omega arith, c .before .column-of .ensures .below)
+term-at-requires-3 c κs = (omega arith, omega (arith, c .before .column-of .ensures .below))
 
 same-term-requires : tie.Need-same-term-requires Inv-loop μ-loop
 same-term-requires c κs = tt
@@ -57,13 +57,14 @@ loop-again : tie.Need-loop-again Inv-loop μ-loop
 loop-again c =
     let shared = c .before in
     let at = shared .before .before .before .loop in
-    let read = shared .before .term-at .ensures in (
+    let read = shared .before .term-at .ensures in
+    let test = shared .is-shared in (
       omega arith,
       ⊎-elim
           (λ w.
-          own-passed _ _ _ _ (at .p) (shared .is-shared .result) read (shared .is-shared .ensures) (w .4 .result) (w .1 .ensures) (w .2 .ensures)
+          own-passed _ _ _ _ (at .p) (test .result) read (test .ensures) (w .4 .result) (w .1 .ensures) (w .2 .ensures)
           (w .3 .ensures) (w .4 .ensures) (w .5 .left) (at .inv .1))
-          (λ w. own-skipped _ _ _ _ (at .p) (shared .is-shared .result) read (shared .is-shared .ensures) (w .left) (at .inv .1))
+          (λ w. own-skipped _ _ _ _ (at .p) (test .result) read (test .ensures) (w .left) (at .inv .1))
           (c .if1 .came),
     )
 

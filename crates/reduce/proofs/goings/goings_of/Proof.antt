@@ -61,8 +61,8 @@ loop-again c =
     let (kept, targets) = least .before .before .loop .inv in
     let (few, _, _, l) = least .before .before .before .before .before .before .before .before .before .pre in (
       kept,
-      targets-more _ _ _ _ (same .same-at .result) (c .before .set-bit-if .result) few l targets (least .least .ensures) (c .drop-least .ensures)
-          (true-iff (rw kept at (same .same-at .ensures))) (c .before .set-bit-if .ensures),
+      targets-more _ _ _ _ (same .same-at .result) (c .before .set-bit-if .result) few l targets (least .least .ensures)
+          (c .drop-least .ensures) (true-iff (rw kept at (same .same-at .ensures))) (c .before .set-bit-if .ensures),
     )
 
 returns : tie.Need-returns Inv-loop μ-loop

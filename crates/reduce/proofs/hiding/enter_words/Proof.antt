@@ -19,7 +19,8 @@ use Rattle.reduce.proofs.hiding.enter_words.Tie as tie
 abbrev Inv-loop : tie.InvT-loop
 Inv-loop rows i words columns₀ hidden₀ twice₀ p₀ columns hidden twice p =
     (p ≤ mostColumns)
-    × ((A : TheLine) → LaidAt rows i (lineValue A) → length (A .columns) ≤ mostColumns → SmallLine A → ColumnsEntered A p columns hidden twice)
+    × ((A : TheLine) → LaidAt rows i (lineValue A) → length (A .columns) ≤ mostColumns → SmallLine A
+    → ColumnsEntered A p columns hidden twice)
 
 abbrev μ-loop : tie.MeasureT-loop
 μ-loop rows i words columns₀ hidden₀ twice₀ p₀ columns hidden twice p = mostColumns - p
