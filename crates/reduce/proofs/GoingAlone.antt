@@ -1,7 +1,7 @@
 -- A line that can go while the others stay is left out: all lines can be sent to the others.
-use mathlib.Core.Path.{_≡_, refl, sym, ap, subst, _∙_}
+use mathlib.Core.Path.{_≡_, refl, sym, subst, _∙_}
 use mathlib.Core.Logic.{_⊎_, inl, inr, ⊎-elim}
-use mathlib.Core.Bool.{Bool, true, false, not, cond, _&&_}
+use mathlib.Core.Bool.{Bool, false, not, cond, _&&_}
 use mathlib.Core.List.{List}
 use Prim.Native.Nat.{ℕ, _+_, _≤_, _<_}
 use native.Mathlib.Decide.{ℕ-discrete}
@@ -23,7 +23,7 @@ use Rattle.words.proofs.Lowest.{dropped-other}
 use Rattle.words.proofs.Marks.{left-before}
 use Rattle.words.proofs.Masks.{bit-or-iff}
 use Rattle.model.specs.Limits.{mostLines, mostColumns}
-use Rattle.model.specs.Value.{sameTerm, termValue, lineValue}
+use Rattle.model.specs.Value.{sameTerm, lineValue}
 use Rattle.model.specs.Rows.{termAt, laidTerm}
 use Rattle.model.specs.declared.Term.{Term}
 use Rattle.reduce.specs.Agree.{agree, lineAt}
@@ -32,7 +32,7 @@ use Rattle.reduce.specs.Left.{linesAt, Folds}
 use Rattle.reduce.specs.PairNumbers.{pairOf}
 use Rattle.reduce.specs.Pairs.{Candidate}
 use Rattle.reduce.specs.Showing.{hiddenTerm}
-use Rattle.reduce.specs.Worded.{hiddenWord, HiddenAt, Given}
+use Rattle.reduce.specs.Worded.{hiddenWord, Given}
 use Rattle.reduce.proofs.Agree.{Goes, goes-iff, agree-iff, agree-swap}
 use Rattle.reduce.proofs.Assign.{Assigned, assigned-iff}
 use Rattle.reduce.proofs.FirstColumns.{same-term-iff}

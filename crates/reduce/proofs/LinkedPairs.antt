@@ -10,7 +10,6 @@ use Rattle.theory.specs.Query.{hidden, Query, Line}
 use Rattle.theory.specs.Cover.{at}
 use Rattle.words.specs.Bits.{bit}
 use Rattle.words.proofs.Masks.{bit-and-iff}
-use Rattle.model.specs.Limits.{mostColumns}
 use Rattle.model.specs.Value.{termValue}
 use Rattle.model.specs.Rows.{laidTerm}
 use Rattle.reduce.specs.PairNumbers.{lineOf, targetOf}
@@ -19,7 +18,7 @@ use Rattle.reduce.specs.Columns.{FirstColumn}
 use Rattle.reduce.specs.Links.{HasVariable, Linked}
 use Rattle.reduce.specs.Pairs.{Joined, Candidate}
 use Rattle.reduce.specs.Worded.{hiddenWord, HiddenAt, Given}
-use Rattle.reduce.proofs.Agree.{Goes, Joint, agree-iff}
+use Rattle.reduce.proofs.Agree.{Goes, agree-iff}
 use Rattle.reduce.proofs.FirstColumns.{first-column}
 use Rattle.reduce.proofs.LaidColumns.{value-same, hidden-or-not, goes-same, joint-columns, laid-column, hidden-laid, laid-hidden}
 use Rattle.reduce.proofs.Lines.{laid-few}

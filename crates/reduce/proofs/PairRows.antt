@@ -9,10 +9,9 @@ use lib.Bits.{bitAnd, and-mask}
 use lib.Pow.{pow-pos, shr-shr}
 use Rattle.words.specs.Bits.{bit}
 use Rattle.words.proofs.Bits.{bit-zero, bit-mod, bit-within}
-use Rattle.words.proofs.Masks.{bit-and-iff}
 use Rattle.words.proofs.Parts.{bit-below, bit-above}
 use Rattle.model.specs.Limits.{mostLines}
-use Rattle.reduce.specs.PairNumbers.{mostPairs, pairOf, lineOf, targetOf}
+use Rattle.reduce.specs.PairNumbers.{pairOf, lineOf, targetOf}
 use Rattle.reduce.specs.Links.{LineBits}
 
 -- the bits of a number shifted up

@@ -1,9 +1,7 @@
 -- `fold`: all lines can be sent to those in `rows` once the lines from `i` on were tried.
-use mathlib.Core.Path.{_≡_}
-use Prim.Native.Nat.{ℕ, _-_, _^_, _≤_, _<_}
+use Prim.Native.Nat.{_-_, _^_, _≤_, _<_}
 use native.Mathlib.Omega.{arith}
 use Rattle.theory.specs.Query.{Query}
-use Rattle.words.specs.Bits.{bit}
 use Rattle.words.proofs.Bits.{bit-within}
 use Rattle.words.proofs.ClearBits.{low-bits-below}
 use Rattle.model.specs.Limits.{mostLines}

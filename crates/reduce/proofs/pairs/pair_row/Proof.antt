@@ -1,8 +1,7 @@
 -- `pair_row`: the candidates of the line have those of the later lines that were looked at.
-use mathlib.Core.Path.{_≡_, ap₂, subst, _∙_}
+use mathlib.Core.Path.{_≡_, _∙_}
 use Prim.Native.Nat.{ℕ, _<_}
 use native.Mathlib.Omega.{arith}
-use lib.Bits.{bitAnd}
 use lib.ListN.{length}
 use Rattle.theory.specs.Query.{Query}
 use Rattle.words.specs.Bits.{bit}
@@ -10,7 +9,7 @@ use Rattle.words.proofs.Bits.{bit-within}
 use Rattle.words.proofs.Marks.{left-before}
 use Rattle.model.specs.Limits.{mostLines}
 use Rattle.reduce.specs.PairNumbers.{mostPairs}
-use Rattle.reduce.specs.Links.{LineBits, LinkWord}
+use Rattle.reduce.specs.Links.{LineBits}
 use Rattle.reduce.specs.Pairs.{CandidateWord}
 use Rattle.reduce.specs.Worded.{Given}
 use Rattle.reduce.proofs.PairedLines.{RowSome, row-none, row-more, row-all}

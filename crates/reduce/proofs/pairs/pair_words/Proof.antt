@@ -44,8 +44,10 @@ pair-row-requires c κs =
     let s = at .before .before .before in
     let (long, small, _) = at .loop .inv in (
       (s .pre .0, s .pre .1, long),
-      (small (k .least .result) (k .least .ensures .set),
-      λ i e. small i (left-before i (k .least .ensures) (c .before .drop-least .ensures) e)),
+      (
+        small (k .least .result) (k .least .ensures .set),
+        λ i e. small i (left-before i (k .least .ensures) (c .before .drop-least .ensures) e),
+      ),
     )
 
 loop-less : tie.Need-loop-less Inv-loop μ-loop
