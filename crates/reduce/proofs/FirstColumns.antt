@@ -66,7 +66,8 @@ module _ {rows : List ℕ} {b : ℕ} {t : Term} where
   find-first : (n q : ℕ) → NoneBefore rows b t q → q + n ≡ mostColumns → (p : ℕ) × FirstColumn rows b t p
   find-first zero q f e = let l : q ≡ mostColumns = omega arith in (0, found-none (rw l at f))
   find-first (suc n) q f e =
-      go (sameTerm t (laidTerm rows b q)) refl (λ h. find-first n (q + 1) (none-more (sameTerm t (laidTerm rows b q)) f refl refl h) (omega arith))
+      go (sameTerm t (laidTerm rows b q)) refl
+      (λ h. find-first n (q + 1) (none-more (sameTerm t (laidTerm rows b q)) f refl refl h) (omega arith))
     where
       go : (on : Bool) → on ≡ sameTerm t (laidTerm rows b q) → (sameTerm t (laidTerm rows b q) ≡ false → (p : ℕ) × FirstColumn rows b t p)
           → (p : ℕ) × FirstColumn rows b t p

@@ -24,17 +24,10 @@ use Rattle.reduce.specs.PairNumbers.{lineOf, targetOf}
 use Rattle.reduce.specs.Pairs.{Going, Goings}
 use Rattle.reduce.specs.Worded.{columnsWord, Given}
 use Rattle.reduce.proofs.KeptColumns.{keptColumns}
+use Rattle.reduce.proofs.Links.{upto-below}
 use Rattle.reduce.proofs.TargetLines.{goes-near, same-goes, goes-self}
 
 -- ---- the targets of line a
-
--- the bits of a word made bit by bit lie below the bound
-upto-below : {P : ℕ → Type 0} {p m : ℕ} → Upto P p m → (b : ℕ) → bit m b ≡ 1 → b < p
-upto-below {p = p} u b e = go (decLt b p)
-  where
-    go : Dec (b < p) → b < p
-    go (yes l) = l
-    go (no n) = absurd (omega (arith, e, u .past b (omega arith)))
 
 module _ (n : ℕ) (rows words : List ℕ) (a : ℕ) where
   abbrev kept : ℕ

@@ -53,7 +53,7 @@ hidden-number n = refl
 -- ---- the columns of a line
 
 -- the hidden variable of a column has a bit
-pub small-at : (A : TheLine) → SmallLine A → (n p : ℕ) → HiddenAt A n p → n ≤ lastVariable
+small-at : (A : TheLine) → SmallLine A → (n p : ℕ) → HiddenAt A n p → n ≤ lastVariable
 small-at A small n p h = small n (rw (h .is) at (getD-mem (A .columns) p (constant 0) (h .there)))
 
 module _ (A : TheLine) (few : length (A .columns) ≤ mostColumns) (p : ℕ) where

@@ -76,13 +76,13 @@ module _ {P : ℕ → Type 0} {row : ℕ} where
   pub rows-all : {m : ℕ} → RowsSet P row 0 m → (k : ℕ) → (bit m k ≡ 1) ↔ ((bit row (lineOf k) ≡ 1) × P k)
   rows-all r k = let w = r .done k in (λ e. let h = w .0 e in (h .0, h .2), λ h. w .1 (h .0, bit-zero (lineOf k), h .1))
 
--- no bit behind the lines
-pub upto-lines : {P : ℕ → Type 0} {x : ℕ} → Upto P mostLines x → LineBits x
-upto-lines {x = x} u i e = go (decLt i mostLines)
+-- the bits of a word made bit by bit lie below the bound
+pub upto-below : {P : ℕ → Type 0} {p m : ℕ} → Upto P p m → (b : ℕ) → bit m b ≡ 1 → b < p
+upto-below {p = p} u b e = go (decLt b p)
   where
-    go : Dec (i < mostLines) → i < mostLines
+    go : Dec (b < p) → b < p
     go (yes l) = l
-    go (no n) = absurd (omega (arith, u .past i (omega arith)))
+    go (no n) = absurd (omega (arith, e, u .past b (omega arith)))
 
 -- the rows that agree with row t
 pub agreeing : (rows : List ℕ) (t p q : ℕ) {x : Term} {r : ℕ} → x ≡ laidTerm rows t p → Upto (λ u. x ≡ laidTerm rows u q) mostLines r

@@ -40,7 +40,8 @@ module _ {Q : Query} {rows c : ℕ} {words : List ℕ} (tabled : PairsTabled Q r
         let d = line-of i s (small i h) in
         let e = line-of j t (small j g) in
         rw (d, target-of i s (small i h), e, target-of j t (small j g)) at
-        (tabled .pairs (pairOf i s) (pairOf j t) (x .candidate i h) (x .candidate j g) (rw d h) (rw e g) (rw (d, e) l) .0 (x .joint i j h g l))
+        (tabled .pairs (pairOf i s) (pairOf j t) (x .candidate i h) (x .candidate j g) (rw d h) (rw e g) (rw (d, e) l) .0
+        (x .joint i j h g l))
 
     extends-assigned : Assigned Q rows (linesAt targets Q)
     extends-assigned = record {

@@ -53,7 +53,7 @@ module _ (rows : List ℕ) (i t w : ℕ) where
   pub own-none : OwnTo 0
   own-none = record { own = λ k l. absurd (omega arith) }
 
-  pub own-more : {p : ℕ} → OwnTo p → (Own p → (q : ℕ) × FirstColumn rows i (laidTerm rows i p) q × (laidTerm rows t p ≡ laidTerm rows t q))
+  own-more : {p : ℕ} → OwnTo p → (Own p → (q : ℕ) × FirstColumn rows i (laidTerm rows i p) q × (laidTerm rows t p ≡ laidTerm rows t q))
       → OwnTo (p + 1)
   own-more {p} o f = record { own = λ k l h. go k l h (ℕ-discrete k p) }
     where
@@ -71,7 +71,7 @@ module _ (rows : List ℕ) (i t w : ℕ) where
       let one : x ≡ y = first-unique p b e (rw e at f) g in
       u ∙ ap (laidTerm rows t) one ∙ sym v
 
-  pub own-broken : {p q : ℕ} → p < mostColumns → Own p → FirstColumn rows i (laidTerm rows i p) q
+  own-broken : {p q : ℕ} → p < mostColumns → Own p → FirstColumn rows i (laidTerm rows i p) q
       → (laidTerm rows t p ≡ laidTerm rows t q → ⊥) → KeepsOwn rows i t w → ⊥
   own-broken {p} {q} b h f n k = n (k p q b (f .below) (h .0) (h .1) (sym (f .here p b refl)))
 
@@ -189,10 +189,10 @@ module _ {Q : Query} {n : ℕ} {rows words : List ℕ} (g : Given Q n rows words
   candidate-test w = (λ e. candidate-iff .1 (w .0 e), λ c. w .1 (candidate-iff .0 c))
 
   -- a line that stays goes by itself
-  pub stay-candidate : i ≡ t → Candidate Q p
+  stay-candidate : i ≡ t → Candidate Q p
   stay-candidate e = candidate-iff .1 (λ c d b l h s same. rw (← e) same)
 
-pub candidate-going : {Q : Query} {p : ℕ} → Candidate Q p → Going Q p
+candidate-going : {Q : Query} {p : ℕ} → Candidate Q p → Going Q p
 candidate-going {Q} {p} c =
     let A = lineAt Q (lineOf p) in
     let S = lineAt Q (targetOf p) in

@@ -45,15 +45,6 @@ module _ {rows targets c : ℕ} {words : List ℕ} where
         joint = λ i j h g l. absurd (nothing i h);
       }
 
-  -- fewer candidates, or more
-  pub extends-more : {b : ℕ} → ((p : ℕ) → bit c p ≡ 1 → bit b p ≡ 1) → Extends rows targets c words → Extends rows targets b words
-  extends-more f x = record {
-    target = x .target;
-    allowed = x .allowed;
-    candidate = λ i h. f (pairOf i (x .target i)) (x .candidate i h);
-    joint = x .joint;
-  }
-
 module _ (rows targets c k rest : ℕ) (words : List ℕ) (first : Least 64 rows k) (others : LeastDropped 64 rows rest) where
   -- the candidates once line k has target j
   abbrev pub left : ℕ → ℕ

@@ -1,6 +1,6 @@
 -- The values of shown terms and lines. Whatever the word, a shown line's value is the value of a line; with the word of a
 -- query's shared variables it is that of the line that the theory shows.
-use mathlib.Core.Path.{_≡_, refl, sym, ap, subst, _∙_}
+use mathlib.Core.Path.{_≡_, refl, ap, subst, _∙_}
 use mathlib.Core.Bool.{Bool, true, false, cond, _&&_, and-false}
 use mathlib.Core.List.{List, map, map-map}
 use Prim.Native.Nat.{ℕ, _≤_}
@@ -13,30 +13,22 @@ use Rattle.theory.specs.Query.{constant, shown, hidden, over, Query, _∈_}
 use Rattle.theory.specs.Query.{Term as TheTerm, Line as TheLine}
 use Rattle.theory.specs.Executable.Test.{kind, number}
 use Rattle.theory.specs.Executable.Show.{shared, showTerm}
-use Rattle.theory.proofs.Tuples.{map-same, map-self, over-same}
+use Rattle.theory.proofs.Tuples.{map-same, over-same}
 use Rattle.theory.proofs.Executable.Test.{same-test}
 use Rattle.words.specs.Bits.{isSet}
 use Rattle.words.proofs.Bits.{is-clear, bit-zero}
 use Rattle.model.specs.Limits.{mostColumns, lastVariable}
 use Rattle.model.specs.Value.{pad, unusedTerm, termValue, termsValue, lineValue}
 use Rattle.model.specs.declared.Term.{Term}
-use Rattle.model.specs.declared.Line.{Line}
 use Rattle.model.proofs.Pad.{map-pad}
 use Rattle.model.proofs.Terms.{terms-few}
 use Rattle.reduce.specs.Showing.{Small, hiddenTerm, SharedWord, showValue, showLine}
-
-pub line-is : (w : ℕ) (r l : Line) → r .table ≡ l .table → r .terms ≡ map (showValue w) (l .terms) → r ≡ showLine w l
-unfolding showLine
-line-is w r l e f = λ i. record { table = e i; terms = f i }
 
 -- ---- no variable is shared
 
 pub none-shown : (t : Term) → showValue 0 t ≡ t
 unfolding showValue
 none-shown t = rw (is-clear 0 (t .number) (bit-zero (t .number)), and-false (hiddenTerm t))
-
-pub show-none : (l : Line) → l ≡ showLine 0 l
-show-none l = line-is 0 l l refl (sym (map-self (showValue 0) (l .terms) (λ t m. none-shown t)))
 
 -- ---- any word
 

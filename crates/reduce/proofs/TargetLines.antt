@@ -47,7 +47,7 @@ plain-same : {A S : TheLine} → Goes A S → (p : ℕ) → p < length (A .colum
 plain-same g p l f = goes-same g p l (λ n e. f n (record { there = l; is = e }))
 
 module _ (A S : TheLine) (few : length (A .columns) ≤ mostColumns) (few′ : length (S .columns) ≤ mostColumns) where
-  pub goes-terms : T (goes A S) → (p : ℕ) → Plain A p → termAt (lineValue A) p ≡ termAt (lineValue S) p
+  goes-terms : T (goes A S) → (p : ℕ) → Plain A p → termAt (lineValue A) p ≡ termAt (lineValue S) p
   goes-terms t p f = go (decLt p (length (A .columns)))
     where
       g : Goes A S
@@ -58,13 +58,13 @@ module _ (A S : TheLine) (few : length (A .columns) ≤ mostColumns) (few′ : l
       go (no n) = unused A few p (omega arith) ∙ sym (unused S few′ p (omega (arith, g .width)))
 
   -- where A has no hidden variable, its target has none
-  pub goes-plain : T (goes A S) → (p n : ℕ) → Plain A p → HiddenAt S n p → ⊥
+  goes-plain : T (goes A S) → (p n : ℕ) → Plain A p → HiddenAt S n p → ⊥
   goes-plain t p n f h =
       let g = goes-iff A S .0 t in
       let l : p < length (A .columns) = omega (arith, g .width, h .there) in
       f n (record { there = l; is = plain-same g p l f ∙ h .is })
 
-  pub terms-go : A .table ≡ S .table → length (A .columns) ≡ length (S .columns)
+  terms-go : A .table ≡ S .table → length (A .columns) ≡ length (S .columns)
       → ((p : ℕ) → p < mostColumns → Plain A p → termAt (lineValue A) p ≡ termAt (lineValue S) p) → T (goes A S)
   terms-go table width same =
       goes-iff A S .1 (record {

@@ -54,7 +54,8 @@ fn goes_itself(lines: &[u64], words: &[u64], i: usize, t: usize) -> bool
 // Those of some pairs that go by themselves; a line that stays does.
 pub fn candidates(lines: &[u64], words: &[u64], goings: u64) -> u64
     requires { ⌜ (length (now lines) ≡ queryRowsLong) × (length (now words) ≡ queryWordsLong) ⌝ }
-    ensures { λ r. ⌜ ((Q : TheQuery) (n : ℕ) → Given Q n (now (lines .entry)) (now (words .entry)) → Goings Q goings → CandidateWord Q r) ⌝ }
+    ensures { λ r. ⌜ ((Q : TheQuery) (n : ℕ) → Given Q n (now (lines .entry)) (now (words .entry)) → Goings Q goings
+        → CandidateWord Q r) ⌝ }
 {
     let mut m = goings;
     let mut rest = goings & MOVING;

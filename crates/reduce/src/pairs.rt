@@ -98,7 +98,8 @@ fn put_links(w: u64, row: u64, a: usize, b: usize, table: &mut [u64])
 fn pair_row(lines: &[u64], words: &[u64], candidates: u64, a: usize, later: u64, table: &mut [u64])
     requires { ⌜ (length (now lines) ≡ queryRowsLong) × (length (now words) ≡ queryWordsLong) × (length (now table) ≡ mostPairs) ⌝ }
     requires { ⌜ (a < mostLines) × LineBits later ⌝ }
-    ensures { λ _. ⌜ ((Q : TheQuery) (n : ℕ) → Given Q n (now (lines .entry)) (now (words .entry)) → CandidateWord Q candidates → RowPaired Q candidates a later (now (table .entry)) (now (table .exit))) ⌝ }
+    ensures { λ _. ⌜ ((Q : TheQuery) (n : ℕ) → Given Q n (now (lines .entry)) (now (words .entry)) → CandidateWord Q candidates
+        → RowPaired Q candidates a later (now (table .entry)) (now (table .exit))) ⌝ }
     ensures { λ _. ⌜ length (now (table .exit)) ≡ mostPairs ⌝ }
 {
     let row = row_of(candidates, TARGETS, a as u64);
@@ -115,7 +116,8 @@ fn pair_row(lines: &[u64], words: &[u64], candidates: u64, a: usize, later: u64,
 // For each candidate of a line of `rows` the targets of later lines of `rows` that are compatible with it.
 pub fn pair_words(lines: &[u64], words: &[u64], rows: u64, candidates: u64) -> [u64; PAIRS]
     requires { ⌜ (length (now lines) ≡ queryRowsLong) × (length (now words) ≡ queryWordsLong) × (rows < 2 ^ mostLines) ⌝ }
-    ensures { λ r. ⌜ ((Q : TheQuery) (n : ℕ) → Given Q n (now (lines .entry)) (now (words .entry)) → CandidateWord Q candidates → PairsTabled Q rows candidates r) ⌝ }
+    ensures { λ r. ⌜ ((Q : TheQuery) (n : ℕ) → Given Q n (now (lines .entry)) (now (words .entry)) → CandidateWord Q candidates
+        → PairsTabled Q rows candidates r) ⌝ }
     ensures { λ r. ⌜ length r ≡ mostPairs ⌝ }
 {
     let mut table = [0; PAIRS];

@@ -22,7 +22,8 @@ use crate::pairs::pair_words;
 // The lines left once each that may go is taken out, the last first.
 fn taken(n: usize, rows: u64, candidates: u64, table: &[u64; PAIRS]) -> u64
     requires { ⌜ (n ≤ mostLines) × (rows < 2 ^ n) × (length (now table) ≡ mostPairs) ⌝ }
-    ensures { λ r. ⌜ ((Q : TheQuery) → length Q ≡ n → PairsTabled Q rows candidates (now (table .entry)) → Folds Q rows → linesAt r Q ≡ reduce Q) ⌝ }
+    ensures { λ r. ⌜ ((Q : TheQuery) → length Q ≡ n → PairsTabled Q rows candidates (now (table .entry)) → Folds Q rows
+        → linesAt r Q ≡ reduce Q) ⌝ }
 {
     let mut left = words::low_bits(n as u64);
     let mut i = n;

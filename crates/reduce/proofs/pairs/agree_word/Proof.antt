@@ -5,7 +5,7 @@ use native.Mathlib.Omega.{arith}
 use Rattle.model.specs.Limits.{mostLines}
 use Rattle.model.specs.Rows.{laidTerm}
 use Rattle.reduce.specs.PairNumbers.{lineOf, targetOf}
-use Rattle.reduce.proofs.Links.{RowsSet, rows-none, rows-more, rows-all, upto-lines, agreeing}
+use Rattle.reduce.proofs.Links.{RowsSet, rows-none, rows-more, rows-all, upto-below, agreeing}
 use Rattle.reduce.proofs.pairs.agree_word.Statement.{statement}
 use Rattle.reduce.proofs.pairs.agree_word.Tie as tie
 
@@ -48,8 +48,8 @@ loop-again c =
     let row = c .before .agree-row in
     let read = c .before .before .term-at in
     let k = c .before .before .before in
-    rows-more (row .result) (k .before .before .loop .inv) (k .least .ensures) (c .drop-least .ensures) (upto-lines (row .ensures)) (small k)
-    (agreeing _ (k .least .result) _ _ (read .ensures) (row .ensures))
+    rows-more (row .result) (k .before .before .loop .inv) (k .least .ensures) (c .drop-least .ensures)
+    (upto-below (row .ensures)) (small k) (agreeing _ (k .least .result) _ _ (read .ensures) (row .ensures))
 
 returns : tie.Need-returns Inv-loop μ-loop
 returns c = rows-all (rw (c .loop-test .left) at (c .before .loop .inv))
