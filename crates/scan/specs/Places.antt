@@ -13,7 +13,7 @@ use Rattle.model.specs.Limits.{mostTables}
 use Rattle.scan.specs.declared.numbers.Number.{Number}
 
 -- a place of a text, or the one behind it; the text is no longer than an input may be
-pub record Place (text : List ℕ) (at : ℕ) : Type 0 where
+pub record PlaceIn (text : List ℕ) (at : ℕ) : Type 0 where
   pub short : length text < 2 ^ 32
   pub within : at ≤ length text
 

@@ -9,7 +9,7 @@ ghost use Prim.Native.Nat.{_^_, _<_};
 ghost use lib.ListN.{length};
 ghost use Rattle.model.specs.Limits.{mostTables};
 ghost use Rattle.model.specs.Rows.{queryRowsLong};
-ghost use Rattle.scan.specs.Places.{Place, NamesAt, WidthOf};
+ghost use Rattle.scan.specs.Places.{PlaceIn, NamesAt, WidthOf};
 ghost use Rattle.scan.specs.Scanned.{SomeWidths, ScannedUnder};
 use model::Line;
 use model::MOST_LINES;
@@ -29,7 +29,7 @@ pub struct Piece {
 
 // Whether the names line of a query stands at a place.
 fn names_at(text: &[u8], at: usize) -> bool
-    requires { ⌜ Place (now text) at ⌝ }
+    requires { ⌜ PlaceIn (now text) at ⌝ }
     ensures { λ r. ⌜ NamesAt (now (text .entry)) at r ⌝ }
 {
     if text.len() < at + NAMES {

@@ -3,7 +3,7 @@
 ghost use mathlib.Core.Path.{_≡_};
 ghost use Prim.Native.Nat.{_^_, _<_};
 ghost use lib.ListN.{length};
-ghost use Rattle.scan.specs.Places.{Place, DigitsBetween, NumberAt, TableAt};
+ghost use Rattle.scan.specs.Places.{PlaceIn, DigitsBetween, NumberAt, TableAt};
 use text::MOST_DIGITS;
 
 // A number, and the place behind its digits; place 0 where there is none.
@@ -38,7 +38,7 @@ fn numeral_between(text: &[u8], at: usize, end: usize, value: u64) -> Number
 
 // The numeral that starts at a place and ends before a byte that is no digit.
 pub fn number_at(text: &[u8], at: usize) -> Number
-    requires { ⌜ Place (now text) at ⌝ }
+    requires { ⌜ PlaceIn (now text) at ⌝ }
     ensures { λ n. ⌜ NumberAt (now (text .entry)) at n ⌝ }
 {
     let mut value: u64 = 0;
@@ -59,7 +59,7 @@ pub fn number_at(text: &[u8], at: usize) -> Number
 
 // A table's number of one digit or two.
 pub fn table_at(text: &[u8], at: usize) -> Number
-    requires { ⌜ Place (now text) at ⌝ }
+    requires { ⌜ PlaceIn (now text) at ⌝ }
     ensures { λ n. ⌜ TableAt (now (text .entry)) at n ⌝ }
 {
     if text.len() < at + 2 {

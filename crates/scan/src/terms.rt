@@ -3,7 +3,7 @@
 ghost use mathlib.Core.Path.{_≡_};
 ghost use Prim.Native.Nat.{_≤_};
 ghost use Rattle.model.specs.Limits.{mostColumns};
-ghost use Rattle.scan.specs.Places.{Place, EndAt};
+ghost use Rattle.scan.specs.Places.{PlaceIn, EndAt};
 ghost use Rattle.scan.specs.TermsAt.{limitOf, TermAt, TermsAt};
 use crate::numbers::number_at;
 use model::CONSTANT;
@@ -49,7 +49,7 @@ fn no_term() -> TermEnd
 
 // The term behind the space at a place.
 fn term_at(text: &[u8], at: usize) -> TermEnd
-    requires { ⌜ Place (now text) at ⌝ }
+    requires { ⌜ PlaceIn (now text) at ⌝ }
     ensures { λ r. ⌜ TermAt (now (text .entry)) at r ⌝ }
 {
     if text.len() < at + 2 {
@@ -93,7 +93,7 @@ fn line_end(text: &[u8], at: usize) -> usize
 
 // So many terms, each behind a space, and the end of their line.
 pub fn terms_at(text: &[u8], start: usize, width: usize) -> Terms
-    requires { ⌜ Place (now text) start × (width ≤ mostColumns) ⌝ }
+    requires { ⌜ PlaceIn (now text) start × (width ≤ mostColumns) ⌝ }
     ensures { λ r. ⌜ TermsAt (now (text .entry)) start width r ⌝ }
 {
     let mut r = Terms {

@@ -12,7 +12,7 @@ use Rattle.model.specs.Limits.{mostColumns, mostLines}
 use Rattle.model.specs.Rows.{queryRowsLong}
 use Rattle.model.specs.declared.Query.{Query as QueryValue}
 use Rattle.cutting.proofs.Walk.{ends}
-use Rattle.scan.specs.Places.{Place, NumeralThere}
+use Rattle.scan.specs.Places.{PlaceIn, NumeralThere}
 use Rattle.scan.specs.Scanned.{ScannedUnder}
 use Rattle.scan.specs.TermsAt.{spaced, TermsThere}
 use Rattle.scan.proofs.LinePlaces.{names-next}
@@ -67,7 +67,7 @@ turn c = c .before .before .before .before
 abbrev input : At → List ℕ
 input l = start l .args .input .now
 
-place : (l : At) → Place (input l) (l .loop .at)
+place : (l : At) → PlaceIn (input l) (l .loop .at)
 place l = record { short = start l .pre .1; within = l .loop .inv .0 .text .within }
 
 room : (c : tie.Else3 Inv-loop μ-loop) → turn c .loop .q .count < mostLines
