@@ -23,16 +23,13 @@ use Rattle.reduce.specs.LineTargets.{SameAt, Near, TargetWord}
 use Rattle.reduce.specs.PairNumbers.{lineOf, targetOf}
 use Rattle.reduce.specs.Pairs.{Going, Goings}
 use Rattle.reduce.specs.Worded.{columnsWord, Given}
-use Rattle.reduce.proofs.KeptColumns.{keptColumns}
+use Rattle.reduce.proofs.KeptColumns.{Kept}
 use Rattle.reduce.proofs.Links.{upto-below}
 use Rattle.reduce.proofs.TargetLines.{goes-near, same-goes, goes-self}
 
 -- ---- the targets of line a
 
-module _ (n : ℕ) (rows words : List ℕ) (a : ℕ) where
-  abbrev kept : ℕ
-  kept = keptColumns (columnsWord words a)
-
+module _ (n : ℕ) (rows words : List ℕ) (a kept : ℕ) where
   abbrev Target : Query → ℕ → Type 0
   Target Q s = T (goes (lineAt Q a) (lineAt Q s))
 
@@ -45,8 +42,9 @@ module _ (n : ℕ) (rows words : List ℕ) (a : ℕ) where
     pub picked : (Q : Query) → Given Q n rows words → Picked (Target Q) near rest m
 
   -- the line itself is one
-  pub targets-first : (near : ℕ) → n ≤ mostLines → a < n → Upto (Near rows words a kept) n near → Targets (setBit 0 a) (clearBit near a)
-  targets-first near few l u = record {
+  pub targets-first : (near : ℕ) → Kept (columnsWord words a) kept → n ≤ mostLines → a < n → Upto (Near rows words a kept) n near
+      → Targets (setBit 0 a) (clearBit near a)
+  targets-first near out few l u = record {
     near = near;
     nearby = u;
     below = λ s e. upto-below u s (clear-bit-iff near a s .0 e .0);
@@ -59,7 +57,7 @@ module _ (n : ℕ) (rows words : List ℕ) (a : ℕ) where
       first Q g s (yes e) =
           let k : a < length Q = omega (arith, g .count) in
           let self = goes-self g a k in (
-            λ h. rw e (u .below a l .1 (goes-near g a k a k self), clear-bit-same near a, self),
+            λ h. rw e (u .below a l .1 (goes-near g a k kept out a k self), clear-bit-same near a, self),
             λ r. set-bit-iff 0 a s .1 (inr (sym e)),
           )
       first Q g s (no f) = (
@@ -67,9 +65,9 @@ module _ (n : ℕ) (rows words : List ℕ) (a : ℕ) where
         λ r. absurd (omega (arith, clear-bit-other near a s f, r .0, r .1)),
       )
 
-  pub targets-more : {m rest s next : ℕ} (on : Bool) (r : ℕ) → n ≤ mostLines → a < n → Targets m rest → Least 64 rest s
-      → LeastDropped 64 rest next → T on ↔ SameAt rows a s kept → r ≡ cond on (setBit m s) m → Targets r next
-  targets-more {m} {rest} {s} {next} on r few l k first others test e =
+  pub targets-more : {m rest s next : ℕ} (on : Bool) (r : ℕ) → Kept (columnsWord words a) kept → n ≤ mostLines → a < n → Targets m rest
+      → Least 64 rest s → LeastDropped 64 rest next → T on ↔ SameAt rows a s kept → r ≡ cond on (setBit m s) m → Targets r next
+  targets-more {m} {rest} {s} {next} on r out few l k first others test e =
       let b = k .below s (first .set) in
       record {
         near = k .near;
@@ -79,16 +77,16 @@ module _ (n : ℕ) (rows words : List ℕ) (a : ℕ) where
         picked = λ Q g.
             let p = k .picked Q g in
             let near = upto-set (k .nearby) s (p .some s (first .set)) in
-            let same = same-goes g a (omega (arith, g .count)) s (omega (arith, g .count)) near in
+            let same = same-goes g a (omega (arith, g .count)) kept out s (omega (arith, g .count)) near in
             picked-more on r p first others (λ t. same .0 (test .0 t), λ h. test .1 (same .1 h)) e;
       }
 
-  pub targets-all : {m : ℕ} → a < n → Targets m 0 → (Q : Query) → Given Q n rows words → TargetWord Q a m
-  targets-all l k Q g s =
+  pub targets-all : {m : ℕ} → Kept (columnsWord words a) kept → a < n → Targets m 0 → (Q : Query) → Given Q n rows words → TargetWord Q a m
+  targets-all out l k Q g s =
       let r = picked-all (k .picked Q g) s in (
         λ e. let (x, y) = r .0 e in (omega (arith, g .count, upto-below (k .nearby) s x), y),
         λ h.
-            let near = goes-near g a (omega (arith, g .count)) s (h .0) (h .1) in
+            let near = goes-near g a (omega (arith, g .count)) kept out s (h .0) (h .1) in
             r .1 (k .nearby .below s (omega (arith, g .count, h .0)) .1 near, h .1),
       )
 

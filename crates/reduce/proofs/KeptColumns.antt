@@ -10,9 +10,9 @@ use lib.Bits.{bitAnd, bitOr, bitXor, and-le-l, and-le-r, or-add-and, xor-add-and
 use lib.Dec.{T, eqb}
 use mir.Facts.{eqb-yes, yes-eqb}
 use Rattle.words.specs.Bits.{bit}
-use Rattle.words.specs.Sets.{setBit, Upto}
+use Rattle.words.specs.Sets.{setBit, Without, Upto}
 use Rattle.words.proofs.Bits.{bit-zero, bit-cases, bit-within, bits-ext}
-use Rattle.words.proofs.ClearBits.{bit-xor, low-bits-set}
+use Rattle.words.proofs.ClearBits.{low-bits-set}
 use Rattle.words.proofs.Marks.{upto-more}
 use Rattle.words.proofs.Masks.{bit-and-iff}
 use Rattle.model.specs.Limits.{mostColumns}
@@ -59,22 +59,15 @@ near-more rows words a kept s {t} {u} {w} r small et eu ew er k =
 
 -- ---- every column but those of a word
 
-abbrev every : ℕ
-every = 2 ^ mostColumns - 1
+abbrev pub Kept : ℕ → ℕ → Type 0
+Kept w kept = Without (2 ^ mostColumns - 1) w kept
 
-abbrev pub keptColumns : ℕ → ℕ
-keptColumns w = bitAnd every (bitXor every w)
+module _ {w kept : ℕ} (k : Kept w kept) where
+  pub kept-small : kept < 2 ^ mostColumns
+  kept-small = k .below mostColumns (omega arith)
 
-pub kept-small : (w : ℕ) → keptColumns w < 2 ^ mostColumns
-kept-small w = omega (arith, and-le-l every (bitXor every w))
-
-pub kept-iff : (w p : ℕ) → (bit (keptColumns w) p ≡ 1) ↔ ((p < mostColumns) × (bit w p ≡ 0))
-kept-iff w p =
-    let a = bit-and-iff every (bitXor every w) p in
-    let x = bit-xor every w p in (
-      λ e. let (h, k) = a .0 e in
-          let none : bit w p ≡ 1 → ⊥ = λ o. let z = sym x ∙ k in omega (arith, rw (h, o) at z) in
-          (bit-within mostColumns p (omega arith) h, ⊎-elim (λ z. z) (λ o. absurd (none o)) (bit-cases w p)),
-      λ r. let h = low-bits-set mostColumns p (r .0) in
-          a .1 (h, x ∙ rw (h, r .1)),
-    )
+  pub kept-iff : (p : ℕ) → (bit kept p ≡ 1) ↔ ((p < mostColumns) × (bit w p ≡ 0))
+  kept-iff p = (
+    λ e. let r = k .bits p .0 e in (bit-within mostColumns p (omega arith) (r .0), r .1),
+    λ r. k .bits p .1 (low-bits-set mostColumns p (r .0), r .1),
+  )

@@ -23,7 +23,7 @@ use Rattle.reduce.specs.Agree.{goes, lineAt}
 use Rattle.reduce.specs.LineTargets.{SameAt, Near}
 use Rattle.reduce.specs.Worded.{columnsWord, HiddenAt, Given}
 use Rattle.reduce.proofs.Agree.{Goes, goes-iff}
-use Rattle.reduce.proofs.KeptColumns.{keptColumns, kept-iff}
+use Rattle.reduce.proofs.KeptColumns.{Kept, kept-iff}
 use Rattle.reduce.proofs.LaidColumns.{value-same, goes-same}
 use Rattle.reduce.proofs.Lines.{laid-few}
 use Rattle.reduce.proofs.LineValues.{used, unused}
@@ -80,23 +80,25 @@ module _ (A S : TheLine) (few : length (A .columns) ≤ mostColumns) (few′ : l
 
 -- ---- the lines of a query
 
-module _ {Q : Query} {n : ℕ} {rows words : List ℕ} (g : Given Q n rows words) (a : ℕ) (l : a < length Q) where
+pub goes-self : {Q : Query} {n : ℕ} {rows words : List ℕ} → Given Q n rows words → (a : ℕ) → a < length Q → T (goes (lineAt Q a) (lineAt Q a))
+goes-self {Q} g a l =
+    let few = laid-few (g .laid) a l in terms-go (lineAt Q a) (lineAt Q a) few few refl refl (λ p b f. refl)
+
+module _ {Q : Query} {n : ℕ} {rows words : List ℕ} (g : Given Q n rows words) (a : ℕ) (l : a < length Q) (kept : ℕ)
+    (out : Kept (columnsWord words a) kept) where
   abbrev A : TheLine
   A = lineAt Q a
-
-  abbrev kept : ℕ
-  kept = keptColumns (columnsWord words a)
 
   -- the columns kept are those of A without a hidden variable
   kept-plain : (p : ℕ) → bit kept p ≡ 1 → (n : ℕ) → HiddenAt A n p → ⊥
   kept-plain p e n h =
-      omega (arith, kept-iff (columnsWord words a) p .0 e .1, g .worded .line a l .columns p .1 (n, h))
+      omega (arith, kept-iff out p .0 e .1, g .worded .line a l .columns p .1 (n, h))
 
   plain-kept : (p : ℕ) → p < mostColumns → ((n : ℕ) → HiddenAt A n p → ⊥) → bit kept p ≡ 1
   plain-kept p b f =
       let w = columnsWord words a in
       let none : bit w p ≡ 1 → ⊥ = λ e. let r = g .worded .line a l .columns p .0 e in f (r .0) (r .1) in
-      kept-iff w p .1 (b, ⊎-elim (λ z. z) (λ e. absurd (none e)) (bit-cases w p))
+      kept-iff out p .1 (b, ⊎-elim (λ z. z) (λ e. absurd (none e)) (bit-cases w p))
 
   module _ (s : ℕ) (k : s < length Q) where
     abbrev S : TheLine
@@ -131,9 +133,6 @@ module _ {Q : Query} {n : ℕ} {rows words : List ℕ} (g : Given Q n rows words
         let v : (p : ℕ) → p < mostColumns → laidTerm rows s p ≡ termAt (lineValue S) p = g .laid .row s k .term in (
           λ same. terms-go A S x y table (same-width table) (λ p b f. sym (u p b) ∙ same p (plain-kept p b f) ∙ v p b),
           λ t p e.
-              let b = kept-iff (columnsWord words a) p .0 e .0 in
+              let b = kept-iff out p .0 e .0 in
               u p b ∙ goes-terms A S x y t p (kept-plain p e) ∙ sym (v p b),
         )
-
-  pub goes-self : T (goes A A)
-  goes-self = terms-go A A (laid-few (g .laid) a l) (laid-few (g .laid) a l) refl refl (λ p b f. refl)

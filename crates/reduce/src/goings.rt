@@ -59,7 +59,7 @@ fn goings_of(n: usize, lines: &[u64], words: &[u64], a: usize) -> u64
     ensures { λ r. ⌜ r < 2 ^ mostLines ⌝ }
     ensures { λ r. ⌜ ((Q : TheQuery) → Given Q n (now (lines .entry)) (now (words .entry)) → TargetWord Q a r) ⌝ }
 {
-    let kept = COLUMNS & (COLUMNS ^ columns_of(words, a));
+    let kept = words::without(COLUMNS, columns_of(words, a));
     let mut m = words::set_bit(0, a as u64);
     let mut rest = words::clear_bit(near(n, lines, words, a, kept), a as u64);
     while rest != 0 {

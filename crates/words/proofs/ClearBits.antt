@@ -37,7 +37,7 @@ differ-none : (x : ℕ) → differ x 0 ≡ x
 differ-none zero = refl
 differ-none (suc x) = refl
 
-pub bit-xor : (a b k : ℕ) → bit (bitXor a b) k ≡ differ (bit a k) (bit b k)
+bit-xor : (a b k : ℕ) → bit (bitXor a b) k ≡ differ (bit a k) (bit b k)
 bit-xor a b k = rw xor-shr (go (bit-cases a k) (bit-cases b k))
   where
     go : (bit a k ≡ 0) ⊎ (bit a k ≡ 1) → (bit b k ≡ 0) ⊎ (bit b k ≡ 1) → bitXor (a / 2 ^ k) (b / 2 ^ k) % 2 ≡ differ (bit a k) (bit b k)
