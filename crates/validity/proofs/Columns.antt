@@ -27,16 +27,16 @@ use Rattle.validity.proofs.Terms.{good-within, within-good, within-unma
 use Rattle.validity.proofs.Marks.{Marks, marks-none, marks-more}
 use Rattle.validity.proofs.Entries.{counts, entered-length, entered-word}
 
--- what place k holds, for its word
-abbrev held : ℕ → List Term → ℕ → Term
-held w ts k = counts (ltb k w) (getD ts k unusedTerm)
+-- what place k enters
+abbrev entry : ℕ → List Term → ℕ → Term
+entry w ts k = counts (ltb k w) (getD ts k unusedTerm)
 
 -- what the first i places have shown, and the words of all marks but the constants'
 pub record Looked (w : ℕ) (ts : List Term) (by : List ℕ) (i : ℕ) : Type 0 where
   pub few : i ≤ mostColumns
   pub long : length by ≡ marks
   pub places : (k : ℕ) → k < i → Place Within unusedTerm (ltb k w) (getD ts k unusedTerm)
-  pub words : (m : ℕ) → (m ≡ 1 → ⊥) → Marks m (held w ts) (getD by m 0) i
+  pub words : (m : ℕ) → (m ≡ 1 → ⊥) → Marks m (entry w ts) (getD by m 0) i
 
 module _ (w : ℕ) (ts : List Term) where
   pub looked-none : Looked w ts (replicate marks 0) 0
@@ -45,7 +45,7 @@ module _ (w : ℕ) (ts : List Term) where
         few = omega arith;
         long = refl;
         places = below-none _;
-        words = λ m f. rw (only-default {X = ℕ} 0 marks m) (marks-none m (held w ts));
+        words = λ m f. rw (only-default {X = ℕ} 0 marks m) (marks-none m (entry w ts));
       }
 
   pub looked-more : {by by′ : List ℕ} {i : ℕ} → Looked w ts by i → i < mostColumns
@@ -58,11 +58,12 @@ module _ (w : ℕ) (ts : List Term) where
         places = below-more _ i (l .places) p;
         words = λ m f.
             rw (e, entered-word (ltb i w) (getD ts i unusedTerm) by (l .long) p m f)
-            (marks-more m (held w ts) (getD by m 0) i (l .words m f));
+            (marks-more m (entry w ts) (getD by m 0) i (l .words m f));
       }
 
 -- ---- at the end
 
+-- a word that is not 0 has a bit
 below-power : (n : ℕ) → n < 2 ^ n
 below-power zero = omega arith
 below-power (suc n) = omega (arith, below-power n)
@@ -80,30 +81,32 @@ right-within true t p = good-within t p .1
 right-within false t p = p
 
 module _ (w : ℕ) (ts : List Term) (k : ℕ) where
-  used-held : k < w → held w ts k ≡ getD ts k unusedTerm
+  used-entry : k < w → entry w ts k ≡ getD ts k unusedTerm
   unfolding counts
-  used-held h = rw (lt-ltb k w h) refl
+  used-entry h = rw (lt-ltb k w h) refl
 
   -- what is entered under another mark than the constants' stands at a used place
-  held-used : {m n : ℕ} → (m ≡ 1 → ⊥) → held w ts k ≡ record { mark = m; number = n } → k < w
+  entry-used : {m n : ℕ} → (m ≡ 1 → ⊥) → entry w ts k ≡ record { mark = m; number = n } → k < w
   unfolding counts
-  held-used f e =
+  entry-used f e =
       by-cases (decLt k w) (λ h. h)
-      (λ h. let none : ltb k w ≡ false = le-ltb k w (omega arith) in
+      (λ h.
+      let none : ltb k w ≡ false = le-ltb k w (omega arith) in
       absurd (f (sym (ap (λ (t : Term). t .mark) (rw none at e)))))
 
 module _ {w : ℕ} {ts : List Term} {by : List ℕ} {i : ℕ} (l : Looked w ts by i) (all : mostColumns ≤ i) where
-  -- a term stands under its mark
+  -- a bit of a mark's word is the number of a term that stands at a used place
   found : (m n : ℕ) → (m ≡ 1 → ⊥) → bit (getD by m 0) n ≡ 1
       → (k : ℕ) × (k < mostColumns) × (k < w) × (getD ts k unusedTerm ≡ record { mark = m; number = n })
   found m n f b =
       let r = l .words m f n .0 b in
-      let h = held-used w ts (r .0) f (r .2) in
-      (r .0, omega (arith, r .1, l .few), h, sym (used-held w ts (r .0) h) ∙ r .2)
+      let h = entry-used w ts (r .0) f (r .2) in
+      (r .0, omega (arith, r .1, l .few), h, sym (used-entry w ts (r .0) h) ∙ r .2)
 
+  -- such a term has its bit
   put : (m n k : ℕ) → (m ≡ 1 → ⊥) → k < mostColumns → k < w → getD ts k unusedTerm ≡ record { mark = m; number = n }
       → bit (getD by m 0) n ≡ 1
-  put m n k f b h e = l .words m f n .1 (k, omega arith, used-held w ts k h ∙ e)
+  put m n k f b h e = l .words m f n .1 (k, omega arith, used-entry w ts k h ∙ e)
 
   -- ---- no used place is without a mark
 
@@ -135,8 +138,8 @@ module _ {w : ℕ} {ts : List Term} {by : List ℕ} {i : ℕ} (l : Looked w ts b
   -- ---- no variable is both shown and hidden
 
   -- a variable stands at a used place, and its number is within the limit
-  standing : (k : ℕ) {m n : ℕ} → TermPlace (ltb k w) (getD ts k unusedTerm) → 1 < m → getD ts k unusedTerm ≡ record { mark = m; number = n }
-      → (k < w) × (n ≤ lastVariable)
+  standing : (k : ℕ) {m n : ℕ} → TermPlace (ltb k w) (getD ts k unusedTerm) → 1 < m
+      → getD ts k unusedTerm ≡ record { mark = m; number = n } → (k < w) × (n ≤ lastVariable)
   unfolding unusedTerm
   standing k p some e =
       let mark = ap (λ (t : Term). t .mark) e in

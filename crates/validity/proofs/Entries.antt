@@ -34,7 +34,7 @@ entering-unused used e h = rw e (record { right = h; done = λ y. refl })
 
 -- ---- the words
 
--- what a place holds, for its word: one that is not used is as a constant, whose word nobody reads
+-- what a place enters: one that is not used, nothing, as if it held a constant, whose word nobody reads
 unfoldable pub counts : Bool → Term → Term
 counts true t = t
 counts false t = record { mark = 1; number = 0 }
@@ -44,7 +44,7 @@ unfolding entered
 entered-length true t by = length-set by (t .mark) _
 entered-length false t by = refl
 
--- the word of a mark gets the number of a term that has it; numbers of constants are too large for theirs
+-- the word of a mark gets the number of a term that has it. Not so for constants, whose numbers need not be bits of a word.
 pub entered-word : (used : Bool) (t : Term) (by : List ℕ) → length by ≡ marks → Place Within unusedTerm used t → (m : ℕ) → (m ≡ 1 → ⊥)
     → getD (entered used t by) m 0 ≡ withMark m (getD by m 0) (counts used t)
 unfolding entered withMark counts

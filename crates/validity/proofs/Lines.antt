@@ -7,7 +7,7 @@ use native.Mathlib.Nat.{suc-inj, suc-ne-zero}
 use native.Mathlib.Decide.{decLt}
 use native.Mathlib.Omega.{arith}
 use lib.Dec.{eqb}
-use lib.ListN.{length, getD, replicate, getD-replicate}
+use lib.ListN.{length, getD, replicate}
 use mir.Facts.{yes-eqb}
 use Rattle.theory.specs.Query.{shown, hidden, _∈_}
 use Rattle.theory.specs.Query.{Term as TheTerm}
@@ -19,7 +19,7 @@ use Rattle.model.specs.declared.Term.{Term}
 use Rattle.model.specs.declared.Line.{Line}
 use Rattle.validity.specs.Parts.{HoldsList, GoodTerm, TermOf, TermsHeld}
 use Rattle.validity.specs.Entries.{TermsFor}
-use Rattle.validity.proofs.Lists.{all-same}
+use Rattle.validity.proofs.Lists.{only-default, all-same}
 use Rattle.validity.proofs.Held.{checked-held, held-checked, held-place, held-thing, place-unused, unused-place}
 
 -- ---- the unused line
@@ -28,11 +28,11 @@ pub unused-table : {l : Line} → l ≡ unusedLine → l .table ≡ 0
 unfolding unusedLine
 unused-table e = ap (λ (l : Line). l .table) e
 
-pub unused-terms : {l : Line} → l ≡ unusedLine → (k : ℕ) → k < mostColumns → getD (l .terms) k unusedTerm ≡ unusedTerm
+unused-terms : {l : Line} → l ≡ unusedLine → (k : ℕ) → getD (l .terms) k unusedTerm ≡ unusedTerm
 unfolding unusedLine
-unused-terms e k h = ap (λ (l : Line). getD (l .terms) k unusedTerm) e ∙ getD-replicate mostColumns k unusedTerm unusedTerm h
+unused-terms e k = ap (λ (l : Line). getD (l .terms) k unusedTerm) e ∙ only-default unusedTerm mostColumns k
 
-pub unused-line : {l : Line} → length (l .terms) ≡ mostColumns → l .table ≡ 0
+unused-line : {l : Line} → length (l .terms) ≡ mostColumns → l .table ≡ 0
     → ((k : ℕ) → k < mostColumns → getD (l .terms) k unusedTerm ≡ unusedTerm) → l ≡ unusedLine
 unfolding unusedLine
 unused-line {l} long t each =
@@ -45,8 +45,8 @@ unfolding termValue unusedTerm
 terms-unused long none = (
   λ d. unused-line long none (λ k h. place-unused TermOf unusedTerm k 0 zero-le (d .places k h)),
   λ e. record {
-    places = λ k h. unused-place TermOf unusedTerm k 0 zero-le (unused-terms e k h);
-    clear = λ n j k a b s h. suc-ne-zero _ (ap (λ (x : Term). x .mark) (sym s ∙ unused-terms e j a));
+    places = λ k h. unused-place TermOf unusedTerm k 0 zero-le (unused-terms e k);
+    clear = λ n j k a b s h. suc-ne-zero _ (ap (λ (x : Term). x .mark) (sym s ∙ unused-terms e j));
   },
 )
 
