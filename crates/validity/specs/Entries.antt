@@ -49,7 +49,7 @@ unfoldable pub markLimits : List ℕ
 unfolding constantLimit
 markLimits = 0 ∷ constantLimit ∷ lastVariable ∷ lastVariable ∷ []
 
--- a mark and a number within its limit; the unused term is one of them
+-- one of the marks, or none, and a number within its limit
 pub record Within (t : Term) : Type 0 where
   pub marked : t .mark < marks
   pub small : t .number ≤ getD markLimits (t .mark) 0

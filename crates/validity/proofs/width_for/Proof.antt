@@ -14,13 +14,17 @@ returns-2 : tie.Need-returns-2
 returns-2 c = rw (not-true (c .before .before .args .used) (c .before .if1 .taken)) (of-wrong (c .if2 .left))
 
 returns-3 : tie.Need-returns-3
-returns-3 c = rw (not-false (c .before .before .args .used) (c .before .if1 .left)) (of-wrong {used = true} (λ h. omega (arith, h .0, c .if3 .taken)))
+returns-3 c =
+    rw (not-false (c .before .before .args .used) (c .before .if1 .left))
+    (of-wrong {used = true} (λ h. omega (arith, h .0, c .if3 .taken)))
 
 sub-at : tie.Need-sub-at
 sub-at c = search needs
 
 returns-4 : tie.Need-returns-4
-returns-4 c = rw (not-false (c .before .before .before .args .used) (c .before .before .if1 .left)) (of-wrong {used = true} (λ h. omega (arith, h .0, h .1, c .if4 .taken)))
+returns-4 c =
+    rw (not-false (c .before .before .before .args .used) (c .before .before .if1 .left))
+    (of-wrong {used = true} (λ h. omega (arith, h .0, h .1, c .if4 .taken)))
 
 mul-result : tie.Need-mul-result
 mul-result c = search needs
