@@ -41,14 +41,14 @@ module _ (widths : List ℕ) (t : Tables) (tables : TablesOf widths t) where
   unfolding tablesValue
   tables-width k = ap (λ (s : Tables). getD (s .columns) k 0) (tables .is) ∙ pad-get mostTables 0 widths k
 
-  pub width-within : (k : ℕ) → k < t .count → (1 ≤ getD (t .columns) k 0) × (getD (t .columns) k 0 ≤ mostColumns)
+  width-within : (k : ℕ) → k < t .count → (1 ≤ getD (t .columns) k 0) × (getD (t .columns) k 0 ≤ mostColumns)
   width-within k h =
       let c = tables-checked t (widths, tables) in
       width-iff (getD (t .columns) k 0) .0
       (place-used (ValueOf GoodWidth (λ w. w)) 0 k (t .count) h (c .places k (omega (arith, c .counted .1))))
 
   module _ (l : Line) where
-    pub view-table : ViewOf widths l → (1 ≤ l .table) × (l .table ≤ t .count)
+    view-table : ViewOf widths l → (1 ≤ l .table) × (l .table ≤ t .count)
     unfolding lineWithin known lineValue
     view-table v =
         let A = v .thing in
@@ -106,7 +106,7 @@ module _ (widths : List ℕ) (t : Tables) (tables : TablesOf widths t) where
           clear = apart-iff A .0 (v .good .clear);
         }
 
-    pub terms-iff : 1 ≤ l .table → l .table ≤ t .count
+    terms-iff : 1 ≤ l .table → l .table ≤ t .count
         → TermsHeld (getD (t .columns) (l .table - 1) 0) (l .terms) ↔ ViewOf widths l
     terms-iff some last = (terms-view some last, view-terms)
 
