@@ -7,6 +7,7 @@ pub mod Tables
 pub mod Terms
 pub mod Lines
 pub mod Marks
+pub mod Entries
 pub mod Columns
 pub mod Clash
 pub mod Views

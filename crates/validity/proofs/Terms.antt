@@ -1,26 +1,34 @@
 -- A term within its limit, by its mark.
 use mathlib.Core.Path.{_≡_, refl, ap}
-use mathlib.Core.Logic.{_↔_}
-use mathlib.Core.Bool.{true}
-use Prim.Native.Nat.{_≤_, _<_}
+use mathlib.Core.Logic.{by-cases}
+use Prim.Native.Nat.{ℕ, _≤_}
+use native.Mathlib.Decide.{ℕ-discrete}
 use native.Mathlib.Omega.{arith}
-use borrow.Author.Tests.{leb-true, le-leb, eqb-true, eq-eqb}
-use lib.Dec.{T, eqb, leb, leb→le, le→leb}
+use lib.Bits.{bitOr, or-add-and, and-le-l, and-le-r}
+use lib.Dec.{T, leb→le, le→leb}
 use Rattle.theory.specs.Query.{constant, shown, hidden}
 use Rattle.theory.specs.Query.{Term as TheTerm}
 use Rattle.theory.specs.Executable.Test.{kind, number}
 use Rattle.text.specs.Numeral.{constantLimit}
 use Rattle.model.specs.Limits.{lastVariable, termWithin}
-use Rattle.model.specs.Value.{termValue}
+use Rattle.model.specs.Value.{termValue, unusedTerm}
 use Rattle.model.specs.declared.Term.{Term}
 use Rattle.validity.specs.Parts.{TermOf}
+use Rattle.validity.specs.Entries.{markLimits, Within}
 
 pub term-path : {t u : Term} → t .mark ≡ u .mark → t .number ≡ u .number → t ≡ u
 term-path e f = λ i. record { mark = e i; number = f i }
 
+-- numbers whose bits joined are none are both 0
+pub none-joined : (a b : ℕ) → bitOr a b ≡ 0 → (a ≡ 0) × (b ≡ 0)
+none-joined a b e = (
+  omega (arith, or-add-and a b, and-le-r a b),
+  omega (arith, or-add-and a b, and-le-l a b),
+)
+
 -- ---- a good term has one of three marks, and a number within the limit of its mark
 
-pub data Marked (t : Term) : Type 0 where
+data Marked (t : Term) : Type 0 where
   as-constant : t .mark ≡ 1 → t .number ≤ constantLimit → Marked t
   as-shown : t .mark ≡ 2 → t .number ≤ lastVariable → Marked t
   as-hidden : t .mark ≡ 3 → t .number ≤ lastVariable → Marked t
@@ -33,53 +41,50 @@ module _ (t : Term) where
   value-marked (shown n) w e = as-shown (ap (λ (x : Term). x .mark) e) (rw (ap (λ (x : Term). x .number) e) (leb→le n lastVariable w))
   value-marked (hidden n) w e = as-hidden (ap (λ (x : Term). x .mark) e) (rw (ap (λ (x : Term). x .number) e) (leb→le n lastVariable w))
 
-  pub holds-marked : TermOf t → Marked t
-  holds-marked h = value-marked (h .thing) (h .good) (h .is)
-
-  constant-bound : t .mark ≡ 1 → Marked t → t .number ≤ constantLimit
-  constant-bound e (as-constant m b) = b
-  constant-bound e (as-shown m b) = omega arith
-  constant-bound e (as-hidden m b) = omega arith
-
-  pub constant-iff : t .mark ≡ 1 → (leb (t .number) constantLimit ≡ true) ↔ TermOf t
+  marked-value : Marked t → TermOf t
   unfolding termValue kind number termWithin
-  constant-iff m = (
-    λ e. record {
-      thing = constant (t .number);
-      good = le→leb (t .number) constantLimit (leb-true _ _ e);
-      is = term-path m refl;
-    },
-    λ h. le-leb _ _ (constant-bound m (holds-marked h)),
-  )
+  marked-value (as-constant m b) =
+      record { thing = constant (t .number); good = le→leb (t .number) constantLimit b; is = term-path m refl }
+  marked-value (as-shown m b) =
+      record { thing = shown (t .number); good = le→leb (t .number) lastVariable b; is = term-path m refl }
+  marked-value (as-hidden m b) =
+      record { thing = hidden (t .number); good = le→leb (t .number) lastVariable b; is = term-path m refl }
 
-  -- ---- a term that is no constant
+  -- ---- the limit of its mark, out of the table
 
-  variable-bound : (t .mark ≡ 1 → ⊥) → Marked t → t .number ≤ lastVariable
-  variable-bound f (as-constant m b) = absurd (f m)
-  variable-bound f (as-shown m b) = b
-  variable-bound f (as-hidden m b) = b
+  marked-within : Marked t → (1 ≤ t .mark) × Within t
+  unfolding markLimits
+  marked-within (as-constant m b) = (omega arith, record { marked = omega arith; small = rw m b })
+  marked-within (as-shown m b) = (omega arith, record { marked = omega arith; small = rw m b })
+  marked-within (as-hidden m b) = (omega arith, record { marked = omega arith; small = rw m b })
 
-  pub variable-large : (t .mark ≡ 1 → ⊥) → lastVariable < t .number → TermOf t → ⊥
-  variable-large f large h = omega (arith, variable-bound f (holds-marked h))
+  within-marked : 1 ≤ t .mark → Within t → Marked t
+  unfolding markLimits
+  within-marked some w =
+      by-cases (ℕ-discrete (t .mark) 1) (λ e. as-constant e (rw e at (w .small)))
+      (λ f.
+      by-cases (ℕ-discrete (t .mark) 2) (λ e. as-shown e (rw e at (w .small)))
+      (λ g. let e : t .mark ≡ 3 = omega (arith, w .marked) in as-hidden e (rw e at (w .small))))
 
-  shown-holds : t .mark ≡ 2 → t .number ≤ lastVariable → TermOf t
-  unfolding termValue kind number termWithin
-  shown-holds m b = record { thing = shown (t .number); good = le→leb (t .number) lastVariable b; is = term-path m refl }
+  pub good-within : TermOf t → (1 ≤ t .mark) × Within t
+  good-within h = marked-within (value-marked (h .thing) (h .good) (h .is))
 
-  pub shown-iff : t .mark ≡ 2 → t .number ≤ lastVariable → (eqb (t .mark) 2 ≡ true) ↔ TermOf t
-  shown-iff m b = (λ e. shown-holds m b, λ h. eq-eqb (t .mark) 2 m)
+  pub within-good : 1 ≤ t .mark → Within t → TermOf t
+  within-good some w = marked-value (within-marked some w)
 
-  hidden-holds : t .mark ≡ 3 → t .number ≤ lastVariable → TermOf t
-  unfolding termValue kind number termWithin
-  hidden-holds m b = record { thing = hidden (t .number); good = le→leb (t .number) lastVariable b; is = term-path m refl }
+  -- with no mark it is the unused term
+  pub within-unmarked : t .mark ≡ 0 → Within t → t ≡ unusedTerm
+  unfolding markLimits unusedTerm
+  within-unmarked e w = let small : t .number ≤ 0 = rw e at (w .small) in term-path e (omega arith)
 
-  hidden-mark : (t .mark ≡ 1 → ⊥) → (t .mark ≡ 2 → ⊥) → Marked t → t .mark ≡ 3
-  hidden-mark f g (as-constant m b) = absurd (f m)
-  hidden-mark f g (as-shown m b) = absurd (g m)
-  hidden-mark f g (as-hidden m b) = m
-
-  pub hidden-iff : (t .mark ≡ 1 → ⊥) → (t .mark ≡ 2 → ⊥) → t .number ≤ lastVariable → (eqb (t .mark) 3 ≡ true) ↔ TermOf t
-  hidden-iff f g b = (
-    λ e. hidden-holds (eqb-true (t .mark) 3 e) b,
-    λ h. eq-eqb (t .mark) 3 (hidden-mark f g (holds-marked h)),
-  )
+  -- the number of any term but a constant is a bit of a word
+  pub within-word : (t .mark ≡ 1 → ⊥) → Within t → t .number ≤ lastVariable
+  unfolding unusedTerm
+  within-word f w =
+      by-cases (ℕ-discrete (t .mark) 0) (λ e. omega (arith, ap (λ (x : Term). x .number) (within-unmarked e w)))
+      (λ g. of (within-marked (omega arith) w))
+    where
+      of : Marked t → t .number ≤ lastVariable
+      of (as-constant m b) = absurd (f m)
+      of (as-shown m b) = b
+      of (as-hidden m b) = b

@@ -1,6 +1,7 @@
 -- A view under the tables of a policy, by its table and its terms.
 use mathlib.Core.Path.{_≡_, sym, ap, _∙_}
-use mathlib.Core.Logic.{_↔_}
+use mathlib.Core.Logic.{_↔_, Iff·trans}
+use mathlib.Core.Bool.{Bool, true, false}
 use mathlib.Core.List.{List, [], map}
 use Prim.Native.Nat.{ℕ, _-_, _≤_, _<_}
 use native.Mathlib.Omega.{arith}
@@ -17,9 +18,11 @@ use Rattle.model.specs.declared.Term.{Term}
 use Rattle.policy_text.specs.WellFormed.{GoodView, GoodWidth}
 use Rattle.model.proofs.Limits.{up-to-iff}
 use Rattle.validity.specs.Parts.{ValueOf, TablesOf, TermsHeld, ViewOf, ViewPlace, ViewsHeld}
+use Rattle.validity.specs.Entries.{TablePlace, WidthFor, of-view, of-none, of-wrong, TermsFor}
 use Rattle.model.proofs.Pad.{pad-get}
 use Rattle.validity.proofs.Held.{Checked, checked-default, checked-held, held-checked, held-length, place-used}
 use Rattle.validity.proofs.Tables.{width-iff, tables-checked}
+use Rattle.validity.proofs.Lines.{unused-table, terms-unused, terms-held}
 use Rattle.validity.proofs.Clash.{apart-iff}
 
 -- no more terms than a line holds are all kept
@@ -38,14 +41,14 @@ module _ (widths : List ℕ) (t : Tables) (tables : TablesOf widths t) where
   unfolding tablesValue
   tables-width k = ap (λ (s : Tables). getD (s .columns) k 0) (tables .is) ∙ pad-get mostTables 0 widths k
 
-  pub width-within : (k : ℕ) → k < t .count → (1 ≤ getD (t .columns) k 0) × (getD (t .columns) k 0 ≤ mostColumns)
+  width-within : (k : ℕ) → k < t .count → (1 ≤ getD (t .columns) k 0) × (getD (t .columns) k 0 ≤ mostColumns)
   width-within k h =
       let c = tables-checked t (widths, tables) in
       width-iff (getD (t .columns) k 0) .0
       (place-used (ValueOf GoodWidth (λ w. w)) 0 k (t .count) h (c .places k (omega (arith, c .counted .1))))
 
   module _ (l : Line) where
-    pub view-table : ViewOf widths l → (1 ≤ l .table) × (l .table ≤ t .count)
+    view-table : ViewOf widths l → (1 ≤ l .table) × (l .table ≤ t .count)
     unfolding lineWithin known lineValue
     view-table v =
         let A = v .thing in
@@ -103,9 +106,31 @@ module _ (widths : List ℕ) (t : Tables) (tables : TablesOf widths t) where
           clear = apart-iff A .0 (v .good .clear);
         }
 
-    pub terms-iff : 1 ≤ l .table → l .table ≤ t .count
+    terms-iff : 1 ≤ l .table → l .table ≤ t .count
         → TermsHeld (getD (t .columns) (l .table - 1) 0) (l .terms) ↔ ViewOf widths l
     terms-iff some last = (terms-view some last, view-terms)
+
+-- ---- a line, by the width for it
+
+module _ (widths : List ℕ) (t : Tables) (tables : TablesOf widths t) (l : Line) where
+  table-place : (used : Bool) → ViewPlace widths used l → TablePlace (t .count) used (l .table)
+  table-place true v = view-table widths t tables l v
+  table-place false e = unused-table e
+
+  -- too wide for any table
+  pub too-wide : {used : Bool} {w : ℕ} → WidthFor (t .count) (t .columns) (l .table) used w → mostColumns < w
+      → ViewPlace widths used l → ⊥
+  too-wide (of-view some last) h v = omega (arith, width-within widths t tables (l .table - 1) (omega arith) .1)
+  too-wide (of-none e) h v = omega arith
+  too-wide (of-wrong {used} f) h v = f (table-place used v)
+
+  pub width-iff-place : {used : Bool} {w : ℕ} → WidthFor (t .count) (t .columns) (l .table) used w → w ≤ mostColumns
+      → length (l .terms) ≡ mostColumns → TermsFor w (l .terms) ↔ ViewPlace widths used l
+  width-iff-place (of-view some last) h long =
+      let w = width-within widths t tables (l .table - 1) (omega arith) in
+      Iff·trans (terms-held _ (l .terms) long (w .0) (w .1)) (terms-iff widths t tables l some last)
+  width-iff-place (of-none e) h long = terms-unused long e
+  width-iff-place (of-wrong f) h long = absurd (omega arith)
 
 -- ---- the views, place by place
 

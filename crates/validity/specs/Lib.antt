@@ -1,2 +1,3 @@
 pub mod Loadable
 pub mod Parts
+pub mod Entries

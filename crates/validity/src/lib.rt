@@ -5,12 +5,11 @@ ghost use mathlib.Core.Logic.{_↔_};
 ghost use mathlib.Core.Bool.{true};
 ghost use mathlib.Core.List.{List};
 ghost use Prim.Native.Nat.{ℕ, _≤_};
-ghost use Rattle.model.specs.Limits.{mostTables, mostColumns, mostViews, mostPartitions};
-ghost use Rattle.model.specs.Value.{unusedTerm, unusedLine};
+ghost use Rattle.model.specs.Limits.{mostTables, mostViews, mostPartitions};
+ghost use Rattle.model.specs.Value.{unusedTerm};
 ghost use Rattle.validity.specs.Loadable.{Loadable};
-ghost use Rattle.validity.specs.Parts.{WidthPlace, TablesOf, TermOf, TermPlace, TermsHeld};
-ghost use Rattle.validity.specs.Parts.{ViewOf, ViewPlace, ViewsHeld, GrantPlace, PartitionsHeld};
-use model::CONSTANT;
+ghost use Rattle.validity.specs.Parts.{WidthPlace, TablesOf, ViewPlace, ViewsHeld, GrantPlace, PartitionsHeld};
+ghost use Rattle.validity.specs.Entries.{markLimits, WidthFor, TermsFor, Entering};
 use model::HIDDEN;
 use model::LAST_VARIABLE;
 use model::Line;
@@ -23,7 +22,6 @@ use model::SHOWN;
 use model::Tables;
 use model::Term;
 use model::UNUSED;
-use model::with_mark;
 use text::CONSTANT_LIMIT;
 
 pub fn valid(p: Policy) -> bool
@@ -78,6 +76,19 @@ fn valid_width(used: bool, w: u64) -> bool
 
 // ---- views
 
+// The bits of a word.
+const BITS: u64 = 64;
+
+// How many marks there are, the unused one among them.
+const MARKS: usize = 4;
+
+// The largest number of each mark. A used term with no mark passes as number 0, and is found out once the columns are done.
+const LIMITS: [u64; MARKS] = [0, CONSTANT_LIMIT, LAST_VARIABLE, LAST_VARIABLE];
+
+// The width that stands for a wrong table.
+const WRONG_WIDTH: u64 = MOST_COLUMNS as u64 + 1;
+
+// The limits are lent: a constant that is indexed would be made anew at each use.
 fn valid_views(p: Policy) -> bool
     requires { ⌜ p .tables .count ≤ mostTables ⌝ }
     ensures { λ r. ⌜ ((widths : List ℕ) → TablesOf widths (p .tables) → (r ≡ true) ↔ ViewsHeld widths (p .«view_count») (p .views)) ⌝ }
@@ -87,10 +98,13 @@ fn valid_views(p: Policy) -> bool
         return false;
     }
     let t = p.tables;
+    let count = t.count;
+    let columns = t.columns;
+    let limits = LIMITS;
     let mut i = 0;
     while i < MOST_VIEWS {
         let l = p.views[i];
-        if !valid_view(i < n, t, l) {
+        if !valid_view(i < n, count, &columns, l, &limits) {
             return false;
         }
         i += 1;
@@ -98,94 +112,96 @@ fn valid_views(p: Policy) -> bool
     true
 }
 
-// A view, or an unused line behind the last.
-fn valid_view(used: bool, t: Tables, l: Line) -> bool
-    requires { ⌜ t .count ≤ mostTables ⌝ }
-    ensures { λ r. ⌜ ((widths : List ℕ) → TablesOf widths t → (r ≡ true) ↔ ViewPlace widths used l) ⌝ }
+// A view, or an unused line behind the last: a line of no table with no columns used.
+fn valid_view(
+    used: bool,
+    count: usize,
+    columns: &[u64; MOST_TABLES],
+    l: Line,
+    limits: &[u64; MARKS],
+) -> bool
+    requires { ⌜ (count ≤ mostTables) × (now limits ≡ markLimits) ⌝ }
+    ensures { λ r. ⌜ ((widths : List ℕ) → TablesOf widths (record { count = count; columns = now (columns .entry) })
+        → (r ≡ true) ↔ ViewPlace widths used l) ⌝ }
 {
-    if used {
-        return valid_line(t, l);
+    let w = width_for(used, count, columns, l.table);
+    if (MOST_COLUMNS as u64) < w {
+        return false;
     }
-    unused_line(l)
+    valid_terms(w, l, limits)
 }
 
-fn valid_line(t: Tables, l: Line) -> bool
-    requires { ⌜ t .count ≤ mostTables ⌝ }
-    ensures { λ r. ⌜ ((widths : List ℕ) → TablesOf widths t → (r ≡ true) ↔ ViewOf widths l) ⌝ }
+// The columns of a line's table; none behind the last view, where there must be no table.
+fn width_for(used: bool, count: usize, columns: &[u64; MOST_TABLES], table: u64) -> u64
+    requires { ⌜ count ≤ mostTables ⌝ }
+    ensures { λ r. ⌜ WidthFor count (now (columns .entry)) table used r ⌝ }
 {
-    let table = l.table;
+    if !used {
+        if table == 0 {
+            return 0;
+        }
+        return WRONG_WIDTH;
+    }
     if table == 0 {
-        return false;
+        return WRONG_WIDTH;
     }
     let at = (table - 1) as usize;
-    if t.count <= at {
-        return false;
+    if count <= at {
+        return WRONG_WIDTH;
     }
-    let w = t.columns[at];
-    valid_terms(w, l)
+    columns[at]
 }
 
-fn valid_terms(w: u64, l: Line) -> bool
-    ensures { λ r. ⌜ (1 ≤ w → w ≤ mostColumns → (r ≡ true) ↔ TermsHeld w (l .terms)) ⌝ }
+fn valid_terms(w: u64, l: Line, limits: &[u64; MARKS]) -> bool
+    requires { ⌜ now limits ≡ markLimits ⌝ }
+    ensures { λ r. ⌜ (r ≡ true) ↔ TermsFor w (l .terms) ⌝ }
 {
-    let mut shown = 0;
-    let mut hidden = 0;
+    let mut by: [u64; MARKS] = [0; MARKS];
     let mut i = 0;
     while i < MOST_COLUMNS {
         let t = l.terms[i];
-        if !valid_term((i as u64) < w, t) {
+        if !enter_term((i as u64) < w, t, limits, &mut by) {
             return false;
         }
-        shown = with_mark(SHOWN, shown, t);
-        hidden = with_mark(HIDDEN, hidden, t);
         i += 1;
     }
-    !words::meets(shown, hidden)
+    if by[UNUSED as usize] != 0 {
+        return false;
+    }
+    !words::meets(by[SHOWN as usize], by[HIDDEN as usize])
 }
 
-// A term within its limit, or the unused one behind the columns.
-fn valid_term(used: bool, t: Term) -> bool
-    ensures { λ r. ⌜ (r ≡ true) ↔ TermPlace used t ⌝ }
+// A used term, entered under its mark, or an unused one behind the columns.
+fn enter_term(used: bool, t: Term, limits: &[u64; MARKS], by: &mut [u64; MARKS]) -> bool
+    requires { ⌜ now limits ≡ markLimits ⌝ }
+    ensures { λ r. ⌜ Entering used t (now (by .entry)) (now (by .exit)) r ⌝ }
 {
     if used {
-        return good_term(t);
+        return enter_used(t, limits, by);
     }
     unused_term(t)
 }
 
-fn good_term(t: Term) -> bool
-    ensures { λ r. ⌜ (r ≡ true) ↔ TermOf t ⌝ }
+fn enter_used(t: Term, limits: &[u64; MARKS], by: &mut [u64; MARKS]) -> bool
+    requires { ⌜ now limits ≡ markLimits ⌝ }
+    ensures { λ r. ⌜ Entering true t (now (by .entry)) (now (by .exit)) r ⌝ }
 {
-    if t.mark == CONSTANT {
-        return t.number <= CONSTANT_LIMIT;
-    }
-    if LAST_VARIABLE < t.number {
+    if HIDDEN < t.mark {
         return false;
     }
-    t.mark == SHOWN || t.mark == HIDDEN
+    let m = t.mark as usize;
+    if limits[m] < t.number {
+        return false;
+    }
+    by[m] = words::set_bit(by[m], t.number % BITS);
+    true
 }
 
+// Both numbers are 0 where their bits joined are.
 fn unused_term(t: Term) -> bool
     ensures { λ r. ⌜ (r ≡ true) ↔ (t ≡ unusedTerm) ⌝ }
 {
-    t.mark == UNUSED && t.number == 0
-}
-
-fn unused_line(l: Line) -> bool
-    ensures { λ r. ⌜ (r ≡ true) ↔ (l ≡ unusedLine) ⌝ }
-{
-    if l.table != 0 {
-        return false;
-    }
-    let mut i = 0;
-    while i < MOST_COLUMNS {
-        let t = l.terms[i];
-        if !unused_term(t) {
-            return false;
-        }
-        i += 1;
-    }
-    true
+    (t.mark | t.number) == 0
 }
 
 // ---- partitions

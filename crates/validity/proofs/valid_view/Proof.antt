@@ -1,24 +1,28 @@
--- `valid_view`: a good line where it is used, the unused one behind the last view.
+-- `valid_view`: the terms are those for the width of the line.
+use mathlib.Core.Logic.{Iff·trans}
 use borrow.Author.Needs.{needs}
-use Rattle.model.specs.Value.{unusedLine}
-use Rattle.validity.specs.Parts.{ViewOf}
-use Rattle.validity.proofs.Held.{used-iff, unused-iff}
+use Rattle.words.proofs.Answers.{no-iff}
+use Rattle.validity.proofs.Lists.{mapped-length}
+use Rattle.validity.proofs.Views.{too-wide, width-iff-place}
 use Rattle.validity.proofs.valid_view.Statement.{statement}
 use Rattle.validity.proofs.valid_view.Tie as tie
 
-valid-line-requires : tie.Need-valid-line-requires
-valid-line-requires c κs = search needs
+width-for-requires : tie.Need-width-for-requires
+width-for-requires c κs = search needs
 
 returns : tie.Need-returns
 returns c widths tables =
-    used-iff (ViewOf widths) unusedLine (c .before .before .args .used) (c .before .if1 .taken) (c .valid-line .ensures widths tables)
+    no-iff (too-wide widths _ tables (c .before .before .args .l) (c .before .width-for .ensures) (c .if1 .taken))
 
-unused-line-requires : tie.Need-unused-line-requires
-unused-line-requires c κs = tt
+valid-terms-requires : tie.Need-valid-terms-requires
+valid-terms-requires c κs = search needs
 
 returns-2 : tie.Need-returns-2
 returns-2 c widths tables =
-    unused-iff (ViewOf widths) unusedLine (c .before .before .args .used) (c .before .if1 .left) (c .unused-line .ensures)
+    let known = c .before in
+    Iff·trans (c .valid-terms .ensures)
+    (width-iff-place widths _ tables (known .before .before .args .l) (known .before .width-for .ensures) (known .if1 .left)
+    (search (needs, mapped-length)))
 
 pub valid-view-spec : {M : Type 1} → statement M
-valid-view-spec = tie.close (tie.spec valid-line-requires returns unused-line-requires returns-2)
+valid-view-spec = tie.close (tie.spec width-for-requires returns valid-terms-requires returns-2)
