@@ -55,7 +55,8 @@ module _ (v : Line) (grants k : ℕ) {before laid : List ℕ} (long : length bef
         table = λ t h. other (tableWords + t) (λ e. omega (arith, e, h)) ∙ table t h;
         granted = getD-set-same r (grantWords + k) grants 0 (omega (arith, same, l .long, long, room));
         others = λ j h.
-            other (grantWords + j) (λ e. omega (arith, e, h)) ∙ others (grantWords + j) (omega arith) ∙ behind (grantWords + j) (omega arith);
+            other (grantWords + j) (λ e. omega (arith, e, h)) ∙ others (grantWords + j) (omega arith)
+            ∙ behind (grantWords + j) (omega arith);
         behind = λ i h. other i (λ e. omega (arith, e, h, room)) ∙ others i (omega (arith, h)) ∙ behind i (omega (arith, h));
       }
 

@@ -41,7 +41,8 @@ unfolding wordsValue
 labels-held h = omega (arith, ap (λ (x : Words). x .count) (h .is), h .few)
 
 -- the views of a label, of which a policy has at most 32
-labels-narrow : (d : Declared) → WellFormed d → (Q : Query) → AllFit (d .widths) Q → (w : ℕ) → w ∈ labels (d .views) Q → w / 2 ^ halfBits < 2 ^ halfBits
+labels-narrow : (d : Declared) → WellFormed d → (Q : Query) → AllFit (d .widths) Q → (w : ℕ) → w ∈ labels (d .views) Q
+    → w / 2 ^ halfBits < 2 ^ halfBits
 unfolding labels label
 labels-narrow d good Q fits w m =
     let (A, a, e) = Memᴰ·of-map (label (d .views)) (show (reduce Q)) m in

@@ -72,7 +72,8 @@ most-get none i = omega arith
 most-get (one p a) zero = p
 most-get (one p a) (suc i) = most-get a i
 
-pub explained-most : (granted : ℕ) {n : ℕ} {ws : List ℕ} → AtMost (λ w. w / 2 ^ halfBits < 2 ^ halfBits) n ws → AtMost Narrow n (explained granted ws)
+pub explained-most : (granted : ℕ) {n : ℕ} {ws : List ℕ} → AtMost (λ w. w / 2 ^ halfBits < 2 ^ halfBits) n ws
+    → AtMost Narrow n (explained granted ws)
 unfolding explained least lacking viewsOf
 explained-most granted {ws = ws} a =
     either (settled granted ws)

@@ -58,7 +58,8 @@ module _ (views : List Line) (ns : List ℕ) (few : length views ≤ mostViews) 
           let k = c .place in
           let b : k < mostViews = omega (arith, known (k + 1) (c .listed) .1, few) in
           let x = ap (λ (w : ℕ). bit w k) high ∙ viewBits-bit views A k .1 (c .view, c .at, c .covering) in
-          true-holds (meet-iff 64 (label views A / 2 ^ halfBits) (viewsWord ns) .1 (k, omega (arith, b), x, word-bit ns k .1 (b, c .listed)))
+          true-holds
+          (meet-iff 64 (label views A / 2 ^ halfBits) (viewsWord ns) .1 (k, omega (arith, b), x, word-bit ns k .1 (b, c .listed)))
 
 -- ---- all labels
 

@@ -1,7 +1,9 @@
--- Values are the same where their terms are.
+-- Values are the same where their terms are, and the test of two values says whether they are one.
 use mathlib.Core.Path.{_≡_, refl, ap, ap₂, _∙_}
-use mathlib.Core.Bool.{true}
-use borrow.Author.Tests.{eq-eqb}
+use mathlib.Core.Logic.{_↔_}
+use lib.Dec.{T, eqb}
+use mir.Facts.{eqb-yes, yes-eqb}
+use Rattle.theory.proofs.Executable.Test.{and-iff}
 use Rattle.theory.specs.Query.{constant, shown, hidden}
 use Rattle.theory.specs.Query.{Term as TheTerm}
 use Rattle.theory.specs.Executable.Test.{kind, number, same}
@@ -23,6 +25,13 @@ same-value (hidden n) (hidden k) = refl
 pub same-held : {t u : Term} (x y : TheTerm) → t ≡ termValue x → u ≡ termValue y → sameTerm t u ≡ same x y
 same-held x y e f = ap₂ sameTerm e f ∙ same-value x y
 
-pub same-own : {t u : Term} → t ≡ u → sameTerm t u ≡ true
+-- the test of two terms says whether they are one
+pub same-term-iff : (t u : Term) → T (sameTerm t u) ↔ (t ≡ u)
 unfolding sameTerm
-same-own {t} {u} e = rw (eq-eqb (t .mark) (u .mark) (ap (λ (x : Term). x .mark) e), eq-eqb (t .number) (u .number) (ap (λ (x : Term). x .number) e))
+same-term-iff t u =
+    let k = and-iff (eqb (t .mark) (u .mark)) (eqb (t .number) (u .number)) in (
+      λ h. let (x, y) = k .0 h in
+          let m = eqb-yes x in
+          let n = eqb-yes y in λ i. record { mark = m i; number = n i },
+      λ e. k .1 (yes-eqb (ap (λ (x : Term). x .mark) e), yes-eqb (ap (λ (x : Term). x .number) e)),
+    )

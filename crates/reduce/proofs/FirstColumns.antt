@@ -1,31 +1,17 @@
 -- The first column of a row that has a term.
-use mathlib.Core.Path.{_≡_, refl, sym, ap, _∙_}
-use mathlib.Core.Logic.{_↔_}
+use mathlib.Core.Path.{_≡_, refl, sym, _∙_}
 use mathlib.Core.Bool.{Bool, true, false, false≢true}
 use mathlib.Core.List.{List}
 use Prim.Native.Nat.{ℕ, zero, suc, _+_, _<_}
 use native.Mathlib.Decide.{ℕ-discrete, decLt}
 use native.Mathlib.Omega.{arith}
-use lib.Dec.{T, eqb}
-use mir.Facts.{eqb-yes, yes-eqb}
-use Rattle.theory.proofs.Executable.Test.{and-iff}
 use Rattle.words.proofs.Answers.{true-holds, holds-true}
 use Rattle.model.specs.Limits.{mostColumns}
 use Rattle.model.specs.Rows.{laidTerm}
 use Rattle.model.specs.Value.{sameTerm}
 use Rattle.model.specs.declared.Term.{Term}
+use Rattle.model.proofs.Same.{same-term-iff}
 use Rattle.reduce.specs.Columns.{FirstColumn}
-
--- the test of two terms says whether they are one
-pub same-term-iff : (t u : Term) → T (sameTerm t u) ↔ (t ≡ u)
-unfolding sameTerm
-same-term-iff t u =
-    let k = and-iff (eqb (t .mark) (u .mark)) (eqb (t .number) (u .number)) in (
-      λ h. let (x, y) = k .0 h in
-          let m = eqb-yes x in
-          let n = eqb-yes y in λ i. record { mark = m i; number = n i },
-      λ e. k .1 (yes-eqb (ap (λ (x : Term). x .mark) e), yes-eqb (ap (λ (x : Term). x .number) e)),
-    )
 
 -- none of the first columns has the term
 pub record NoneBefore (rows : List ℕ) (b : ℕ) (t : Term) (q : ℕ) : Type 0 where

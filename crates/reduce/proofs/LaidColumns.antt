@@ -23,7 +23,7 @@ use Rattle.reduce.specs.Agree.{lineAt}
 use Rattle.reduce.specs.Laid.{Laid}
 use Rattle.reduce.specs.Worded.{HiddenAt}
 use Rattle.reduce.proofs.Agree.{Goes, Joint}
-use Rattle.reduce.proofs.FirstColumns.{same-term-iff}
+use Rattle.model.proofs.Same.{same-term-iff}
 use Rattle.reduce.proofs.Lines.{laid-few}
 use Rattle.reduce.proofs.LineValues.{same-unused, used, unused}
 

@@ -32,7 +32,8 @@ use Rattle.reduce.specs.Pairs.{Going, Goings, Candidate, CandidateWord}
 use Rattle.reduce.specs.Showing.{hiddenTerm}
 use Rattle.reduce.specs.Worded.{twiceWord, HiddenAt, Given}
 use Rattle.reduce.proofs.Agree.{Goes, goes-iff, agree-iff}
-use Rattle.reduce.proofs.FirstColumns.{same-term-iff, first-unique}
+use Rattle.model.proofs.Same.{same-term-iff}
+use Rattle.reduce.proofs.FirstColumns.{first-unique}
 use Rattle.reduce.proofs.Hidden.{at-hidden, hidden-at}
 use Rattle.reduce.proofs.LaidColumns.{value-same, hidden-or-not, goes-same, joint-columns, laid-column}
 use Rattle.reduce.proofs.Lines.{laid-few, small-line}

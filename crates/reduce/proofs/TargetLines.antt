@@ -80,7 +80,8 @@ module _ (A S : TheLine) (few : length (A .columns) ≤ mostColumns) (few′ : l
 
 -- ---- the lines of a query
 
-pub goes-self : {Q : Query} {n : ℕ} {rows words : List ℕ} → Given Q n rows words → (a : ℕ) → a < length Q → T (goes (lineAt Q a) (lineAt Q a))
+pub goes-self : {Q : Query} {n : ℕ} {rows words : List ℕ} → Given Q n rows words → (a : ℕ) → a < length Q
+    → T (goes (lineAt Q a) (lineAt Q a))
 goes-self {Q} g a l =
     let few = laid-few (g .laid) a l in terms-go (lineAt Q a) (lineAt Q a) few few refl refl (λ p b f. refl)
 

@@ -27,7 +27,8 @@ pub fn decide_next(
     input: &[u8],
     lines: &mut QueryRows,
 ) -> NextDecision
-    requires { ⌜ SomeReady tables (now ready) × (0 < length (now input)) × (length (now input) ≤ mostInput) × (length (now lines) ≡ queryRowsLong) ⌝ }
+    requires { ⌜ SomeReady tables (now ready) × (0 < length (now input)) × (length (now input) ≤ mostInput)
+        × (length (now lines) ≡ queryRowsLong) ⌝ }
     ensures { λ o. ⌜ NextDecided tables (now (ready .entry)) s (now (input .entry)) o ⌝ }
     ensures { λ _. ⌜ length (now (lines .exit)) ≡ queryRowsLong ⌝ }
 {

@@ -1,10 +1,11 @@
 -- Places of a text, and what the inner functions of the pass find there. Place 0 as an end says nothing.
 use mathlib.Core.Path.{_≡_}
-use mathlib.Core.Bool.{Bool, true}
+use mathlib.Core.Bool.{Bool, true, false}
 use mathlib.Core.List.{List, [], _∷_, _++_}
 use Prim.Native.Nat.{ℕ, _+_, _^_, _≤_, _<_}
 use lib.Dec.{T}
 use lib.ListN.{length, getD, take}
+use Rattle.words.specs.Sets.{meet}
 use Rattle.text.specs.Lines.{newline}
 use Rattle.text.specs.Names.{tableTerms}
 use Rattle.text.specs.Numeral.{mostDigits, allDigits, digitsAfter}
@@ -55,3 +56,12 @@ WidthOf lent table width = 1 ≤ width → (table ≤ mostTables) × (width ≡ 
 -- a line ends at the place, or it does not
 abbrev pub EndAt : List ℕ → ℕ → ℕ → Type 0
 EndAt text at end = (end ≡ 0 → ⊥) → Between text at end (newline ∷ [])
+
+-- a query with so many lines ends at the place: there is a line, and no variable of these two words has both marks
+pub record Ended (count shown hidden at end : ℕ) : Type 0 where
+  pub some : count ≡ 0 → ⊥
+  pub clear : meet 64 shown hidden ≡ false
+  pub here : end ≡ at
+
+abbrev pub TextEnd : ℕ → ℕ → ℕ → ℕ → ℕ → Type 0
+TextEnd count shown hidden at end = (end ≡ 0 → ⊥) → Ended count shown hidden at end

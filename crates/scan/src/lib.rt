@@ -9,7 +9,7 @@ ghost use Prim.Native.Nat.{_^_, _<_};
 ghost use lib.ListN.{length};
 ghost use Rattle.model.specs.Limits.{mostTables};
 ghost use Rattle.model.specs.Rows.{queryRowsLong};
-ghost use Rattle.scan.specs.Places.{PlaceIn, NamesAt, WidthOf};
+ghost use Rattle.scan.specs.Places.{PlaceIn, NamesAt, WidthOf, TextEnd};
 ghost use Rattle.scan.specs.Scanned.{SomeWidths, ScannedUnder};
 use model::Line;
 use model::MOST_LINES;
@@ -56,6 +56,19 @@ fn width_of(widths: &[u64], table: u64) -> usize
     widths[table as usize] as usize
 }
 
+// The place behind the text of a query with so many lines and these variables; 0 where it has no line, or a variable with both marks.
+fn text_end(count: usize, shown: u64, hidden: u64, at: usize) -> usize
+    ensures { λ r. ⌜ TextEnd count shown hidden at r ⌝ }
+{
+    if count == 0 {
+        return 0;
+    }
+    if words::meets(shown, hidden) {
+        return 0;
+    }
+    at
+}
+
 // The first query of an input and its lines in rows, line i in row i. The columns of table t stand at place t of `widths`, 0 where
 // there is no such table.
 pub fn first_query(widths: &[u64], input: &[u8], rows: &mut [u64]) -> Piece
@@ -82,7 +95,8 @@ pub fn first_query(widths: &[u64], input: &[u8], rows: &mut [u64]) -> Piece
         if t.end == 0 {
             return Piece { query: q, end: 0 };
         }
-        let width = width_of(widths, t.value);
+        let table = t.value;
+        let width = width_of(widths, table);
         if width == 0 {
             return Piece { query: q, end: 0 };
         }
@@ -91,10 +105,7 @@ pub fn first_query(widths: &[u64], input: &[u8], rows: &mut [u64]) -> Piece
             return Piece { query: q, end: 0 };
         }
         let terms = r.terms;
-        q.lines[count] = Line {
-            table: t.value,
-            terms,
-        };
+        q.lines[count] = Line { table, terms };
         let l = q.lines[count];
         model::lay_line(l, count, rows);
         q.count = count + 1;
@@ -102,11 +113,6 @@ pub fn first_query(widths: &[u64], input: &[u8], rows: &mut [u64]) -> Piece
         hidden = hidden | r.hidden;
         at = r.end;
     }
-    if q.count == 0 {
-        return Piece { query: q, end: 0 };
-    }
-    if words::meets(shown, hidden) {
-        return Piece { query: q, end: 0 };
-    }
-    Piece { query: q, end: at }
+    let end = text_end(q.count, shown, hidden, at);
+    Piece { query: q, end }
 }

@@ -183,34 +183,22 @@ loop-again c =
       y .lay-line .ensures .long ∙ w .1,
     )
 
+text-end-requires : tie.Need-text-end-requires Inv-loop μ-loop
+text-end-requires c κs = tt
+
 same-length-5 : tie.Need-same-length-5 Inv-loop μ-loop
 same-length-5 c = same-long (c .before .before)
 
 returns-6 : tie.Need-returns-6 Inv-loop μ-loop
-returns-6 c = none (c .before .before)
-
-meets-requires : tie.Need-meets-requires Inv-loop μ-loop
-meets-requires c κs = search needs
-
-same-length-6 : tie.Need-same-length-6 Inv-loop μ-loop
-same-length-6 c = same-long (c .before .before .before .before)
-
-returns-7 : tie.Need-returns-7 Inv-loop μ-loop
-returns-7 c = none (c .before .before .before .before)
-
-same-length-7 : tie.Need-same-length-7 Inv-loop μ-loop
-same-length-7 c = same-long (c .before .before .before .before)
-
-returns-8 : tie.Need-returns-8 Inv-loop μ-loop
-returns-8 c =
-    let m = c .before in
-    let e = m .before .before in
+returns-6 c =
+    let e = c .before in
     let w = e .before .loop .inv in
     let l = w .0 .walked in (
       λ some widths lends.
-          lines-scanned (w .0) lends (m .before .if7 .left) (sym (m .meets .ensures) ∙ c .if8 .left)
+          let end = c .text-end .ensures some in
+          rw (end .here) (lines-scanned (w .0) lends (end .some) (end .clear)
           (⊎-elim (λ x. ends l (omega (arith, past-names (w .0), l .within)) (x .left))
-          (λ x. names-next l (past-names (w .0)) (x .1 .ensures (x .2 .taken))) (e .loop-test .came)),
+          (λ x. names-next l (past-names (w .0)) (x .1 .ensures (x .2 .taken))) (e .loop-test .came))),
       w .1,
     )
 
@@ -244,10 +232,6 @@ first-query-spec =
     add-q
     loop-less
     loop-again
+    text-end-requires
     same-length-5
-    returns-6
-    meets-requires
-    same-length-6
-    returns-7
-    same-length-7
-    returns-8)
+    returns-6)

@@ -30,7 +30,8 @@ loop-less c = omega arith
 
 loop-again : tie.Need-loop-again Inv-loop μ-loop
 loop-again c =
-    rw (c .set-bit-if .ensures) (free-more _ _ (c .before .is-free .result) (c .before .before .before .loop .inv) (c .before .is-free .ensures))
+    let free = c .before .is-free in
+    rw (c .set-bit-if .ensures) (free-more _ _ (free .result) (c .before .before .before .loop .inv) (free .ensures))
 
 returns : tie.Need-returns Inv-loop μ-loop
 returns c = c .before .loop .inv

@@ -8,7 +8,8 @@ use borrow.Author.Count.{below-none, below-more}
 use Rattle.model.specs.Limits.{mostColumns}
 use Rattle.model.specs.Rows.{laidTerm}
 use Rattle.model.specs.declared.Term.{Term}
-use Rattle.model.proofs.Same.{same-own}
+use Rattle.words.proofs.Answers.{holds-true}
+use Rattle.model.proofs.Same.{same-term-iff}
 use Rattle.covering.proofs.preparing.is_free.Statement.{statement}
 use Rattle.covering.proofs.preparing.is_free.Tie as tie
 
@@ -44,10 +45,11 @@ loop-less c = omega arith
 
 loop-again : tie.Need-loop-again Inv-loop μ-loop
 loop-again c =
-    let inv = c .before .before .before .loop .inv in (
+    let inv = c .before .before .before .loop .inv in
+    let here = c .before .term-at2 .ensures in (
       omega arith,
-      below-more _ _ (inv .1)
-          (⊎-elim (λ w e. absurd (false≢true (sym (w .2 .left) ∙ w .1 .ensures ∙ same-own (e ∙ sym (c .before .term-at2 .ensures)))))
+      below-more _ _ (inv .1) (⊎-elim
+          (λ w e. absurd (false≢true (sym (w .2 .left) ∙ w .1 .ensures ∙ sym (holds-true _ (same-term-iff _ _ .1 (e ∙ sym here))))))
           (λ w e. w .left) (c .if2 .came)),
     )
 

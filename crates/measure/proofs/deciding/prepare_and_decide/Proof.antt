@@ -8,7 +8,8 @@ prepare-for-many-requires : tie.Need-prepare-for-many-requires
 prepare-for-many-requires c κs = let (d, l) = c .before .pre in counted l
 
 decide-again-requires : tie.Need-decide-again-requires
-decide-again-requires c κs = let (d, l) = c .before .before .before .before .pre in (d, ready l (c .before .before .prepare-for-many .ensures))
+decide-again-requires c κs =
+    let (d, l) = c .before .before .before .before .pre in (d, ready l (c .before .before .prepare-for-many .ensures))
 
 returns : tie.Need-returns
 returns c = search needs

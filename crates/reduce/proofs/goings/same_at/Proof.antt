@@ -11,7 +11,7 @@ use Rattle.words.proofs.Marks.{by-test}
 use Rattle.model.specs.Limits.{mostColumns}
 use Rattle.model.specs.Rows.{laidTerm}
 use Rattle.model.specs.Value.{sameTerm}
-use Rattle.reduce.proofs.FirstColumns.{same-term-iff}
+use Rattle.model.proofs.Same.{same-term-iff}
 use Rattle.reduce.proofs.Looked.{Looked, looked-none, looked-more, looked-all}
 use Rattle.reduce.proofs.goings.same_at.Statement.{statement}
 use Rattle.reduce.proofs.goings.same_at.Tie as tie

@@ -7,7 +7,7 @@ use Rattle.words.proofs.Marks.{upto-none, upto-more, by-test}
 use Rattle.model.specs.Limits.{mostLines}
 use Rattle.model.specs.Rows.{laidTerm}
 use Rattle.model.specs.Value.{sameTerm}
-use Rattle.reduce.proofs.FirstColumns.{same-term-iff}
+use Rattle.model.proofs.Same.{same-term-iff}
 use Rattle.reduce.proofs.pairs.agree_row.Statement.{statement}
 use Rattle.reduce.proofs.pairs.agree_row.Tie as tie
 

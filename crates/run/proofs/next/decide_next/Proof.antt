@@ -17,8 +17,8 @@ widths-requires : tie.Need-widths-requires
 widths-requires c κs = search needs
 
 -- the columns of the tables are lent
-lent : (c : tie.After-widths) {d : Declared} → Ready d (c .before .before .before .args .tables) (c .before .before .before .args .ready .now)
-    → Widths (now (c .widths .result)) (d .widths)
+lent : (c : tie.After-widths) {d : Declared}
+    → Ready d (c .before .before .before .args .tables) (c .before .before .before .args .ready .now) → Widths (now (c .widths .result)) (d .widths)
 lent c {d} ready = subst (λ (l : List ℕ). Widths l (d .widths)) (sym (c .widths .ensures)) (ready-widths ready)
 
 first-query-requires : tie.Need-first-query-requires
