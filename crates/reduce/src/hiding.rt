@@ -45,10 +45,7 @@ pub fn twice_of(words: &[u64], i: usize) -> u64
 fn hidden_bit(t: Term) -> u64
     ensures { λ r. ⌜ r ≡ cond (hiddenTerm t) (2 ^ t .number) 0 ⌝ }
 {
-    if is_hidden(t) {
-        return 1 << t.number;
-    }
-    0
+    words::value_if(1 << (t.number % words::BITS), is_hidden(t))
 }
 
 // The words of the line in row i; those of other lines stay.

@@ -49,10 +49,11 @@ pub fn shared(n: usize, words: &[u64], left: u64) -> u64
 pub fn is_shared(shared: u64, t: Term) -> bool
     ensures { λ r. ⌜ r ≡ (hiddenTerm t && isSet shared (t .number)) ⌝ }
 {
+    let there = words::has_bit(shared, t.number % words::BITS);
     if !is_hidden(t) {
         return false;
     }
-    words::has_bit(shared, t.number)
+    there
 }
 
 // The term, shown if its bit is set.

@@ -76,9 +76,6 @@ fn valid_width(used: bool, w: u64) -> bool
 
 // ---- views
 
-// The bits of a word.
-const BITS: u64 = 64;
-
 // How many marks there are, the unused one among them.
 const MARKS: usize = 4;
 
@@ -193,7 +190,7 @@ fn enter_used(t: Term, limits: &[u64; MARKS], by: &mut [u64; MARKS]) -> bool
     if limits[m] < t.number {
         return false;
     }
-    by[m] = words::set_bit(by[m], t.number % BITS);
+    by[m] = words::set_bit(by[m], t.number % words::BITS);
     true
 }
 

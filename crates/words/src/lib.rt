@@ -6,7 +6,9 @@ ghost use Prim.Native.Nat.{_+_, _*_, _/_, _%_, _^_, _-_, _<_};
 ghost use Rattle.words.specs.Bits.{isSet, onesBelow, halfBits};
 ghost use Rattle.words.specs.Sets.{setBit, clearBit, Without, meet, include, Least, LeastDropped};
 
-// The bits of a half of a word.
+// The bits of a word, and of a half of one.
+pub const BITS: u64 = 64;
+
 const HALF: u64 = 32;
 
 // The word with bit `k` set.

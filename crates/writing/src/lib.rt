@@ -42,11 +42,22 @@ fn put_decimal(out: &mut [u8], at: usize, n: u64) -> usize
     put_byte(out, to, 48 + (n % 10) as u8)
 }
 
+// The same; most numbers have one digit, and need no function that calls itself.
+fn put_number(out: &mut [u8], at: usize, n: u64) -> usize
+    requires { ⌜ at + length (decimal n) ≤ length (now out) ⌝ }
+    ensures { λ r. ⌜ Wrote (now (out .entry)) at (decimal n) (now (out .exit)) r ⌝ }
+{
+    if n < 10 {
+        return put_byte(out, at, 48 + n as u8);
+    }
+    put_decimal(out, at, n)
+}
+
 // A number and the byte that ends its field.
 pub fn put_field(out: &mut [u8], at: usize, n: u64, end: u8) -> usize
     requires { ⌜ at + mostFieldBytes ≤ length (now out) ⌝ }
     ensures { λ r. ⌜ Wrote (now (out .entry)) at (decimal n ++ end ∷ []) (now (out .exit)) r × (r ≤ at + mostFieldBytes) ⌝ }
 {
-    let to = put_decimal(out, at, n);
+    let to = put_number(out, at, n);
     put_byte(out, to, end)
 }

@@ -16,16 +16,16 @@ room c =
     let p : c .args .at + mostFieldBytes ≤ length (c .args .out .now) = c .pre in
     omega (arith, length-word (c .args .n) (c .fits .n .fits))
 
-put-decimal-requires : tie.Need-put-decimal-requires
-put-decimal-requires c κs = room (c .before .before)
+put-number-requires : tie.Need-put-number-requires
+put-number-requires c κs = room (c .before .before)
 
 put-byte-requires : tie.Need-put-byte-requires
 put-byte-requires c κs =
     let d = c .before .before .before in
     let s = d .before .before .before in
     let p : s .args .at + mostFieldBytes ≤ length (s .args .out .now) = s .pre in
-    let e : d .put-decimal .result ≡ s .args .at + length (decimal (s .args .n)) = d .put-decimal .ensures .next in
-    let z = d .put-decimal .ensures .size in
+    let e : d .put-number .result ≡ s .args .at + length (decimal (s .args .n)) = d .put-number .ensures .next in
+    let z = d .put-number .ensures .size in
     omega (arith, length-word (s .args .n) (s .fits .n .fits))
 
 same-length : tie.Need-same-length
@@ -37,9 +37,9 @@ returns c =
     let d = b .before .before .before .before in
     let s = d .before .before .before in
     let w = wrote-byte (put-byte-requires (b .before) (b .put-byte .lifetimes)) (b .put-byte .ensures) in
-    let e : d .put-decimal .result ≡ s .args .at + length (decimal (s .args .n)) = d .put-decimal .ensures .next in
+    let e : d .put-number .result ≡ s .args .at + length (decimal (s .args .n)) = d .put-number .ensures .next in
     let r = b .put-byte .ensures .1 in
-    (wrote-more (d .put-decimal .ensures) w, omega (arith, length-word (s .args .n) (s .fits .n .fits)))
+    (wrote-more (d .put-number .ensures) w, omega (arith, length-word (s .args .n) (s .fits .n .fits)))
 
 pub put-field-spec : {M : Type 1} → statement M
-put-field-spec = tie.close (tie.spec put-decimal-requires put-byte-requires same-length returns)
+put-field-spec = tie.close (tie.spec put-number-requires put-byte-requires same-length returns)

@@ -1,30 +1,35 @@
 -- `hidden_bit`: a one shifted to the variable's number, where the term is a hidden variable.
-use mathlib.Core.Path.{subst}
+use mathlib.Core.Path.{_≡_, refl}
+use mathlib.Core.Bool.{Bool, true, false, cond}
+use Prim.Native.Nat.{_*_, _%_, _^_}
+use native.Mathlib.Nat.{mod-eq-of-lt}
 use native.Mathlib.Omega.{arith}
-use lib.Dec.{T}
 use borrow.Author.Needs.{needs}
 use Rattle.words.proofs.ClearBits.{one-shifted}
+use Rattle.model.specs.declared.Term.{Term}
+use Rattle.reduce.specs.Showing.{hiddenTerm}
 use Rattle.reduce.proofs.Hidden.{hidden-small}
 use Rattle.reduce.proofs.hiding.hidden_bit.Statement.{statement}
 use Rattle.reduce.proofs.hiding.hidden_bit.Tie as tie
 
+-- the number of a hidden variable is the place of its bit
+placed : (t : Term) (b : Bool) → hiddenTerm t ≡ b → cond b (1 * 2 ^ (t .number % 64) % 2 ^ 64) 0 ≡ cond b (2 ^ t .number) 0
+placed t true e =
+    let small = hidden-small t (rw e tt) in
+    rw (mod-eq-of-lt {n = t .number} {m = 64} (omega (arith, small))) (one-shifted 64 (t .number) (omega (arith, small)))
+placed t false e = refl
+
+shl-value-if : tie.Need-shl-value-if
+shl-value-if c = search needs
+
 is-hidden-requires : tie.Need-is-hidden-requires
 is-hidden-requires c κs = search needs
 
-shl-result : tie.Need-shl-result
-shl-result c =
-    let test = c .before in
-    let small = hidden-small _ (subst T (test .before .is-hidden .ensures) (rw (test .if1 .taken) tt)) in omega (arith, small)
+value-if-requires : tie.Need-value-if-requires
+value-if-requires c κs = search needs
 
 returns : tie.Need-returns
-returns c =
-    let test = c .before in
-    let hidden = test .before .is-hidden .ensures in
-    let small = hidden-small _ (subst T hidden (rw (test .if1 .taken) tt)) in
-    rw (← hidden, test .if1 .taken) (one-shifted 64 _ (omega (arith, small)))
-
-returns-2 : tie.Need-returns-2
-returns-2 c = simp (← c .before .is-hidden .ensures, c .if1 .left)
+returns c = rw (c .value-if .ensures, c .before .is-hidden .ensures) (placed _ _ refl)
 
 pub hidden-bit-spec : {M : Type 1} → statement M
-hidden-bit-spec = tie.close (tie.spec is-hidden-requires shl-result returns returns-2)
+hidden-bit-spec = tie.close (tie.spec shl-value-if is-hidden-requires value-if-requires returns)
