@@ -70,17 +70,22 @@ impl Line {
         }
         let two = b <= 9;
         let number = if two { a * 10 + b } else { a };
-        if 63 < number || (two && a == 0) || (mark != b'?' && mark != b'!') {
+        if 63 < number || (two && a == 0) {
             return None;
         }
-        let hides = u64::from(mark == b'?');
         let bit = 1 << number;
-        // A variable with both marks in a line is turned back, so it does not matter with which it stood before.
-        self.repeat |= (self.shown | self.hidden) & bit;
-        self.hidden |= bit & hides.wrapping_neg();
-        self.shown |= bit & hides.wrapping_sub(1);
-        self.hidden_columns |= (hides as u8) << c;
-        self.word |= (hides * HIDDEN | u64::from(number)) << (8 * c);
+        if mark == b'?' {
+            self.repeat |= self.hidden & bit;
+            self.hidden |= bit;
+            self.hidden_columns |= 1 << c;
+            self.word |= (HIDDEN | u64::from(number)) << (8 * c);
+        } else if mark == b'!' {
+            self.repeat |= self.shown & bit;
+            self.shown |= bit;
+            self.word |= u64::from(number) << (8 * c);
+        } else {
+            return None;
+        }
         Some(at + 3 + usize::from(two))
     }
 }
