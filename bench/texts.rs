@@ -44,9 +44,9 @@ partition views
 2 3 4 15 16
 ";
 
-// The first four are what a desk is asked, and the others make the search for maps long. The last three were found by trying
-// changes of queries for whatever takes longest: with this search, with one that looks ahead, and with one that takes the line with
-// the fewest targets first.
+// The first four are what a desk is asked, and the others make the search for maps long. The last three were found by changing
+// queries again and again for what takes longest: 1 with the search of Rattle and plain, 2 with that of tuned, and 3 with one that
+// takes the line with the fewest targets first.
 pub const QUERIES: [(&str, &str); 13] = [
     ("one line", "1 !1 #4 ?2\n"),
     ("two lines", "1 !1 #4 ?2\n2 !1 #7\n"),

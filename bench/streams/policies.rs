@@ -1,4 +1,5 @@
-// Policies of 8 tables and 32 views. A table has the owner of a row, whose row it is, and attributes.
+// Policies of 8 tables and 32 views, after section 7.2 of source document 000: a table has the owner of a row, a column that says
+// what the owner is to the reader, and attributes.
 
 use super::lines::{constant, hidden, line_text, shown, Line};
 use super::random::Random;
@@ -8,7 +9,7 @@ pub const COLUMNS: [usize; 8] = [8, 3, 5, 7, 6, 4, 5, 8];
 pub const USERS: usize = 1;
 pub const FRIENDS: usize = 2;
 
-// Whose row it is: the reader's own, a friend's, or that of someone else.
+// What the owner of a row is: the reader, a friend, or someone else.
 pub const OWN: u64 = 0;
 pub const OF_FRIEND: u64 = 1;
 pub const OF_OTHER: u64 = 2;
