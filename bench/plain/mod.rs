@@ -1,5 +1,5 @@
-// The desk in straightforward Rust: the whole run as the texts describe it, one step after the other, in the most direct data
-// types. Nothing is prepared beyond the views of each table, and every line of text is looked at on its own.
+// The desk in straightforward Rust: the whole run as the texts describe it, one step after the other, and every line of text looked
+// at on its own. Nothing is prepared beyond the views of each table. Only the search for maps of lines goes by words of pairs.
 
 mod deciding;
 mod labelling;
