@@ -100,7 +100,7 @@ fn main() {
     };
     let mut b = Buffers::new();
     for &seed in &seeds {
-        whole::compare(&damaged_files(seed, 120, 20), &mut b);
+        whole::compare(&damaged_files(seed, 1000, 20), &mut b);
     }
     let mut m = prepare(&seeds, &mut b);
     for _ in 0..rounds {
