@@ -1,0 +1,76 @@
+// The proved code, linked as a static library. A Rattle slice is a pointer and a length.
+
+extern "C" {
+    fn kolbrees_stream(
+        policy: *const u8,
+        policy_bytes: usize,
+        queries: *const u8,
+        queries_bytes: usize,
+        out: *mut u8,
+        out_bytes: usize,
+    ) -> u64;
+    fn kolbrees_label(
+        policy: *const u8,
+        policy_bytes: usize,
+        query: *const u8,
+        query_bytes: usize,
+        times: u64,
+    ) -> u64;
+    fn kolbrees_decide(
+        policy: *const u8,
+        policy_bytes: usize,
+        query: *const u8,
+        query_bytes: usize,
+        times: u64,
+    ) -> u64;
+    fn kolbrees_check(policy: *const u8, policy_bytes: usize, times: u64) -> u64;
+}
+
+// The whole run over a file: the length of what it writes.
+pub fn run(policy: &[u8], queries: &[u8], out: &mut [u8]) -> usize {
+    // SAFETY: each pointer and length are those of a live slice, and only `out` is written.
+    unsafe {
+        kolbrees_stream(
+            policy.as_ptr(),
+            policy.len(),
+            queries.as_ptr(),
+            queries.len(),
+            out.as_mut_ptr(),
+            out.len(),
+        ) as usize
+    }
+}
+
+// The sum of the labels of a query, so many times.
+pub fn label(policy: &str, query: &str, times: u64) -> u64 {
+    // SAFETY: each pointer and length are those of a live string.
+    unsafe {
+        kolbrees_label(
+            policy.as_ptr(),
+            policy.len(),
+            query.as_ptr(),
+            query.len(),
+            times,
+        )
+    }
+}
+
+// The sum of the replies to a query text, so many times, each in the session that opening gives.
+pub fn decide(policy: &str, query: &str, times: u64) -> u64 {
+    // SAFETY: each pointer and length are those of a live string.
+    unsafe {
+        kolbrees_decide(
+            policy.as_ptr(),
+            policy.len(),
+            query.as_ptr(),
+            query.len(),
+            times,
+        )
+    }
+}
+
+// How often the policy is found valid in so many checks.
+pub fn check(policy: &str, times: u64) -> u64 {
+    // SAFETY: the pointer and the length are those of a live string.
+    unsafe { kolbrees_check(policy.as_ptr(), policy.len(), times) }
+}
