@@ -68,6 +68,11 @@ pub record Gives (r : Decision) (o : Verdict) : Type 0 where
   pub reply : said (r .reply) ≡ o .says
   pub session : r .session ≡ o .leaves
 
+-- under what is prepared of a policy, the answer to a query of n lines that is laid in rows
+abbrev pub RowsAnswered : List ℕ → Session → ℕ → List ℕ → Decision → Type 0
+RowsAnswered r s n rows o =
+    (d : Declared) (t : Tables) (Q : Query) → Ready d t r → PosedRows d Q n rows → Gives o (answered s (stillOpen d Q (s .mask)))
+
 -- under what is prepared of a policy, a query of n lines that is laid in rows is decided as each text is that reads to it
 abbrev pub RowsDecided : List ℕ → Session → ℕ → List ℕ → Decision → Type 0
 RowsDecided r s n rows o =

@@ -7,7 +7,7 @@ ghost use lib.ListN.{length};
 ghost use Rattle.model.specs.Rows.{queryRowsLong};
 ghost use Rattle.policy_text.specs.Declared.{Declared};
 ghost use Rattle.labelling.specs.Posed.{Ready, SomeReady, SomePosedRows};
-ghost use Rattle.desk.specs.Deciding.{turnedBack, answered, decideUnder, Gives, RowsDecided, Decided};
+ghost use Rattle.desk.specs.Deciding.{turnedBack, answered, decideUnder, Gives, RowsAnswered, RowsDecided, Decided};
 use crate::opening::Session;
 use covering::Prepared;
 use model::Outcome;
@@ -63,6 +63,16 @@ fn answer(s: Session, left: u64) -> Decision
     Decision { reply, session }
 }
 
+// The same for a query of n lines that is laid in rows; its shared variables are shown there.
+fn answer_rows(ready: &Prepared, s: Session, n: usize, lines: &mut QueryRows) -> Decision
+    requires { ⌜ SomePosedRows (now ready) n (now lines) × (length (now lines) ≡ queryRowsLong) ⌝ }
+    ensures { λ o. ⌜ RowsAnswered (now (ready .entry)) s n (now (lines .entry)) o ⌝ }
+    ensures { λ _. ⌜ length (now (lines .exit)) ≡ queryRowsLong ⌝ }
+{
+    let l = labelling::label_rows(ready, n, lines);
+    answer(s, s.mask & l.settling)
+}
+
 // Deciding under a policy that is known to be loaded, by what is prepared of it.
 pub fn decide_loaded(tables: Tables, ready: &Prepared, s: Session, text: &[u8]) -> Decision
     requires { ⌜ SomeReady tables (now ready) ⌝ }
@@ -72,18 +82,19 @@ pub fn decide_loaded(tables: Tables, ready: &Prepared, s: Session, text: &[u8]) 
     if unfit(s.mask, every) {
         return refused(s, 9, 0);
     }
-    let a = labelling::label_text(tables, ready, text);
-    let outcome = a.outcome;
+    let r = query_text::read_query(tables, text);
+    let outcome = r.outcome;
     match outcome {
         Outcome::Refused { number, line } => refused(s, number, line),
         Outcome::Accepted => {
-            let l = a.labels;
-            answer(s, s.mask & l.settling)
+            let q = r.query;
+            let mut lines = reduce::query_rows(q);
+            answer_rows(ready, s, q.count, &mut lines)
         }
     }
 }
 
-// The same of a query that a text reads to, its n lines laid in rows; its shared variables are shown there.
+// The same of a query that a text reads to, its n lines laid in rows.
 pub fn decide_rows(ready: &Prepared, s: Session, n: usize, lines: &mut QueryRows) -> Decision
     requires { ⌜ SomePosedRows (now ready) n (now lines) × (length (now lines) ≡ queryRowsLong) ⌝ }
     ensures { λ o. ⌜ RowsDecided (now (ready .entry)) s n (now (lines .entry)) o ⌝ }
@@ -93,8 +104,7 @@ pub fn decide_rows(ready: &Prepared, s: Session, n: usize, lines: &mut QueryRows
     if unfit(s.mask, every) {
         return refused(s, 9, 0);
     }
-    let l = labelling::label_rows(ready, n, lines);
-    answer(s, s.mask & l.settling)
+    answer_rows(ready, s, n, lines)
 }
 
 // Deciding under any policy value, which is checked first: the reply, and the session as the call leaves it.

@@ -1,5 +1,5 @@
 -- What a loaded policy and a query text that reading accepts under its tables give to label.
-use mathlib.Core.Path.{_≡_, ap, _∙_}
+use mathlib.Core.Path.{_≡_, sym, ap, _∙_}
 use mathlib.Core.List.{List, map}
 use Prim.Native.Nat.{ℕ, _+_, _-_, _^_, _≤_, _<_}
 use native.Mathlib.Omega.{arith}
@@ -33,8 +33,10 @@ use Rattle.model.proofs.Limits.{up-to-iff}
 use Rattle.policy_text.proofs.Grants.{grants-at}
 use Rattle.covering.specs.Views.{Holds}
 use Rattle.covering.specs.Prepared.{Prepared}
+use Rattle.reduce.specs.Laid.{Laid}
 use Rattle.reduce.specs.Showing.{Small}
-use Rattle.labelling.specs.Posed.{Ready, Posed}
+use Rattle.reduce.proofs.Lines.{held-count}
+use Rattle.labelling.specs.Posed.{Ready, Posed, PosedRows}
 use Rattle.labelling.specs.Text.{LoadedTo}
 
 -- "variables 0 to 63"
@@ -96,6 +98,13 @@ posed d text Q good e holds =
       small = small-read w;
       fits = w .fits;
     }
+
+-- the value has no more lines than there may be, and its rows hold the query
+pub posed-few : {q : QueryValue} {d : Declared} {Q : Query} → Posed q d Q → q .count ≤ mostLines
+posed-few g = omega (arith, held-count (g .query), g .query .lines)
+
+pub posed-rows : {q : QueryValue} {d : Declared} {Q : Query} {rows : List ℕ} → Posed q d Q → Laid Q rows → PosedRows d Q (q .count) rows
+posed-rows g l = record { count = sym (held-count (g .query)); laid = l; small = g .small; fits = g .fits }
 
 -- ---- there are no more labels than lines
 

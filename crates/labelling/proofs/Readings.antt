@@ -45,7 +45,8 @@ unfolding askedValue
 asked-accepted d (refused n k) v e h = let t : Tag 0 (Refused n k) = subst (λ (w : Asked). Tag 0 (w .outcome)) e h in absurd (omega arith)
 asked-accepted d (accepted Q) v e h = (Q, refl, ap (λ (w : Asked). w .labels) e)
 
--- the number and the line of a refusal
+-- ---- the number and the line of a refusal
+
 numberOf : Outcome → ℕ
 numberOf Accepted = 0
 numberOf (Refused n k) = n
@@ -58,12 +59,30 @@ isRefused : Outcome → ℕ
 isRefused Accepted = 0
 isRefused (Refused n k) = 1
 
+-- how a reading ends, as the code's value
+ending : TheReading → Outcome
+ending (refused n k) = Refused n k
+ending (accepted Q) = Accepted
+
+ending-refused : (r : TheReading) (n k : ℕ) → ending r ≡ Refused n k → r ≡ refused n k
+unfolding ending numberOf lineOf isRefused
+ending-refused (refused m j) n k same = λ i. refused (numberOf (same i)) (lineOf (same i))
+ending-refused (accepted Q) n k same = absurd (omega (arith, ap isRefused same))
+
+reading-ends : (r : TheReading) → readingValue r .outcome ≡ ending r
+unfolding readingValue ending
+reading-ends (refused n k) = refl
+reading-ends (accepted Q) = refl
+
+asked-ends : (d : TheDeclared) (r : TheReading) → askedValue d r .outcome ≡ ending r
+unfolding askedValue ending
+asked-ends d (refused n k) = refl
+asked-ends d (accepted Q) = refl
+
+pub reading-refused : (r : TheReading) (v : Reading) (n k : ℕ) → v ≡ readingValue r → v .outcome ≡ Refused n k → r ≡ refused n k
+reading-refused r v n k e o =
+    ending-refused r n k (sym (reading-ends r) ∙ sym (ap (λ (w : Reading). w .outcome) e) ∙ o)
+
 pub asked-refused : (d : TheDeclared) (r : TheReading) (v : Asked) (n k : ℕ) → v ≡ askedValue d r → v .outcome ≡ Refused n k
     → r ≡ refused n k
-unfolding askedValue numberOf lineOf isRefused
-asked-refused d (refused m j) v n k e o =
-    let same : Refused m j ≡ Refused n k = sym (ap (λ (w : Asked). w .outcome) e) ∙ o in
-    λ i. refused (numberOf (same i)) (lineOf (same i))
-asked-refused d (accepted Q) v n k e o =
-    let same : Accepted ≡ Refused n k = sym (ap (λ (w : Asked). w .outcome) e) ∙ o in
-    absurd (omega (arith, ap isRefused same))
+asked-refused d r v n k e o = ending-refused r n k (sym (asked-ends d r) ∙ sym (ap (λ (w : Asked). w .outcome) e) ∙ o)

@@ -1,13 +1,14 @@
--- `decide_loaded`: 9, what the text is turned back for, or what `answer` says of the open partitions that settle the query.
-use mathlib.Core.Path.{sym, ap, subst, _∙_}
+-- `decide_loaded`: 9, what the text is turned back for, or what `answer_rows` says of its query.
+use mathlib.Core.Path.{_≡_, sym, subst, _∙_}
 use borrow.Author.Needs.{needs}
-use lib.Bits.{bitAnd}
-use Rattle.query_text.specs.Text.{read}
-use Rattle.labelling.specs.Posed.{labelsValue}
-use Rattle.labelling.specs.declared.Labels.{Labels}
-use Rattle.labelling.proofs.Readings.{asked-accepted, asked-refused}
-use Rattle.desk.specs.Deciding.{answered, Gives}
-use Rattle.desk.proofs.Decides.{unfit-is, left-open, under-unfit, under-refused, under-accepted}
+use Rattle.theory.specs.Query.{Query}
+use Rattle.query_text.specs.Text.{read, accepted}
+use Rattle.policy_text.specs.Declared.{Declared}
+use Rattle.labelling.specs.Posed.{Ready, Posed}
+use Rattle.labelling.proofs.Readings.{read-accepted, reading-refused}
+use Rattle.labelling.proofs.Posing.{posed, posed-few, posed-rows}
+use Rattle.desk.specs.Deciding.{Gives}
+use Rattle.desk.proofs.Decides.{unfit-is, under-unfit, under-refused, under-accepted}
 use Rattle.desk.proofs.deciding.decide_loaded.Statement.{statement}
 use Rattle.desk.proofs.deciding.decide_loaded.Tie as tie
 
@@ -26,8 +27,8 @@ returns c = λ d ready.
     let unfit = sym (unfit-is ready every _ (c .before .before .unfit .ensures)) ∙ c .before .if1 .taken in
     subst (Gives _) (sym (under-unfit d _ _ unfit)) (c .refused .ensures)
 
-label-text-requires : tie.Need-label-text-requires
-label-text-requires c κs = search needs
+read-query-requires : tie.Need-read-query-requires
+read-query-requires c κs = search needs
 
 enum-known-outcome : tie.Need-enum-known-outcome
 enum-known-outcome c = search needs
@@ -38,29 +39,45 @@ refused-requires-2 c κs = search needs
 enum-told : tie.Need-enum-told
 enum-told c = search needs
 
-answer-requires : tie.Need-answer-requires
-answer-requires c κs = search needs
+-- the query that the text reads to
+posed-query : (c : tie.After-q) {d : Declared}
+    → (let start = c .before .before .before .before .before .before .before .before in
+    Ready d (start .args .tables) (start .args .ready .now)
+    → (Q : Query) × (read (d .widths) (start .args .text .now) ≡ accepted Q) × Posed (c .before .before .before .read-query .result .query) d Q)
+posed-query c {d} ready =
+    let r = c .before .before .before .read-query in
+    let reads = r .ensures (d .widths) (ready .tablesAre) in
+    let (Q, e, o, q) = read-accepted (read (d .widths) _) (r .result) reads (c .before .before .match .keys2) in
+    (Q, e, posed d _ Q (ready .good) e q)
+
+query-rows-requires : tie.Need-query-rows-requires
+query-rows-requires c κs =
+    let (d, ready) = c .before .before .before .before .before .before .before .before .pre in posed-few (posed-query c ready .2)
+
+answer-rows-requires : tie.Need-answer-rows-requires
+answer-rows-requires c κs =
+    let q = c .before .before in
+    let (d, ready) = q .before .before .before .before .before .before .before .before .pre in
+    let (Q, e, g) = posed-query q ready in
+    ((d, _, Q, ready, posed-rows g (c .before .query-rows .ensures Q (g .query))), search needs)
 
 returns-2 : tie.Need-returns-2
 returns-2 c = λ d ready.
-    let a = c .before .before .before .before in
-    let i = a .before in
+    let r = c .before .before .before .before in
+    let i = r .before in
     let fit = sym (unfit-is ready (i .before .before .every-partition .ensures) _ (i .before .unfit .ensures)) ∙ i .if1 .left in
-    let asked = a .label-text .ensures d ready in
-    let e = asked-refused d (read (d .widths) _) (a .label-text .result) _ _ asked (c .before .before .outcome .given .1) in
+    let reads = r .read-query .ensures (d .widths) (ready .tablesAre) in
+    let e = reading-refused (read (d .widths) _) (r .read-query .result) _ _ reads (c .before .before .outcome .given .1) in
     subst (Gives _) (sym (under-refused d _ _ _ _ fit e)) (c .refused2 .ensures)
 
 returns-3 : tie.Need-returns-3
-unfolding labelsValue
 returns-3 c = λ d ready.
-    let a = c .before .before .before .before .before .before in
-    let i = a .before in
+    let q = c .before .before .before in
+    let i = q .before .before .before .before in
     let fit = sym (unfit-is ready (i .before .before .every-partition .ensures) _ (i .before .unfit .ensures)) ∙ i .if1 .left in
-    let asked = asked-accepted d (read (d .widths) _) (a .label-text .result) (a .label-text .ensures d ready) in
-    let (Q, e, ls) = asked (c .before .before .before .before .before .match .keys2) in
-    let mask = a .before .before .before .before .before .args .s .mask in
-    let left = ap (λ (l : Labels). bitAnd mask (l .settling)) ls ∙ left-open d Q mask in
-    subst (Gives _) (sym (under-accepted d _ _ Q fit e ∙ ap (answered _) (sym left))) (c .answer .ensures)
+    let (Q, e, g) = posed-query q ready in
+    subst (Gives _) (sym (under-accepted d _ _ Q fit e))
+    (c .answer-rows .ensures .0 d _ Q ready (posed-rows g (c .before .before .query-rows .ensures Q (g .query))))
 
 pub decide-loaded-spec : {M : Type 1} → statement M
 decide-loaded-spec =
@@ -70,10 +87,11 @@ decide-loaded-spec =
     unfit-requires
     refused-requires
     returns
-    label-text-requires
+    read-query-requires
     enum-known-outcome
     refused-requires-2
     enum-told
-    answer-requires
+    query-rows-requires
+    answer-rows-requires
     returns-2
     returns-3)

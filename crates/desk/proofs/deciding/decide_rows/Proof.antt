@@ -1,11 +1,8 @@
--- `decide_rows`: 9, or what `answer` says of the open partitions that settle the query.
-use mathlib.Core.Path.{sym, ap, subst, _∙_}
+-- `decide_rows`: 9, or what `answer_rows` says.
+use mathlib.Core.Path.{sym, subst, _∙_}
 use borrow.Author.Needs.{needs}
-use lib.Bits.{bitAnd}
-use Rattle.labelling.specs.Posed.{labelsValue}
-use Rattle.labelling.specs.declared.Labels.{Labels}
-use Rattle.desk.specs.Deciding.{answered, Gives}
-use Rattle.desk.proofs.Decides.{unfit-is, left-open, under-unfit, under-accepted}
+use Rattle.desk.specs.Deciding.{Gives}
+use Rattle.desk.proofs.Decides.{unfit-is, under-unfit, under-accepted}
 use Rattle.desk.proofs.deciding.decide_rows.Statement.{statement}
 use Rattle.desk.proofs.deciding.decide_rows.Tie as tie
 
@@ -27,24 +24,16 @@ returns c =
       c .before .before .before .before .pre .1,
     )
 
-label-rows-requires : tie.Need-label-rows-requires
-label-rows-requires c κs = search needs
-
-answer-requires : tie.Need-answer-requires
-answer-requires c κs = search needs
+answer-rows-requires : tie.Need-answer-rows-requires
+answer-rows-requires c κs = search needs
 
 returns-2 : tie.Need-returns-2
-unfolding labelsValue
 returns-2 c =
-    let a = c .before .before .before in
-    let i = a .before .before in (
+    let i = c .before .before in (
       λ d t Q text ready g e.
           let fit = sym (unfit-is ready (i .before .before .every-partition .ensures) _ (i .before .unfit .ensures)) ∙ i .if1 .left in
-          let mask = i .before .before .before .args .s .mask in
-          let ls = a .label-rows .ensures .0 d t Q ready g in
-          let left = ap (λ (l : Labels). bitAnd mask (l .settling)) ls ∙ left-open d Q mask in
-          subst (Gives _) (sym (under-accepted d _ _ Q fit e ∙ ap (answered _) (sym left))) (c .answer .ensures),
-      a .label-rows .ensures .1,
+          subst (Gives _) (sym (under-accepted d _ _ Q fit e)) (c .answer-rows .ensures .0 d t Q ready g),
+      c .answer-rows .ensures .1,
     )
 
 pub decide-rows-spec : {M : Type 1} → statement M
@@ -55,6 +44,5 @@ decide-rows-spec =
     unfit-requires
     refused-requires
     returns
-    label-rows-requires
-    answer-requires
+    answer-rows-requires
     returns-2)
