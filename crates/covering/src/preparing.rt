@@ -132,7 +132,7 @@ fn find_free(ready: &mut [u64])
     }
 }
 
-// The same for many queries.
+// What is made of a policy for many queries: the free columns are found too.
 pub fn prepare_for_many(p: Policy) -> Prepared
     requires { ⌜ p .«partition_count» ≤ mostPartitions ⌝ }
     ensures { λ r. ⌜ PreparedOf p r ⌝ }

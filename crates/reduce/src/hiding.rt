@@ -14,7 +14,7 @@ use crate::showing::is_hidden;
 use model::MOST_COLUMNS;
 use model::Term;
 
-// The columns of a line that have a hidden variable, its hidden variables, and those that stand in two columns.
+// The words of a line: the columns that have a hidden variable, its hidden variables, and those that stand in two columns.
 pub const LINE_WORDS: usize = 3;
 
 // The columns of line i that have a hidden variable, as bits.
