@@ -19,7 +19,7 @@ use model::Tables;
 use model::Term;
 
 // The most bytes of a query text.
-pub const MOST_BYTES: usize = 4096;
+const MOST_BYTES: usize = 4096;
 
 // How reading ends, and the query: that of the text, or one without a line.
 pub struct Reading {
