@@ -41,7 +41,7 @@ pub fn twice_of(words: &[u64], i: usize) -> u64
     words[i * LINE_WORDS + 2]
 }
 
-// The bit of a hidden variable, and no bit for any other term.
+// The bit of a hidden variable, and no bit for any other term, without a branch: the remainder keeps the shift within the word.
 fn hidden_bit(t: Term) -> u64
     ensures { λ r. ⌜ r ≡ cond (hiddenTerm t) (2 ^ t .number) 0 ⌝ }
 {

@@ -46,6 +46,7 @@ pub fn shared(n: usize, words: &[u64], left: u64) -> u64
     twice
 }
 
+// Whether the term is one of the hidden variables `shared`. The bit is looked up before the mark, so that nothing branches on either.
 pub fn is_shared(shared: u64, t: Term) -> bool
     ensures { λ r. ⌜ r ≡ (hiddenTerm t && isSet shared (t .number)) ⌝ }
 {

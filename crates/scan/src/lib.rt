@@ -18,8 +18,10 @@ use model::Query;
 use numbers::table_at;
 use terms::terms_at;
 
-// How many bytes the names line of a query has, with its end.
-const NAMES: usize = 12;
+// How many bytes the names line of a query has, with its end and without.
+const NAMES: usize = NAMES_END + 1;
+
+const NAMES_END: usize = 11;
 
 // A query, and the place behind its text; place 0 where there is none.
 pub struct Piece {
@@ -38,11 +40,11 @@ fn names_at(text: &[u8], at: usize) -> bool
     if text[at] != b't' {
         return false;
     }
-    if text[at + 11] != b'\n' {
+    if text[at + NAMES_END] != b'\n' {
         return false;
     }
     let rest = &text[at..];
-    text::same(&rest[..11], &text::TABLE_TERMS)
+    text::same(&rest[..NAMES_END], &text::TABLE_TERMS)
 }
 
 // The columns of a table that there may be, or 0.
@@ -74,7 +76,7 @@ fn text_end(count: usize, shown: u64, hidden: u64, at: usize) -> usize
 pub fn first_query(widths: &[u64], input: &[u8], rows: &mut [u64]) -> Piece
     requires { ⌜ SomeWidths (now widths) × (length (now input) < 2 ^ 32) × (length (now rows) ≡ queryRowsLong) ⌝ }
     ensures { λ p. ⌜ ScannedUnder (now (widths .entry)) (now (input .entry)) p (now (rows .exit)) ⌝ }
-    ensures { λ p. ⌜ length (now (rows .exit)) ≡ queryRowsLong ⌝ }
+    ensures { λ _. ⌜ length (now (rows .exit)) ≡ queryRowsLong ⌝ }
 {
     let mut q = query_text::no_query();
     if !names_at(input, 0) {
