@@ -24,8 +24,10 @@ pub use preparing::Prepared;
 use preparing::TABLE_WORDS;
 use preparing::WIDTH_WORDS;
 pub use preparing::every_partition;
+pub use preparing::granting;
 pub use preparing::prepare;
 pub use preparing::prepare_for_many;
+pub use preparing::views_of;
 pub use preparing::widths;
 
 // ---- covering

@@ -6,9 +6,10 @@ ghost use mathlib.Core.Path.{_≡_};
 ghost use mathlib.Core.Bool.{true};
 ghost use Prim.Native.Nat.{_≤_, _<_};
 ghost use lib.ListN.{length, getD, drop};
-ghost use Rattle.model.specs.Limits.{mostColumns, mostViews, mostPartitions};
+ghost use Rattle.model.specs.Limits.{mostTables, mostColumns, mostViews, mostPartitions};
 ghost use Rattle.model.specs.Rows.{HasRow};
-ghost use Rattle.covering.specs.Prepared.{everyWord, widthWords, preparedLong, Prepared as PreparedOf, ViewEntered, WidthsEntered};
+ghost use Rattle.covering.specs.Prepared.{everyWord, widthWords, preparedLong, tableWord, grantWord};
+ghost use Rattle.covering.specs.Prepared.{Prepared as PreparedOf, ViewEntered, WidthsEntered};
 ghost use Rattle.covering.specs.Free.{FreeAt, FreeColumns};
 ghost use Rattle.covering.specs.Prepared.{FreeFound};
 use model::Line;
@@ -148,6 +149,22 @@ pub fn every_partition(ready: &Prepared) -> u64
     ensures { λ w. ⌜ w ≡ getD (now (ready .entry)) everyWord 0 ⌝ }
 {
     ready[EVERY_WORD]
+}
+
+// The views of a table, as a word: view n at bit n - 1.
+pub fn views_of(ready: &Prepared, table: u64) -> u64
+    requires { ⌜ (length (now ready) ≡ preparedLong) × (table ≤ mostTables) ⌝ }
+    ensures { λ w. ⌜ w ≡ tableWord (now (ready .entry)) table ⌝ }
+{
+    ready[TABLE_WORDS + table as usize]
+}
+
+// The partitions that grant the view at place k, partition n at bit n - 1.
+pub fn granting(ready: &Prepared, k: u64) -> u64
+    requires { ⌜ (length (now ready) ≡ preparedLong) × (k < mostViews) ⌝ }
+    ensures { λ w. ⌜ w ≡ grantWord (now (ready .entry)) k ⌝ }
+{
+    ready[GRANT_WORDS + k as usize]
 }
 
 // The columns of each table, of a table's number, and 0 where there is no such table.

@@ -6,7 +6,7 @@ ghost use Prim.Native.Nat.{ℕ, _^_, _≤_, _<_};
 ghost use lib.ListN.{length, getD, take, drop};
 ghost use Rattle.words.specs.Bits.{halfBits};
 ghost use Rattle.words.specs.TestBits.{testBits, upFrom};
-ghost use Rattle.model.specs.Limits.{mostViews, mostPartitions, mostLines, upTo};
+ghost use Rattle.model.specs.Limits.{mostViews, mostPartitions, mostLines};
 ghost use Rattle.policy_text.specs.Abstract.{grantedAt};
 ghost use Rattle.desk.specs.HoldsLabels.{SomeExplained, WordsGiven};
 ghost use Rattle.desk.specs.Explaining.{ExplanationGiven};
@@ -30,7 +30,7 @@ pub fn explain(p: Policy, n: u64, text: &[u8], out: &mut [u32]) -> Explaining
     if !validity::valid(p) {
         return Explaining::Refused { number: 8, line: 0 };
     }
-    if !is_among(n, p.partition_count as u64) {
+    if !model::is_among(n, p.partition_count as u64) {
         return Explaining::Refused { number: 4, line: 0 };
     }
     let a = labelling::ask(p, text);
@@ -46,13 +46,6 @@ pub fn explain(p: Policy, n: u64, text: &[u8], out: &mut [u32]) -> Explaining
         }
         Outcome::Refused { number, line } => Explaining::Refused { number, line },
     }
-}
-
-// Whether a number is from 1 to the count.
-fn is_among(n: u64, count: u64) -> bool
-    ensures { λ r. ⌜ r ≡ upTo count n ⌝ }
-{
-    1 <= n && n <= count
 }
 
 // The views that partition i, counted from 0, grants: view n at bit n - 1.

@@ -7,6 +7,7 @@ use Rattle.theory.specs.Query.{Fits, _∈_}
 use Rattle.theory.specs.Query.{Line as TheLine, Query as TheQuery}
 use Rattle.theory.specs.Archive.{AllFit}
 use Rattle.theory.specs.Executable.Label.{label, labels}
+use Rattle.theory.specs.Executable.Reduce.{reduce}
 use Rattle.theory.specs.Executable.Show.{show}
 use Rattle.model.specs.Limits.{mostTables, mostColumns, mostViews, mostLines}
 use Rattle.model.specs.Rows.{LaidAt}
@@ -72,6 +73,14 @@ pub record Rows (d : Declared) (Q : TheQuery) (w : ℕ) (rows : List ℕ) : Type
   pub fits : AllFit (d .widths) Q
   pub row : (i : ℕ) → i < length Q → LaidAt rows i (showLine w (lineValue (lineAt Q i)))
 
+-- What reducing and showing leave of such a query: `left` has the lines of its reduced form, and the variables that these share are
+-- shown in the rows.
+pub record ShownIn (d : Declared) (Q : TheQuery) (left : ℕ) (rows : List ℕ) : Type 0 where
+  pub word : ℕ
+  pub shown : Rows d Q word rows
+  pub shared : SharedWord (linesAt left Q) word
+  pub reduced : linesAt left Q ≡ reduce Q
+
 -- ---- the labels
 
 -- unused words are 0
@@ -85,6 +94,14 @@ unfolding wordsValue
 labelsValue ws settling = record { words = wordsValue ws; settling = settling }
 
 -- ---- what is asked of labelling, and what it gives
+
+-- the rows of a query of n lines on the tables of some policy
+abbrev pub SomeQueryRows : ℕ → List ℕ → Type 0
+SomeQueryRows n lines = (d : Declared) × (Q : TheQuery) × PosedRows d Q n lines
+
+-- its lines that are left, and the rows with the variables shown that these share
+abbrev pub RowsShown : ℕ → List ℕ → ℕ → List ℕ → Type 0
+RowsShown n lines left after = (d : Declared) (Q : TheQuery) → PosedRows d Q n lines → ShownIn d Q left after
 
 -- the rows of a query of n lines, its variables of some word shown
 abbrev pub SomeRows : List ℕ → ℕ → List ℕ → Type 0

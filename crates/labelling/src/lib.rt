@@ -8,6 +8,7 @@ ghost use Rattle.model.specs.Rows.{queryRowsLong};
 ghost use Rattle.query_text.specs.Text.{read};
 ghost use Rattle.policy_text.specs.Declared.{Declared};
 ghost use Rattle.labelling.specs.Posed.{Ready, SomeReady, wordsValue, labelsValue};
+ghost use Rattle.labelling.specs.Posed.{SomeQueryRows, RowsShown};
 ghost use Rattle.labelling.specs.Posed.{SomeRows, RowsGiven, SomePosedRows, PosedRowsGiven, SomePosed, QueryGiven};
 ghost use Rattle.labelling.specs.Text.{LoadedTo, SomePolicy, askedValue};
 use covering::Prepared;
@@ -59,10 +60,10 @@ fn label_lines(ready: &Prepared, n: usize, lines: &QueryRows, left: u64) -> Labe
     Labels { words, settling }
 }
 
-// The labels of a query of n lines that is laid in rows; its shared variables are shown there.
-pub fn label_rows(ready: &Prepared, n: usize, lines: &mut QueryRows) -> Labels
-    requires { ⌜ SomePosedRows (now ready) n (now lines) × (length (now lines) ≡ queryRowsLong) ⌝ }
-    ensures { λ l. ⌜ PosedRowsGiven (now (ready .entry)) n (now (lines .entry)) l ⌝ }
+// Which of n lines that are laid in rows are left when the query is reduced, as bits; the variables that these share are shown.
+pub fn shown_rows(n: usize, lines: &mut QueryRows) -> u64
+    requires { ⌜ SomeQueryRows n (now lines) × (length (now lines) ≡ queryRowsLong) ⌝ }
+    ensures { λ left. ⌜ RowsShown n (now (lines .entry)) left (now (lines .exit)) ⌝ }
     ensures { λ _. ⌜ length (now (lines .exit)) ≡ queryRowsLong ⌝ }
 {
     let mut words = [0; MOST_LINES * LINE_WORDS];
@@ -70,6 +71,16 @@ pub fn label_rows(ready: &Prepared, n: usize, lines: &mut QueryRows) -> Labels
     let left = reduce::lines_left(n, lines, &words);
     let shared = reduce::shared(n, &words, left);
     reduce::show(n, lines, shared);
+    left
+}
+
+// The labels of a query of n lines that is laid in rows; its shared variables are shown there.
+pub fn label_rows(ready: &Prepared, n: usize, lines: &mut QueryRows) -> Labels
+    requires { ⌜ SomePosedRows (now ready) n (now lines) × (length (now lines) ≡ queryRowsLong) ⌝ }
+    ensures { λ l. ⌜ PosedRowsGiven (now (ready .entry)) n (now (lines .entry)) l ⌝ }
+    ensures { λ _. ⌜ length (now (lines .exit)) ≡ queryRowsLong ⌝ }
+{
+    let left = shown_rows(n, lines);
     label_lines(ready, n, lines, left)
 }
 

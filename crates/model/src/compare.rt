@@ -1,6 +1,7 @@
-// Comparing terms.
+// Comparing terms, and a number with a count.
 
 ghost use mathlib.Core.Path.{_≡_};
+ghost use Rattle.model.specs.Limits.{upTo};
 ghost use Rattle.model.specs.Value.{sameTerm};
 use crate::Term;
 
@@ -12,4 +13,11 @@ pub fn same_term(t: Term, u: Term) -> bool
         return false;
     }
     t.number == u.number
+}
+
+// Whether a number is from 1 to the count.
+pub fn is_among(n: u64, count: u64) -> bool
+    ensures { λ r. ⌜ r ≡ upTo count n ⌝ }
+{
+    1 <= n && n <= count
 }

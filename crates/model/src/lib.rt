@@ -6,6 +6,7 @@ mod read;
 mod rows;
 
 pub use check::check_line;
+pub use compare::is_among;
 pub use compare::same_term;
 pub use read::blank;
 pub use read::mark_of;

@@ -1,9 +1,9 @@
 -- `is_among`: the two tests of `upTo`.
 use native.Mathlib.Omega.{arith}
 use borrow.Author.Tests.{le-leb, lt-leb}
 use Rattle.model.specs.Limits.{upTo}
-use Rattle.desk.proofs.explaining.is_among.Statement.{statement}
-use Rattle.desk.proofs.explaining.is_among.Tie as tie
+use Rattle.model.proofs.compare.is_among.Statement.{statement}
+use Rattle.model.proofs.compare.is_among.Tie as tie
 
 returns : tie.Need-returns
 unfolding upTo
