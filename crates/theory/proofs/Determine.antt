@@ -6,6 +6,7 @@ pub mod Freeze
 pub mod Marked
 pub mod Archives
 pub mod Necessary
+pub mod Apart
 pub mod OneLine
 use mathlib.Core.Path.{_≡_, refl, sym, subst}
 use mathlib.Core.Logic.{_↔_, Iff·symm}

@@ -11,6 +11,7 @@ use native.Mathlib.Omega.{arith}
 use lib.ListN.{length, getElem?, getD}
 use Rattle.theory.specs.Query.{_∈_, Pointwise, ends, next}
 use Rattle.theory.specs.Reduce.{without}
+use Rattle.theory.specs.Apart.{NoRepeats, none-repeats, one-more}
 
 -- ---- places
 
@@ -85,10 +86,6 @@ module _ {X : Type 0} where
 
   -- ---- lists without repeats
 
-  pub data NoRepeats : List X → Type 0 where
-    none-repeats : NoRepeats []
-    one-more : {x : X} {l : List X} → (x ∈ l → ⊥) → NoRepeats l → NoRepeats (x ∷ l)
-
   pub tail-repeats : {x : X} {l : List X} → NoRepeats (x ∷ l) → NoRepeats l
   tail-repeats (one-more n r) = r
 
@@ -109,13 +106,13 @@ module _ {X : Type 0} where
   permuted-out (y ∷ l) (suc i) e =
       List·Permᴰ·trans (List·Permᴰ·swap refl refl) (List·Permᴰ·cons refl (permuted-out l i e))
 
-  without-repeats : (l : List X) (i : ℕ) → NoRepeats l → NoRepeats (without i l)
+  pub without-repeats : (l : List X) (i : ℕ) → NoRepeats l → NoRepeats (without i l)
   without-repeats [] i r = r
   without-repeats (y ∷ l) zero r = tail-repeats r
   without-repeats (y ∷ l) (suc i) r =
       one-more (λ m. head-repeats r (without-subset i l m)) (without-repeats l i (tail-repeats r))
 
-  place-unique : (l : List X) (i : ℕ) {x : X} → NoRepeats l → getElem? l i ≡ some x → x ∈ without i l → ⊥
+  pub place-unique : (l : List X) (i : ℕ) {x : X} → NoRepeats l → getElem? l i ≡ some x → x ∈ without i l → ⊥
   place-unique [] i r e m = none≢some e
   place-unique (y ∷ l) zero {x} r e m = head-repeats r (Memᴰ·cast (Option·some-injective y x e) m)
   place-unique (y ∷ l) (suc i) {x} r e m =

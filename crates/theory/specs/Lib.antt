@@ -6,5 +6,6 @@ pub mod Reduce
 pub mod Show
 pub mod Cover
 pub mod Count
+pub mod Apart
 pub mod Executable
 pub mod Printed
