@@ -4,6 +4,7 @@ pub mod Inside
 pub mod Sufficient
 pub mod Freeze
 pub mod Marked
+pub mod Thaw
 pub mod Archives
 pub mod Necessary
 pub mod Apart

@@ -3,8 +3,8 @@
 use mathlib.Core.Path.{_≡_, refl, sym, ap, _∙_}
 use mathlib.Core.Logic.{_⊎_, inl, inr, ⊎-elim, _≢_}
 use mathlib.Core.Option.{Option, none, some, Option·some-injective}
-use mathlib.Core.List.{List, [], _∷_, map, List·Memᴰ·head, List·Memᴰ·tail, List·Memᴰ·not-nil, List·Memᴰ·cases-cons, Memᴰ·cast}
-use mathlib.Core.List.{Memᴰ·of-map, List·Permᴰ, List·Permᴰ·nil, List·Permᴰ·cons, List·Permᴰ·swap, List·Permᴰ·trans, Permᴰ·refl}
+use mathlib.Core.List.{List, [], _∷_, _++_, map, List·Memᴰ·head, List·Memᴰ·tail, List·Memᴰ·not-nil, List·Memᴰ·cases-cons, Memᴰ·cast}
+use mathlib.Core.List.{List·Memᴰ·append-cases, Memᴰ·of-map, List·Permᴰ, List·Permᴰ·nil, List·Permᴰ·cons, List·Permᴰ·swap, List·Permᴰ·trans, Permᴰ·refl}
 use Prim.Native.Nat.{ℕ, zero, suc, _≤_, _<_, zero-le, suc-le-suc}
 use native.Mathlib.Nat.{not-suc-le-zero, le-of-suc-le-suc, suc-inj, suc-ne-zero}
 use native.Mathlib.Omega.{arith}
@@ -134,6 +134,13 @@ module _ {X : Type 0} where
       (λ z m. ⊎-elim (λ e. absurd (place-unique ys (p .0) ry (p .1) (Memᴰ·cast (sym e) m))) (λ k. k)
       (List·Memᴰ·cases-cons (from z (without-subset (p .0) ys m))))))
       (permuted-out ys (p .0) (p .1))
+
+-- two lists without repeats and without a common element
+pub append-no-repeats : {X : Type 0} (k l : List X) → NoRepeats k → NoRepeats l → ((x : X) → x ∈ k → x ∈ l → ⊥) → NoRepeats (k ++ l)
+append-no-repeats [] l r q apart = q
+append-no-repeats (x ∷ k) l r q apart =
+    one-more (λ m. ⊎-elim (λ a. head-repeats r a) (λ b. apart x (List·Memᴰ·head refl) b) (List·Memᴰ·append-cases k m))
+    (append-no-repeats k l (tail-repeats r) q (λ y a b. apart y (List·Memᴰ·tail a) b))
 
 -- a function that is one to one on a list without repeats keeps it so
 pub map-no-repeats : {X Y : Type 0} (f : X → Y) (l : List X) → ((x y : X) → x ∈ l → y ∈ l → f x ≡ f y → x ≡ y) → NoRepeats l

@@ -1,12 +1,11 @@
--- Values for the terms of a query, for archives that stand for it: different terms have different values, no value of a variable
--- is a constant of a view, and each of the first w columns has a value of its own, its mark.
-use mathlib.Core.Path.{_≡_, refl, sym, ap, _∙_}
+-- Values for the terms of a query, no two of them alike, and a further one for each of the first columns, its mark.
+use mathlib.Core.Path.{_≡_, ap}
 use mathlib.Core.Logic.{⊎-elim}
 use mathlib.Core.List.{List, [], _∷_, _++_, List·Memᴰ·not-nil, List·Memᴰ·cases-cons, Memᴰ·append-left, Memᴰ·append-right}
-use Prim.Native.Nat.{ℕ, _+_, _≤_, _<_}
+use Prim.Native.Nat.{ℕ, _+_, _<_}
 use native.Mathlib.Omega.{arith}
 use Rattle.theory.specs.Query.{Term, constant, shown, hidden, Line, Query, _∈_}
-use Rattle.theory.specs.Archive.{value}
+use Rattle.theory.specs.Archive.{Row, value, row}
 use Rattle.theory.specs.Executable.Test.{number}
 use Rattle.theory.proofs.Terms.{above-terms, number-below}
 
@@ -14,14 +13,25 @@ use Rattle.theory.proofs.Terms.{above-terms, number-below}
 abbrev pub In : List Line → Term → Type 0
 In l t = (A : Line) × (A ∈ l) × (t ∈ A .columns)
 
+-- s and h for the variables of R, and marks for the first w columns
 pub record Frozen (vs : List Line) (R : Query) (w : ℕ) : Type 0 where
   pub s : ℕ → ℕ
   pub h : ℕ → ℕ
   pub mark : ℕ → ℕ
+  -- different terms have different values
   pub one : (t u : Term) → In R t → In R u → value s h t ≡ value s h u → t ≡ u
+  -- a constant of a view is no variable's value
   pub clear : (t : Term) (c : ℕ) → In R t → In vs (constant c) → value s h t ≡ c → t ≡ constant c
+  -- a mark is no term's value, and different columns have different marks
   pub far : (t : Term) (p : ℕ) → In R t → p < w → value s h t ≡ mark p → ⊥
   pub marks : (p q : ℕ) → p < w → q < w → mark p ≡ mark q → p ≡ q
+
+module _ {vs : List Line} {R : Query} {w : ℕ} (F : Frozen vs R w) where
+  abbrev pub frozen : Term → ℕ
+  frozen t = value (F .s) (F .h) t
+
+  abbrev pub freeze : Line → Row
+  freeze B = row (F .s) (F .h) B
 
 -- ---- values that are large enough
 

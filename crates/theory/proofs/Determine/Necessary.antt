@@ -24,12 +24,15 @@ use Rattle.theory.proofs.Reduce.{reduced-place}
 use Rattle.theory.proofs.Endomorphism.{Stands, hits, hidden-stay, one-to-one}
 use Rattle.theory.proofs.Match.{cell, row-cell}
 use Rattle.theory.proofs.Determine.Inside.{Unshared, RulesIn, CoversIn}
-use Rattle.theory.proofs.Determine.Freeze.{In, Frozen, large}
-use Rattle.theory.proofs.Determine.Marked.{firstOf, first-column, first-one, frozen, freeze, markOf, Marked, Extra, extra-rows, collapse, collapse-frozen, thaw-freeze, thaw-marked}
+use Rattle.theory.proofs.Determine.Freeze.{In, Frozen, frozen, freeze, large}
+use Rattle.theory.proofs.Determine.Marked.{firstOf, first-column, first-one, markOf, IsMarked, Extra, extra-rows, width, view-width}
+use Rattle.theory.proofs.Determine.Marked.{in-view, marked-cell, matched-cell, term-in, constants-match, equals-match}
+use Rattle.theory.proofs.Determine.Thaw.{thaw, thaw-frozen, thaw-freeze, thaw-marked}
 use Rattle.theory.proofs.Determine.Archives.{others, all-rows, of-others, agree, frozen-answer, rows-fit}
 
-module _ {vs : List Line} {R : Query} {w : ℕ} (F : Frozen vs R w) (reduced : Reduced R) (i : ℕ) (A : Line) (A-at : getElem? R i ≡ some A)
-    (short : length (A .columns) ≤ w) (extra : Archive) (e : Extra F A extra) (answer : Answer R (others F i A extra) (F .s)) where
+module _ {vs : List Line} {R : Query} {w : ℕ} (F : Frozen vs R w) (reduced : Reduced R) (i : ℕ) (A : Line)
+    (A-at : getElem? R i ≡ some A) (short : length (A .columns) ≤ w) (extra : Archive) (e : Extra F A extra)
+    (answer : Answer R (others F i extra) (F .s)) where
   -- the hidden valuation on the second archive, and a line's row under it
   abbrev h : ℕ → ℕ
   h = answer .0
@@ -37,42 +40,38 @@ module _ {vs : List Line} {R : Query} {w : ℕ} (F : Frozen vs R w) (reduced : R
   abbrev stand : Line → Row
   stand B = row (F .s) h B
 
-  -- a row that a view marked
-  abbrev OnMarked : Row → Type 0
-  OnMarked r = Marked F A vs r
-
   in-R : A ∈ R
   in-R = at-place R i A-at
 
-  abbrev thaw : ℕ → Term
-  thaw = collapse F A short
+  abbrev back : ℕ → Term
+  back = thaw F A short
 
   -- ---- the map
 
   g : ℕ → Term
-  g n = thaw (h n)
+  g n = back (h n)
 
-  image-collapse : (t : Term) → In R t → image g t ≡ thaw (value (F .s) h t)
+  image-back : (t : Term) → In R t → image g t ≡ back (value (F .s) h t)
   unfolding g
-  image-collapse (constant c) m = sym (collapse-frozen F A short (constant c) m)
-  image-collapse (shown n) m = sym (collapse-frozen F A short (shown n) m)
-  image-collapse (hidden n) m = refl
+  image-back (constant c) m = sym (thaw-frozen F A short (constant c) m)
+  image-back (shown n) m = sym (thaw-frozen F A short (shown n) m)
+  image-back (hidden n) m = refl
 
   -- a line's image is its row, thawed
-  thawed : (B : Line) → B ∈ R → over (image g) B ≡ over thaw (stand B)
+  thawed : (B : Line) → B ∈ R → over (image g) B ≡ over back (stand B)
   thawed B m =
-      over-same (image g) (λ t. thaw (value (F .s) h t)) B (λ t k. image-collapse t (B, m, k))
-      ∙ sym (over-over thaw (value (F .s) h) B)
+      over-same (image g) (λ t. back (value (F .s) h t)) B (λ t k. image-back t (B, m, k))
+      ∙ sym (over-over back (value (F .s) h) B)
 
   -- a line stands on the frozen row of another line than A, which is its image, or on a marked row, and its image is A
   goes : (B : Line) → B ∈ R
       → ((C : Line) × (C ∈ without i R) × (stand B ≡ freeze F C) × (over (image g) B ≡ C))
-      ⊎ (OnMarked (stand B) × (over (image g) B ≡ A))
+      ⊎ (IsMarked F A (stand B) × (over (image g) B ≡ A))
   goes B m =
       ⊎-elim
       (λ k. inl
-      (k .0, k .1, k .2, thawed B m ∙ ap (over thaw) (k .2) ∙ thaw-freeze F A short (k .0) (without-subset i R (k .1))))
-      (λ k. inr (k, thawed B m ∙ thaw-marked F A short in-R (stand B) k)) (of-others F i A extra e (stand B) (answer .1 B m))
+      (k .0, k .1, k .2, thawed B m ∙ ap (over back) (k .2) ∙ thaw-freeze F A short (k .0) (without-subset i R (k .1))))
+      (λ k. inr (k, thawed B m ∙ thaw-marked F A short in-R k)) (of-others F i A extra e (stand B) (answer .1 B m))
 
   sends : Sends g R R
   sends B m =
@@ -81,7 +80,7 @@ module _ {vs : List Line} {R : Query} {w : ℕ} (F : Frozen vs R w) (reduced : R
   -- ---- a variable that stands on a mark
 
   -- the line that becomes A stands on a marked row
-  on-marked : (B : Line) → B ∈ R → over (image g) B ≡ A → OnMarked (stand B)
+  on-marked : (B : Line) → B ∈ R → over (image g) B ≡ A → IsMarked F A (stand B)
   on-marked B m e =
       ⊎-elim (λ k. absurd (reduced-place reduced i A A-at (Memᴰ·cast (sym e ∙ k .3) (k .1)))) (λ k. k .0) (goes B m)
 
@@ -92,8 +91,8 @@ module _ {vs : List Line} {R : Query} {w : ℕ} (F : Frozen vs R w) (reduced : R
   on-mark (hidden n) p m l k = (n, refl)
 
   -- it stands in no line that becomes another one than A
-  nowhere-else : (n k p : ℕ) → Stands n R → g n ≡ hidden k → p < w → h n ≡ F .mark p → (j : ℕ) (C : Line) → j ≢ i → getElem? R j ≡ some C
-      → hidden k ∈ C .columns → ⊥
+  nowhere-else : (n k p : ℕ) → Stands n R → g n ≡ hidden k → p < w → h n ≡ F .mark p
+      → (j : ℕ) (C : Line) → j ≢ i → getElem? R j ≡ some C → hidden k ∈ C .columns → ⊥
   nowhere-else n k p s q l on j C ne C-at m =
       let b = hits reduced sends C (at-place R j C-at) in
       let t = Memᴰ·of-map (image g) (b .0 .columns) (subst (λ (B : Line). hidden k ∈ B .columns) (sym (b .2)) m) in
@@ -113,42 +112,20 @@ module _ {vs : List Line} {R : Query} {w : ℕ} (F : Frozen vs R w) (reduced : R
 
   -- ---- the view covers A
 
-  module _ (B : Line) (B-in : B ∈ R) (becomes : over (image g) B ≡ A) (k : OnMarked (stand B)) where
-    wide : length (k .v .columns) ≡ length (A .columns)
-    wide =
-        sym (length-map (k .v .columns) (value (k .s) (k .h))) ∙ ap (λ (r : Row). length (r .columns)) (k .matched)
-        ∙ length-map (A .columns) (frozen F)
-
-    wide-B : length (k .v .columns) ≡ length (B .columns)
-    wide-B =
-        sym (length-map (k .v .columns) (value (k .s) (markOf F (k .v))))
-        ∙ ap (λ (r : Row). length (r .columns)) (sym (k .same)) ∙ length-map (B .columns) (value (F .s) h)
+  module _ (B : Line) (B-in : B ∈ R) (becomes : over (image g) B ≡ A) (k : IsMarked F A (stand B)) where
+    wide : length (k .v .columns) ≡ length (B .columns)
+    wide = sym (width F A k) ∙ length-map (B .columns) (value (F .s) h)
 
     module _ (p : ℕ) (l : p < length (k .v .columns)) where
-      l-A : p < length (A .columns)
-      l-A = subst (λ (n : ℕ). p < n) wide l
-
       l-B : p < length (B .columns)
-      l-B = subst (λ (n : ℕ). p < n) wide-B l
-
-      in-A : In R (at A p)
-      in-A = (A, in-R, getD-mem (A .columns) p (constant 0) l-A)
+      l-B = subst (λ (n : ℕ). p < n) wide l
 
       in-B : at B p ∈ B .columns
       in-B = getD-mem (B .columns) p (constant 0) l-B
 
-      in-v : at (k .v) p ∈ k .v .columns
-      in-v = getD-mem (k .v .columns) p (constant 0) l
-
-      -- the cell of A, of the line that becomes A, and the term that it becomes
-      cell-A : value (k .s) (k .h) (at (k .v) p) ≡ frozen F (at A p)
-      cell-A =
-          sym (row-cell (k .s) (k .h) (k .v) p l) ∙ ap (λ (r : Row). cell r p) (k .matched) ∙ row-cell (F .s) (F .h) A p l-A
-
-      cell-B : value (F .s) h (at B p) ≡ value (k .s) (markOf F (k .v)) (at (k .v) p)
-      cell-B =
-          sym (row-cell (F .s) h B p l-B) ∙ ap (λ (r : Row). cell r p) (k .same)
-          ∙ row-cell (k .s) (markOf F (k .v)) (k .v) p l
+      -- the cell of the line that becomes A, and the term that it becomes
+      cell-B : value (F .s) h (at B p) ≡ value (k .s) (markOf (F .mark) (k .v)) (at (k .v) p)
+      cell-B = sym (row-cell (F .s) h B p l-B) ∙ marked-cell F A k p l
 
       term-A : image g (at B p) ≡ at A p
       term-A =
@@ -156,14 +133,14 @@ module _ {vs : List Line} {R : Query} {w : ℕ} (F : Frozen vs R w) (reduced : R
 
     -- a view's hidden variable has its first column among the marked ones
     first-below : (m : ℕ) → hidden m ∈ k .v .columns → firstOf (k .v .columns) (hidden m) < w
-    first-below m i = omega (arith, first-column (k .v .columns) (hidden m) i .0, wide, short)
+    first-below m i = omega (arith, first-column (k .v .columns) (hidden m) i .0, view-width F A k, short)
 
     -- under a hidden variable of the view the line has a hidden variable that stands on its mark, and so has A
     record Hides (p m : ℕ) : Type 0 where
       n : ℕ
       B-has : at B p ≡ hidden n
       low : firstOf (k .v .columns) (hidden m) < w
-      stands-on : h n ≡ markOf F (k .v) m
+      stands-on : h n ≡ markOf (F .mark) (k .v) m
       stands : Stands n R
       n′ : ℕ
       becomes-hidden : g n ≡ hidden n′
@@ -171,8 +148,8 @@ module _ {vs : List Line} {R : Query} {w : ℕ} (F : Frozen vs R w) (reduced : R
 
     hides : (p m : ℕ) → p < length (k .v .columns) → at (k .v) p ≡ hidden m → Hides p m
     hides p m l q =
-        let on : value (F .s) h (at B p) ≡ markOf F (k .v) m = cell-B p l ∙ ap (value (k .s) (markOf F (k .v))) q in
-        let low = first-below m (Memᴰ·cast (sym q) (in-v p l)) in
+        let on : value (F .s) h (at B p) ≡ markOf (F .mark) (k .v) m = cell-B p l ∙ ap (value (k .s) (markOf (F .mark) (k .v))) q in
+        let low = first-below m (Memᴰ·cast (sym q) (in-view F A k p l)) in
         let f = on-mark (at B p) (firstOf (k .v .columns) (hidden m)) (B, B-in, in-B p l) low on in
         let stands : Stands (f .0) R = (B, B-in, Memᴰ·cast (sym (f .1)) (in-B p l)) in
         let stay = hidden-stay reduced sends (f .0) stands in
@@ -190,15 +167,16 @@ module _ {vs : List Line} {R : Query} {w : ℕ} (F : Frozen vs R w) (reduced : R
     unshared : (p m : ℕ) → Hides p m → Unshared R (at A p)
     unshared p m f = subst (Unshared R) (sym (f .A-has)) (λ x. by-place x (ℕ-discrete (x .i) i))
       where
+        elsewhere : (j : ℕ) (C : Line) → j ≢ i → getElem? R j ≡ some C → hidden (f .n′) ∈ C .columns → ⊥
+        elsewhere = nowhere-else (f .n) (f .n′) _ (f .stands) (f .becomes-hidden) (f .low) (f .stands-on)
+
         by-place : (x : Shared R (f .n′)) → Dec (x .i ≡ i) → ⊥
-        by-place x (yes q) =
-            nowhere-else (f .n) (f .n′) _ (f .stands) (f .becomes-hidden) (f .low) (f .stands-on) (x .j) (x .B) (λ r. x .apart (q ∙ sym r)) (x .B-at) (x .in-B)
-        by-place x (no q) =
-            nowhere-else (f .n) (f .n′) _ (f .stands) (f .becomes-hidden) (f .low) (f .stands-on) (x .i) (x .A) q (x .A-at) (x .in-A)
+        by-place x (yes q) = elsewhere (x .j) (x .B) (λ r. x .apart (q ∙ sym r)) (x .B-at) (x .in-B)
+        by-place x (no q) = elsewhere (x .i) (x .A) q (x .A-at) (x .in-A)
 
     -- A's equal terms come from equal terms, which stand on one mark
     same-mark : (p q m : ℕ) → p < length (k .v .columns) → q < length (k .v .columns) → at (k .v) p ≡ hidden m
-        → at A p ≡ at A q → markOf F (k .v) m ≡ value (k .s) (markOf F (k .v)) (at (k .v) q)
+        → at A p ≡ at A q → markOf (F .mark) (k .v) m ≡ value (k .s) (markOf (F .mark) (k .v)) (at (k .v) q)
     same-mark p q m l l′ x same =
         let f = hides p m l x in
         let back = from-hidden g (at B q) (f .n′) (term-A q l′ ∙ sym same ∙ f .A-has) in
@@ -208,33 +186,29 @@ module _ {vs : List Line} {R : Query} {w : ℕ} (F : Frozen vs R w) (reduced : R
         sym (f .stands-on) ∙ ap h one ∙ sym (ap (value (F .s) h) (back .1)) ∙ cell-B q l′
 
     same-view : (u t : Term) (m : ℕ) → u ∈ k .v .columns → In R t → hidden m ∈ k .v .columns → value (k .s) (k .h) u ≡ frozen F t
-        → markOf F (k .v) m ≡ value (k .s) (markOf F (k .v)) u → hidden m ≡ u
-    same-view (constant c) t m i j o q f = absurd (F .far t (firstOf (k .v .columns) (hidden m)) j (first-below m o) (sym q ∙ sym f))
-    same-view (shown n) t m i j o q f = absurd (F .far t (firstOf (k .v .columns) (hidden m)) j (first-below m o) (sym q ∙ sym f))
+        → markOf (F .mark) (k .v) m ≡ value (k .s) (markOf (F .mark) (k .v)) u → hidden m ≡ u
+    same-view (constant c) t m i j o q f = absurd (F .far t _ j (first-below m o) (sym q ∙ sym f))
+    same-view (shown n) t m i j o q f = absurd (F .far t _ j (first-below m o) (sym q ∙ sym f))
     same-view (hidden n) t m i j o q f =
-        first-one (k .v .columns) (hidden m) (hidden n) o i
-        (F .marks (firstOf (k .v .columns) (hidden m)) (firstOf (k .v .columns) (hidden n)) (first-below m o) (first-below n i) f)
+        first-one (k .v .columns) (hidden m) (hidden n) o i (F .marks _ _ (first-below m o) (first-below n i) f)
 
     rules-at : (p q : ℕ) → p < length (k .v .columns) → q < length (k .v .columns)
         → RulesIn R (at (k .v) p) (at (k .v) q) (at A p) (at A q)
     rules-at p q l l′ =
         record {
-          constants = λ c x.
-              F .clear (at A p) c (in-A p l) (k .v, k .v-in, Memᴰ·cast (sym x) (in-v p l))
-              (sym (cell-A p l) ∙ ap (value (k .s) (k .h)) x);
-          equals = λ x.
-              F .one (at A p) (at A q) (in-A p l) (in-A q l′)
-              (sym (cell-A p l) ∙ ap (value (k .s) (k .h)) x ∙ cell-A q l′);
+          constants = λ c x. constants-match F A k in-R p c l x;
+          equals = λ x. equals-match F A k in-R p q l l′ x;
           hides = λ x. let m = is-hidden (at (k .v) p) x in unshared p (m .0) (hides p (m .0) l (m .1));
           only = λ x y.
               let m = is-hidden (at (k .v) p) x in
               m .1
-              ∙ same-view (at (k .v) q) (at A q) (m .0) (in-v q l′) (in-A q l′) (Memᴰ·cast (sym (m .1)) (in-v p l)) (cell-A q l′)
+              ∙ same-view (at (k .v) q) (at A q) (m .0) (in-view F A k q l′) (term-in F A k in-R q l′)
+              (Memᴰ·cast (sym (m .1)) (in-view F A k p l)) (matched-cell F A k q l′)
               (same-mark p q (m .0) l l′ (m .1) y);
         }
 
     covers-A : CoversIn R (k .v) A
-    covers-A = record { table = ap (λ (r : Row). r .table) (k .matched); width = wide; rules = rules-at }
+    covers-A = record { table = ap (λ (r : Row). r .table) (k .matched); width = view-width F A k; rules = rules-at }
 
   pub covering-view : (v : Line) × (v ∈ vs) × CoversIn R v A
   covering-view =
@@ -247,8 +221,8 @@ pub determined-covers : (widths : List ℕ) (vs : List Line) (R : Query) → Red
 determined-covers widths vs R reduced fits determined A m =
     let (i, A-at) = place m in
     let F = large vs R (length (A .columns)) in
-    let (extra, e) = extra-rows F A in
-    let fit = rows-fit F i A extra e A-at fits (λ B n. without-subset i R n) in
+    let (extra, e) = extra-rows (F .mark) (freeze F A) vs in
+    let fit = rows-fit F i A extra e A-at fits in
     covering-view F reduced i A A-at (le-refl (length (A .columns))) extra e
-    (determined (all-rows F i A extra) (others F i A extra) fit (λ r n. fit r (List·Memᴰ·tail n)) (agree F i A extra e) (F .s) .0
-    (frozen-answer F i A extra e A-at))
+    (determined (all-rows F i A extra) (others F i extra) fit (λ r n. fit r (List·Memᴰ·tail n)) (agree F i A extra e) (F .s) .0
+    (frozen-answer F i A extra A-at))
