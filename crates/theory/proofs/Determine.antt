@@ -7,6 +7,7 @@ pub mod Marked
 pub mod Thaw
 pub mod Archives
 pub mod Necessary
+pub mod Block
 pub mod Apart
 pub mod OneLine
 use mathlib.Core.Path.{_≡_, refl, sym, subst}

@@ -135,6 +135,19 @@ module _ {X : Type 0} where
       (List·Memᴰ·cases-cons (from z (without-subset (p .0) ys m))))))
       (permuted-out ys (p .0) (p .1))
 
+-- ---- a list changed element by element
+
+module _ {X Y : Type 0} (f : X → Y) where
+  pub map-place : (l : List X) (i : ℕ) (y : Y) → getElem? (map f l) i ≡ some y → (x : X) × (getElem? l i ≡ some x) × (f x ≡ y)
+  map-place [] i y e = absurd (none≢some e)
+  map-place (x ∷ l) zero y e = (x, refl, Option·some-injective (f x) y e)
+  map-place (x ∷ l) (suc i) y e = map-place l i y e
+
+  pub map-without : (i : ℕ) (l : List X) → map f (without i l) ≡ without i (map f l)
+  map-without i [] = refl
+  map-without zero (x ∷ l) = refl
+  map-without (suc i) (x ∷ l) = ap (λ (m : List Y). f x ∷ m) (map-without i l)
+
 -- two lists without repeats and without a common element
 pub append-no-repeats : {X : Type 0} (k l : List X) → NoRepeats k → NoRepeats l → ((x : X) → x ∈ k → x ∈ l → ⊥) → NoRepeats (k ++ l)
 append-no-repeats [] l r q apart = q
