@@ -3,8 +3,9 @@
 use mathlib.Core.Path.{_≡_, refl, sym, ap, _∙_}
 use mathlib.Core.Logic.{_⊎_, inl, inr, ⊎-elim, _≢_}
 use mathlib.Core.Option.{Option, none, some, Option·some-injective}
-use mathlib.Core.List.{List, [], _∷_, _++_, map, List·Memᴰ·head, List·Memᴰ·tail, List·Memᴰ·not-nil, List·Memᴰ·cases-cons, Memᴰ·cast}
-use mathlib.Core.List.{List·Memᴰ·append-cases, Memᴰ·of-map, List·Permᴰ, List·Permᴰ·nil, List·Permᴰ·cons, List·Permᴰ·swap, List·Permᴰ·trans, Permᴰ·refl}
+use mathlib.Core.List.{List, [], _∷_, _++_, map, List·Memᴰ·head, List·Memᴰ·tail, List·Memᴰ·not-nil, List·Memᴰ·cases-cons}
+use mathlib.Core.List.{List·Memᴰ·append-cases, Memᴰ·cast, Memᴰ·of-map}
+use mathlib.Core.List.{List·Permᴰ, List·Permᴰ·nil, List·Permᴰ·cons, List·Permᴰ·swap, List·Permᴰ·trans, Permᴰ·refl}
 use Prim.Native.Nat.{ℕ, zero, suc, _≤_, _<_, zero-le, suc-le-suc}
 use native.Mathlib.Nat.{not-suc-le-zero, le-of-suc-le-suc, suc-inj, suc-ne-zero}
 use native.Mathlib.Omega.{arith}
@@ -135,19 +136,6 @@ module _ {X : Type 0} where
       (List·Memᴰ·cases-cons (from z (without-subset (p .0) ys m))))))
       (permuted-out ys (p .0) (p .1))
 
--- ---- a list changed element by element
-
-module _ {X Y : Type 0} (f : X → Y) where
-  pub map-place : (l : List X) (i : ℕ) (y : Y) → getElem? (map f l) i ≡ some y → (x : X) × (getElem? l i ≡ some x) × (f x ≡ y)
-  map-place [] i y e = absurd (none≢some e)
-  map-place (x ∷ l) zero y e = (x, refl, Option·some-injective (f x) y e)
-  map-place (x ∷ l) (suc i) y e = map-place l i y e
-
-  pub map-without : (i : ℕ) (l : List X) → map f (without i l) ≡ without i (map f l)
-  map-without i [] = refl
-  map-without zero (x ∷ l) = refl
-  map-without (suc i) (x ∷ l) = ap (λ (m : List Y). f x ∷ m) (map-without i l)
-
 -- two lists without repeats and without a common element
 pub append-no-repeats : {X : Type 0} (k l : List X) → NoRepeats k → NoRepeats l → ((x : X) → x ∈ k → x ∈ l → ⊥) → NoRepeats (k ++ l)
 append-no-repeats [] l r q apart = q
@@ -164,6 +152,19 @@ map-no-repeats f (x ∷ l) one r =
     (λ m. let k = Memᴰ·of-map f l m in
     head-repeats r (Memᴰ·cast (one x (k .0) (List·Memᴰ·head refl) (List·Memᴰ·tail (k .1)) (sym (k .2))) (k .1)))
     (map-no-repeats f l (λ y z i j. one y z (List·Memᴰ·tail i) (List·Memᴰ·tail j)) (tail-repeats r))
+
+-- ---- a list changed element by element
+
+module _ {X Y : Type 0} (f : X → Y) where
+  pub map-place : (l : List X) (i : ℕ) (y : Y) → getElem? (map f l) i ≡ some y → (x : X) × (getElem? l i ≡ some x) × (f x ≡ y)
+  map-place [] i y e = absurd (none≢some e)
+  map-place (x ∷ l) zero y e = (x, refl, Option·some-injective (f x) y e)
+  map-place (x ∷ l) (suc i) y e = map-place l i y e
+
+  pub map-without : (i : ℕ) (l : List X) → map f (without i l) ≡ without i (map f l)
+  map-without i [] = refl
+  map-without zero (x ∷ l) = refl
+  map-without (suc i) (x ∷ l) = ap (λ (m : List Y). f x ∷ m) (map-without i l)
 
 -- ---- two lists, place by place
 

@@ -65,7 +65,7 @@ module _ {vs : List Line} {R : Query} {w : ℕ} (F : Frozen vs R w) (reduced : R
           F .far (at C p) (firstOf (k .v .columns) (hidden m)) (C, c, getD-mem (C .columns) p (constant 0) l-C)
           (omega (arith, b, view-width F A k, short))
           (sym (row-cell (F .s) (F .h) C p l-C) ∙ ap (λ (y : Row). cell y p) (sym e) ∙ marked-cell F A k p l
-          ∙ ap (value (k .s) (markOf (F .mark) (k .v))) f)
+          ∙ ap (value (k .s) (markOf F (k .v))) f)
 
   frozen-once : NoRepeats (map (freeze F) (without i R))
   frozen-once =

@@ -47,7 +47,7 @@ module _ {vs : List Line} {R : Query} {w : ℕ} (F : Frozen vs R w) (i : ℕ) wh
         λ x.
             let (h, k) = of-answer x in
             ⊎-elim
-            (λ q. answer-of (markOf (F .mark) v) (Memᴰ·append-right (map (freeze F) (without i R)) (e .each v s h m q)))
+            (λ q. answer-of (markOf F v) (Memᴰ·append-right (map (freeze F) (without i R)) (e .each v s h m q)))
             (λ t. answer-of h t) (List·Memᴰ·cases-cons k),
         λ x. let (h, k) = of-answer x in answer-of h (List·Memᴰ·tail k),
       )

@@ -10,7 +10,7 @@ use Rattle.theory.specs.Executable.Show.{showTerm}
 use Rattle.theory.proofs.Tuples.{over-over, over-same}
 use Rattle.theory.proofs.Executable.Show.{show-shows}
 use Rattle.theory.proofs.Determine.Freeze.{In, Frozen, freeze}
-use Rattle.theory.proofs.Determine.Marked.{markOf, ExtraBy, Extra}
+use Rattle.theory.proofs.Determine.Marked.{firstOf, ExtraBy, Extra}
 
 -- no constant of the lines stands in the block
 abbrev pub Spared : (base : ℕ) → List Line → Type 0
@@ -22,11 +22,11 @@ frozenRow base A = row (λ n. base + n) (λ n. base + n) A
 
 -- the mark of a view's hidden variable: that of its first column
 abbrev pub markBy : (base : ℕ) → Line → ℕ → ℕ
-markBy base v m = markOf (λ p. base + (64 + p)) v m
+markBy base v m = base + (64 + firstOf (v .columns) (hidden m))
 
 -- the marked rows of the odd one, and no others
 abbrev pub ExtraRows : (base : ℕ) → List Line → (odd : Row) → Archive → Type 0
-ExtraRows base vs odd extra = ExtraBy (λ p. base + (64 + p)) vs odd extra
+ExtraRows base vs odd extra = ExtraBy (markBy base) vs odd extra
 
 -- ---- shared variables shown or not, the values are the same
 

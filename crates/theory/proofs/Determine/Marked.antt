@@ -36,46 +36,42 @@ first-one l t u m k e =
 
 -- ---- marked rows
 
--- the mark of a view's hidden variable is that of its first column
-abbrev pub markOf : (mark : ℕ → ℕ) → Line → ℕ → ℕ
-markOf mark v m = mark (firstOf (v .columns) (hidden m))
-
--- r is the odd row, marked where a view that matches it has a hidden variable
-pub record Marked (mark : ℕ → ℕ) (vs : List Line) (odd r : Row) : Type 0 where
+-- r is the odd row with, where a view that matches it has a hidden variable, the mark of the view and the variable
+pub record Marked (mark : Line → ℕ → ℕ) (vs : List Line) (odd r : Row) : Type 0 where
   pub v : Line
   pub v-in : v ∈ vs
   pub s : ℕ → ℕ
   pub h : ℕ → ℕ
   pub matched : row s h v ≡ odd
-  pub same : r ≡ row s (markOf mark v) v
+  pub same : r ≡ row s (mark v) v
 
 -- the marked rows, and nothing else
-pub record ExtraBy (mark : ℕ → ℕ) (vs : List Line) (odd : Row) (extra : Archive) : Type 0 where
-  pub each : (v : Line) (s h : ℕ → ℕ) → v ∈ vs → row s h v ≡ odd → row s (markOf mark v) v ∈ extra
+pub record ExtraBy (mark : Line → ℕ → ℕ) (vs : List Line) (odd : Row) (extra : Archive) : Type 0 where
+  pub each : (v : Line) (s h : ℕ → ℕ) → v ∈ vs → row s h v ≡ odd → row s (mark v) v ∈ extra
   pub only : (r : Row) → r ∈ extra → Marked mark vs odd r
 
 -- ---- one row for each view that matches
 
-module _ (mark : ℕ → ℕ) (odd : Row) where
+module _ (mark : Line → ℕ → ℕ) (odd : Row) where
   add : (v : Line) → Dec (Matches v odd) → Archive → Archive
-  add v (yes k) l = row (k .s) (markOf mark v) v ∷ l
+  add v (yes k) l = row (k .s) (mark v) v ∷ l
   add v (no n) l = l
 
   markedRows : List Line → Archive
   markedRows [] = []
   markedRows (v ∷ vs) = add v (match-decided v odd) (markedRows vs)
 
-  mark-same : (s h t k : ℕ → ℕ) (v : Line) → row s h v ≡ row t k v → row s (markOf mark v) v ≡ row t (markOf mark v) v
+  mark-same : (s h t k : ℕ → ℕ) (v : Line) → row s h v ≡ row t k v → row s (mark v) v ≡ row t (mark v) v
   mark-same s h t k v e =
-      over-same (value s (markOf mark v)) (value t (markOf mark v)) v
+      over-same (value s (mark v)) (value t (mark v)) v
       (λ x m. by-kind x (same-map (value s h) (value t k) (v .columns) (ap (λ (b : Row). b .columns) e) x m))
     where
-      by-kind : (x : Term) → value s h x ≡ value t k x → value s (markOf mark v) x ≡ value t (markOf mark v) x
+      by-kind : (x : Term) → value s h x ≡ value t k x → value s (mark v) x ≡ value t (mark v) x
       by-kind (constant c) q = refl
       by-kind (shown n) q = q
       by-kind (hidden n) q = refl
 
-  add-of : (v : Line) (d : Dec (Matches v odd)) (l : Archive) (s h : ℕ → ℕ) → row s h v ≡ odd → row s (markOf mark v) v ∈ add v d l
+  add-of : (v : Line) (d : Dec (Matches v odd)) (l : Archive) (s h : ℕ → ℕ) → row s h v ≡ odd → row s (mark v) v ∈ add v d l
   unfolding add
   add-of v (yes k) l s h e = List·Memᴰ·head (mark-same s h (k .s) (k .h) v (e ∙ sym (k .same)))
   add-of v (no n) l s h e = absurd (n (record { s = s; h = h; same = e }))
@@ -93,12 +89,12 @@ module _ (mark : ℕ → ℕ) (odd : Row) where
       (λ t. inr t) (List·Memᴰ·cases-cons m)
   of-add v (no n) l r m = inr m
 
-  marked-of : (vs : List Line) (v : Line) (s h : ℕ → ℕ) → v ∈ vs → row s h v ≡ odd → row s (markOf mark v) v ∈ markedRows vs
+  marked-of : (vs : List Line) (v : Line) (s h : ℕ → ℕ) → v ∈ vs → row s h v ≡ odd → row s (mark v) v ∈ markedRows vs
   unfolding markedRows
   marked-of [] v s h m e = absurd (List·Memᴰ·not-nil m)
   marked-of (u ∷ vs) v s h m e =
       ⊎-elim
-      (λ q. subst (λ (x : Line). row s (markOf mark x) x ∈ add u (match-decided u odd) (markedRows vs)) (sym q)
+      (λ q. subst (λ (x : Line). row s (mark x) x ∈ add u (match-decided u odd) (markedRows vs)) (sym q)
       (add-of u (match-decided u odd) (markedRows vs) s h (ap (row s h) (sym q) ∙ e)))
       (λ t. add-rest u (match-decided u odd) (markedRows vs) (marked-of vs v s h t e)) (List·Memᴰ·cases-cons m)
 
@@ -117,12 +113,17 @@ module _ (mark : ℕ → ℕ) (odd : Row) where
 
 -- ---- the marked rows of a frozen line
 
+module _ {vs : List Line} {R : Query} {w : ℕ} (F : Frozen vs R w) where
+  -- the mark of a view's hidden variable is that of its first column
+  abbrev pub markOf : Line → ℕ → ℕ
+  markOf v m = F .mark (firstOf (v .columns) (hidden m))
+
 module _ {vs : List Line} {R : Query} {w : ℕ} (F : Frozen vs R w) (A : Line) where
   abbrev pub IsMarked : Row → Type 0
-  IsMarked r = Marked (F .mark) vs (freeze F A) r
+  IsMarked r = Marked (markOf F) vs (freeze F A) r
 
   abbrev pub Extra : Archive → Type 0
-  Extra extra = ExtraBy (F .mark) vs (freeze F A) extra
+  Extra extra = ExtraBy (markOf F) vs (freeze F A) extra
 
   module _ {r : Row} (k : IsMarked r) where
     pub table : r .table ≡ A .table
@@ -130,7 +131,7 @@ module _ {vs : List Line} {R : Query} {w : ℕ} (F : Frozen vs R w) (A : Line) w
 
     -- the row, the view and A are equally wide
     pub width : length (r .columns) ≡ length (k .v .columns)
-    width = ap (λ (b : Row). length (b .columns)) (k .same) ∙ length-map (k .v .columns) (value (k .s) (markOf (F .mark) (k .v)))
+    width = ap (λ (b : Row). length (b .columns)) (k .same) ∙ length-map (k .v .columns) (value (k .s) (markOf F (k .v)))
 
     pub view-width : length (k .v .columns) ≡ length (A .columns)
     view-width =
@@ -141,8 +142,8 @@ module _ {vs : List Line} {R : Query} {w : ℕ} (F : Frozen vs R w) (A : Line) w
       pub in-view : at (k .v) p ∈ k .v .columns
       in-view = getD-mem (k .v .columns) p (constant 0) l
 
-      pub marked-cell : cell r p ≡ value (k .s) (markOf (F .mark) (k .v)) (at (k .v) p)
-      marked-cell = ap (λ (b : Row). cell b p) (k .same) ∙ row-cell (k .s) (markOf (F .mark) (k .v)) (k .v) p l
+      pub marked-cell : cell r p ≡ value (k .s) (markOf F (k .v)) (at (k .v) p)
+      marked-cell = ap (λ (b : Row). cell b p) (k .same) ∙ row-cell (k .s) (markOf F (k .v)) (k .v) p l
 
       pub matched-cell : value (k .s) (k .h) (at (k .v) p) ≡ frozen F (at A p)
       matched-cell =

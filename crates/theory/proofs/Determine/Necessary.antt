@@ -22,7 +22,7 @@ use Rattle.theory.proofs.Tuples.{over-over, over-same, getD-map, getD-m
 use Rattle.theory.proofs.Terms.{from-hidden, is-hidden}
 use Rattle.theory.proofs.Reduce.{reduced-place}
 use Rattle.theory.proofs.Endomorphism.{Stands, hits, hidden-stay, one-to-one}
-use Rattle.theory.proofs.Match.{cell, row-cell}
+use Rattle.theory.proofs.Match.{row-cell}
 use Rattle.theory.proofs.Determine.Inside.{Unshared, RulesIn, CoversIn}
 use Rattle.theory.proofs.Determine.Freeze.{In, Frozen, frozen, freeze, large}
 use Rattle.theory.proofs.Determine.Marked.{firstOf, first-column, first-one, markOf, IsMarked, Extra, extra-rows, width, view-width}
@@ -43,25 +43,25 @@ module _ {vs : List Line} {R : Query} {w : ℕ} (F : Frozen vs R w) (reduced : R
   in-R : A ∈ R
   in-R = at-place R i A-at
 
-  abbrev back : ℕ → Term
-  back = thaw F A short
+  abbrev to-term : ℕ → Term
+  to-term = thaw F A short
 
   -- ---- the map
 
   g : ℕ → Term
-  g n = back (h n)
+  g n = to-term (h n)
 
-  image-back : (t : Term) → In R t → image g t ≡ back (value (F .s) h t)
+  image-thawed : (t : Term) → In R t → image g t ≡ to-term (value (F .s) h t)
   unfolding g
-  image-back (constant c) m = sym (thaw-frozen F A short (constant c) m)
-  image-back (shown n) m = sym (thaw-frozen F A short (shown n) m)
-  image-back (hidden n) m = refl
+  image-thawed (constant c) m = sym (thaw-frozen F A short (constant c) m)
+  image-thawed (shown n) m = sym (thaw-frozen F A short (shown n) m)
+  image-thawed (hidden n) m = refl
 
   -- a line's image is its row, thawed
-  thawed : (B : Line) → B ∈ R → over (image g) B ≡ over back (stand B)
+  thawed : (B : Line) → B ∈ R → over (image g) B ≡ over to-term (stand B)
   thawed B m =
-      over-same (image g) (λ t. back (value (F .s) h t)) B (λ t k. image-back t (B, m, k))
-      ∙ sym (over-over back (value (F .s) h) B)
+      over-same (image g) (λ t. to-term (value (F .s) h t)) B (λ t k. image-thawed t (B, m, k))
+      ∙ sym (over-over to-term (value (F .s) h) B)
 
   -- a line stands on the frozen row of another line than A, which is its image, or on a marked row, and its image is A
   goes : (B : Line) → B ∈ R
@@ -70,7 +70,7 @@ module _ {vs : List Line} {R : Query} {w : ℕ} (F : Frozen vs R w) (reduced : R
   goes B m =
       ⊎-elim
       (λ k. inl
-      (k .0, k .1, k .2, thawed B m ∙ ap (over back) (k .2) ∙ thaw-freeze F A short (k .0) (without-subset i R (k .1))))
+      (k .0, k .1, k .2, thawed B m ∙ ap (over to-term) (k .2) ∙ thaw-freeze F A short (k .0) (without-subset i R (k .1))))
       (λ k. inr (k, thawed B m ∙ thaw-marked F A short in-R k)) (of-others F i A extra e (stand B) (answer .1 B m))
 
   sends : Sends g R R
@@ -124,7 +124,7 @@ module _ {vs : List Line} {R : Query} {w : ℕ} (F : Frozen vs R w) (reduced : R
       in-B = getD-mem (B .columns) p (constant 0) l-B
 
       -- the cell of the line that becomes A, and the term that it becomes
-      cell-B : value (F .s) h (at B p) ≡ value (k .s) (markOf (F .mark) (k .v)) (at (k .v) p)
+      cell-B : value (F .s) h (at B p) ≡ value (k .s) (markOf F (k .v)) (at (k .v) p)
       cell-B = sym (row-cell (F .s) h B p l-B) ∙ marked-cell F A k p l
 
       term-A : image g (at B p) ≡ at A p
@@ -138,9 +138,8 @@ module _ {vs : List Line} {R : Query} {w : ℕ} (F : Frozen vs R w) (reduced : R
     -- under a hidden variable of the view the line has a hidden variable that stands on its mark, and so has A
     record Hides (p m : ℕ) : Type 0 where
       n : ℕ
-      B-has : at B p ≡ hidden n
       low : firstOf (k .v .columns) (hidden m) < w
-      stands-on : h n ≡ markOf (F .mark) (k .v) m
+      stands-on : h n ≡ markOf F (k .v) m
       stands : Stands n R
       n′ : ℕ
       becomes-hidden : g n ≡ hidden n′
@@ -148,14 +147,13 @@ module _ {vs : List Line} {R : Query} {w : ℕ} (F : Frozen vs R w) (reduced : R
 
     hides : (p m : ℕ) → p < length (k .v .columns) → at (k .v) p ≡ hidden m → Hides p m
     hides p m l q =
-        let on : value (F .s) h (at B p) ≡ markOf (F .mark) (k .v) m = cell-B p l ∙ ap (value (k .s) (markOf (F .mark) (k .v))) q in
+        let on : value (F .s) h (at B p) ≡ markOf F (k .v) m = cell-B p l ∙ ap (value (k .s) (markOf F (k .v))) q in
         let low = first-below m (Memᴰ·cast (sym q) (in-view F A k p l)) in
         let f = on-mark (at B p) (firstOf (k .v .columns) (hidden m)) (B, B-in, in-B p l) low on in
         let stands : Stands (f .0) R = (B, B-in, Memᴰ·cast (sym (f .1)) (in-B p l)) in
         let stay = hidden-stay reduced sends (f .0) stands in
         record {
           n = f .0;
-          B-has = f .1;
           low = low;
           stands-on = sym (ap (value (F .s) h) (f .1)) ∙ on;
           stands = stands;
@@ -176,7 +174,7 @@ module _ {vs : List Line} {R : Query} {w : ℕ} (F : Frozen vs R w) (reduced : R
 
     -- A's equal terms come from equal terms, which stand on one mark
     same-mark : (p q m : ℕ) → p < length (k .v .columns) → q < length (k .v .columns) → at (k .v) p ≡ hidden m
-        → at A p ≡ at A q → markOf (F .mark) (k .v) m ≡ value (k .s) (markOf (F .mark) (k .v)) (at (k .v) q)
+        → at A p ≡ at A q → markOf F (k .v) m ≡ value (k .s) (markOf F (k .v)) (at (k .v) q)
     same-mark p q m l l′ x same =
         let f = hides p m l x in
         let back = from-hidden g (at B q) (f .n′) (term-A q l′ ∙ sym same ∙ f .A-has) in
@@ -186,7 +184,7 @@ module _ {vs : List Line} {R : Query} {w : ℕ} (F : Frozen vs R w) (reduced : R
         sym (f .stands-on) ∙ ap h one ∙ sym (ap (value (F .s) h) (back .1)) ∙ cell-B q l′
 
     same-view : (u t : Term) (m : ℕ) → u ∈ k .v .columns → In R t → hidden m ∈ k .v .columns → value (k .s) (k .h) u ≡ frozen F t
-        → markOf (F .mark) (k .v) m ≡ value (k .s) (markOf (F .mark) (k .v)) u → hidden m ≡ u
+        → markOf F (k .v) m ≡ value (k .s) (markOf F (k .v)) u → hidden m ≡ u
     same-view (constant c) t m i j o q f = absurd (F .far t _ j (first-below m o) (sym q ∙ sym f))
     same-view (shown n) t m i j o q f = absurd (F .far t _ j (first-below m o) (sym q ∙ sym f))
     same-view (hidden n) t m i j o q f =
@@ -221,7 +219,7 @@ pub determined-covers : (widths : List ℕ) (vs : List Line) (R : Query) → Red
 determined-covers widths vs R reduced fits determined A m =
     let (i, A-at) = place m in
     let F = large vs R (length (A .columns)) in
-    let (extra, e) = extra-rows (F .mark) (freeze F A) vs in
+    let (extra, e) = extra-rows (markOf F) (freeze F A) vs in
     let fit = rows-fit F i A extra e A-at fits in
     covering-view F reduced i A A-at (le-refl (length (A .columns))) extra e
     (determined (all-rows F i A extra) (others F i extra) fit (λ r n. fit r (List·Memᴰ·tail n)) (agree F i A extra e) (F .s) .0

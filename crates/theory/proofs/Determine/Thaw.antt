@@ -16,7 +16,8 @@ use Rattle.theory.proofs.Lists.{place, at-place}
 use Rattle.theory.proofs.Find.{Functional, find, found}
 use Rattle.theory.proofs.Tuples.{tuple-path, over-over, over-self, map-places}
 use Rattle.theory.proofs.Determine.Freeze.{In, Frozen, frozen, freeze}
-use Rattle.theory.proofs.Determine.Marked.{firstOf, first-column, markOf, IsMarked, view-width, in-view, matched-cell, term-in, equals-match}
+use Rattle.theory.proofs.Determine.Marked.{firstOf, first-column, markOf, IsMarked, view-width, in-view, matched-cell}
+use Rattle.theory.proofs.Determine.Marked.{term-in, equals-match}
 
 module _ {vs : List Line} {R : Query} {w : ℕ} (F : Frozen vs R w) where
   -- ---- the terms of the query
@@ -110,14 +111,14 @@ module _ {vs : List Line} {R : Query} {w : ℕ} (F : Frozen vs R w) where
     thaw-freeze C m = over-over thaw (frozen F) C ∙ over-self (λ t. thaw (frozen F t)) C (λ t k. thaw-frozen t (C, m, k))
 
     module _ (in-R : A ∈ R) {r : Row} (k : IsMarked F A r) where
-      thawed-cell : (p : ℕ) → p < length (k .v .columns) → thaw (value (k .s) (markOf (F .mark) (k .v)) (at (k .v) p)) ≡ at A p
+      thawed-cell : (p : ℕ) → p < length (k .v .columns) → thaw (value (k .s) (markOf F (k .v)) (at (k .v) p)) ≡ at A p
       thawed-cell p l = by-kind (at (k .v) p) refl
         where
           known : (t : Term) → at (k .v) p ≡ t → thaw (value (k .s) (k .h) t) ≡ at A p
           known t e =
               ap thaw (sym (ap (value (k .s) (k .h)) e) ∙ matched-cell F A k p l) ∙ thaw-frozen (at A p) (term-in F A k in-R p l)
 
-          by-kind : (t : Term) → at (k .v) p ≡ t → thaw (value (k .s) (markOf (F .mark) (k .v)) t) ≡ at A p
+          by-kind : (t : Term) → at (k .v) p ≡ t → thaw (value (k .s) (markOf F (k .v)) t) ≡ at A p
           by-kind (constant c) e = known (constant c) e
           by-kind (shown n) e = known (shown n) e
           by-kind (hidden n) e =
@@ -127,7 +128,7 @@ module _ {vs : List Line} {R : Query} {w : ℕ} (F : Frozen vs R w) where
 
       pub thaw-marked : over thaw r ≡ A
       thaw-marked =
-          ap (over thaw) (k .same) ∙ over-over thaw (value (k .s) (markOf (F .mark) (k .v))) (k .v)
+          ap (over thaw) (k .same) ∙ over-over thaw (value (k .s) (markOf F (k .v))) (k .v)
           ∙ tuple-path (ap (λ (b : Row). b .table) (k .matched))
-          (map-places (λ t. thaw (value (k .s) (markOf (F .mark) (k .v)) t)) (k .v .columns) (A .columns) (constant 0) (constant 0)
+          (map-places (λ t. thaw (value (k .s) (markOf F (k .v)) t)) (k .v .columns) (A .columns) (constant 0) (constant 0)
           (view-width F A k) thawed-cell)
