@@ -4,8 +4,11 @@ pub mod Inside
 pub mod Sufficient
 pub mod Freeze
 pub mod Marked
+pub mod Thaw
 pub mod Archives
 pub mod Necessary
+pub mod Block
+pub mod Apart
 pub mod OneLine
 use mathlib.Core.Path.{_≡_, refl, sym, subst}
 use mathlib.Core.Logic.{_↔_, Iff·symm}

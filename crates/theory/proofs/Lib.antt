@@ -2,6 +2,7 @@
 pub mod Lists
 pub mod Find
 pub mod Pigeonhole
+pub mod Taken
 pub mod Tuples
 pub mod Terms
 -- The executable definitions are the relations.

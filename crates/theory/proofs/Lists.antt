@@ -3,14 +3,16 @@
 use mathlib.Core.Path.{_≡_, refl, sym, ap, _∙_}
 use mathlib.Core.Logic.{_⊎_, inl, inr, ⊎-elim, _≢_}
 use mathlib.Core.Option.{Option, none, some, Option·some-injective}
-use mathlib.Core.List.{List, [], _∷_, map, List·Memᴰ·head, List·Memᴰ·tail, List·Memᴰ·not-nil, List·Memᴰ·cases-cons, Memᴰ·cast}
-use mathlib.Core.List.{Memᴰ·of-map, List·Permᴰ, List·Permᴰ·nil, List·Permᴰ·cons, List·Permᴰ·swap, List·Permᴰ·trans, Permᴰ·refl}
+use mathlib.Core.List.{List, [], _∷_, _++_, map, List·Memᴰ·head, List·Memᴰ·tail, List·Memᴰ·not-nil, List·Memᴰ·cases-cons}
+use mathlib.Core.List.{List·Memᴰ·append-cases, Memᴰ·cast, Memᴰ·of-map}
+use mathlib.Core.List.{List·Permᴰ, List·Permᴰ·nil, List·Permᴰ·cons, List·Permᴰ·swap, List·Permᴰ·trans, Permᴰ·refl}
 use Prim.Native.Nat.{ℕ, zero, suc, _≤_, _<_, zero-le, suc-le-suc}
 use native.Mathlib.Nat.{not-suc-le-zero, le-of-suc-le-suc, suc-inj, suc-ne-zero}
 use native.Mathlib.Omega.{arith}
 use lib.ListN.{length, getElem?, getD}
 use Rattle.theory.specs.Query.{_∈_, Pointwise, ends, next}
 use Rattle.theory.specs.Reduce.{without}
+use Rattle.theory.specs.Apart.{NoRepeats, none-repeats, one-more}
 
 -- ---- places
 
@@ -85,10 +87,6 @@ module _ {X : Type 0} where
 
   -- ---- lists without repeats
 
-  pub data NoRepeats : List X → Type 0 where
-    none-repeats : NoRepeats []
-    one-more : {x : X} {l : List X} → (x ∈ l → ⊥) → NoRepeats l → NoRepeats (x ∷ l)
-
   pub tail-repeats : {x : X} {l : List X} → NoRepeats (x ∷ l) → NoRepeats l
   tail-repeats (one-more n r) = r
 
@@ -109,13 +107,13 @@ module _ {X : Type 0} where
   permuted-out (y ∷ l) (suc i) e =
       List·Permᴰ·trans (List·Permᴰ·swap refl refl) (List·Permᴰ·cons refl (permuted-out l i e))
 
-  without-repeats : (l : List X) (i : ℕ) → NoRepeats l → NoRepeats (without i l)
+  pub without-repeats : (l : List X) (i : ℕ) → NoRepeats l → NoRepeats (without i l)
   without-repeats [] i r = r
   without-repeats (y ∷ l) zero r = tail-repeats r
   without-repeats (y ∷ l) (suc i) r =
       one-more (λ m. head-repeats r (without-subset i l m)) (without-repeats l i (tail-repeats r))
 
-  place-unique : (l : List X) (i : ℕ) {x : X} → NoRepeats l → getElem? l i ≡ some x → x ∈ without i l → ⊥
+  pub place-unique : (l : List X) (i : ℕ) {x : X} → NoRepeats l → getElem? l i ≡ some x → x ∈ without i l → ⊥
   place-unique [] i r e m = none≢some e
   place-unique (y ∷ l) zero {x} r e m = head-repeats r (Memᴰ·cast (Option·some-injective y x e) m)
   place-unique (y ∷ l) (suc i) {x} r e m =
@@ -138,6 +136,13 @@ module _ {X : Type 0} where
       (List·Memᴰ·cases-cons (from z (without-subset (p .0) ys m))))))
       (permuted-out ys (p .0) (p .1))
 
+-- two lists without repeats and without a common element
+pub append-no-repeats : {X : Type 0} (k l : List X) → NoRepeats k → NoRepeats l → ((x : X) → x ∈ k → x ∈ l → ⊥) → NoRepeats (k ++ l)
+append-no-repeats [] l r q apart = q
+append-no-repeats (x ∷ k) l r q apart =
+    one-more (λ m. ⊎-elim (λ a. head-repeats r a) (λ b. apart x (List·Memᴰ·head refl) b) (List·Memᴰ·append-cases k m))
+    (append-no-repeats k l (tail-repeats r) q (λ y a b. apart y (List·Memᴰ·tail a) b))
+
 -- a function that is one to one on a list without repeats keeps it so
 pub map-no-repeats : {X Y : Type 0} (f : X → Y) (l : List X) → ((x y : X) → x ∈ l → y ∈ l → f x ≡ f y → x ≡ y) → NoRepeats l
     → NoRepeats (map f l)
@@ -147,6 +152,19 @@ map-no-repeats f (x ∷ l) one r =
     (λ m. let k = Memᴰ·of-map f l m in
     head-repeats r (Memᴰ·cast (one x (k .0) (List·Memᴰ·head refl) (List·Memᴰ·tail (k .1)) (sym (k .2))) (k .1)))
     (map-no-repeats f l (λ y z i j. one y z (List·Memᴰ·tail i) (List·Memᴰ·tail j)) (tail-repeats r))
+
+-- ---- a list changed element by element
+
+module _ {X Y : Type 0} (f : X → Y) where
+  pub map-place : (l : List X) (i : ℕ) (y : Y) → getElem? (map f l) i ≡ some y → (x : X) × (getElem? l i ≡ some x) × (f x ≡ y)
+  map-place [] i y e = absurd (none≢some e)
+  map-place (x ∷ l) zero y e = (x, refl, Option·some-injective (f x) y e)
+  map-place (x ∷ l) (suc i) y e = map-place l i y e
+
+  pub map-without : (i : ℕ) (l : List X) → map f (without i l) ≡ without i (map f l)
+  map-without i [] = refl
+  map-without zero (x ∷ l) = refl
+  map-without (suc i) (x ∷ l) = ap (λ (m : List Y). f x ∷ m) (map-without i l)
 
 -- ---- two lists, place by place
 

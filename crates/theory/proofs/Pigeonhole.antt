@@ -9,8 +9,8 @@ use native.Mathlib.Omega.{arith}
 use lib.ListN.{length, getElem?}
 use Rattle.theory.specs.Query.{_∈_}
 use Rattle.theory.specs.Reduce.{without}
-use Rattle.theory.proofs.Lists.{place, place-below, without-cases, length-without, NoRepeats, none-repeats, one-more}
-use Rattle.theory.proofs.Lists.{head-repeats, tail-repeats}
+use Rattle.theory.specs.Apart.{NoRepeats, none-repeats, one-more}
+use Rattle.theory.proofs.Lists.{place, place-below, without-cases, length-without, head-repeats, tail-repeats}
 
 -- ---- the argument
 

@@ -9,7 +9,8 @@ use lib.ListN.{getElem?}
 use Rattle.theory.specs.Query.{Term, constant, shown, hidden, over, Line, Query, _∈_, NoClash}
 use Rattle.theory.specs.Archive.{Archive, Answer, value}
 use Rattle.theory.specs.Reduce.{image, Sends, without, MayGo, Reduced, ReducesTo, done, take-out}
-use Rattle.theory.proofs.Lists.{NoRepeats, no-repeats, place-below, without-subset, without-cases, without-other}
+use Rattle.theory.specs.Apart.{NoRepeats}
+use Rattle.theory.proofs.Lists.{no-repeats, place-below, without-subset, without-cases, without-other}
 use Rattle.theory.proofs.Tuples.{over-over, over-same, over-self}
 
 -- ---- maps

@@ -1,106 +1,67 @@
--- Two archives for a line A of a query R, which stands at place i. The first holds the frozen lines of R and, for each view
--- that matches the row of A, that row with a mark on its cells at the view's hidden columns; the second lacks the row of A.
--- No view tells them apart.
+-- Two archives for the line A at place i of a query: its frozen lines with the marked rows of A, and those without the row of A.
 use mathlib.Core.Path.{_≡_, sym, ap, _∙_}
 use mathlib.Core.Logic.{_⊎_, inl, inr, ⊎-elim}
 use mathlib.Core.Option.{some, Option·some-injective}
-use mathlib.Core.List.{List, _++_, map, List·Memᴰ·append-cases, Memᴰ·append-left, Memᴰ·append-right, Memᴰ·cast, Memᴰ·map, Memᴰ·of-map}
+use mathlib.Core.List.{List, _∷_, _++_, map, List·Memᴰ·head, List·Memᴰ·tail, List·Memᴰ·cases-cons, List·Memᴰ·append-cases}
+use mathlib.Core.List.{Memᴰ·append-left, Memᴰ·append-right, Memᴰ·map, Memᴰ·of-map}
 use Prim.Native.Nat.{ℕ}
-use lib.ListN.{length, getElem?, length-map}
-use Rattle.theory.specs.Query.{Line, Query, _∈_}
-use Rattle.theory.specs.Archive.{Row, Archive, AllFit, value, row, Answer, Agree, Determines}
+use lib.ListN.{length, getElem?}
+use Rattle.theory.specs.Query.{Line, Query, _∈_, Fits}
+use Rattle.theory.specs.Archive.{Row, Archive, AllFit, value, Answer, Agree}
 use Rattle.theory.specs.Reduce.{without}
 use Rattle.theory.proofs.Lists.{at-place, without-subset, without-cases}
 use Rattle.theory.proofs.Tuples.{fits-like, fits-over}
 use Rattle.theory.proofs.Match.{answer-of, of-answer}
-use Rattle.theory.proofs.Determine.Marked.{Marked, mark, markedRows, marked-of, of-marked}
-use Rattle.theory.proofs.Determine.Freeze.{above, s₀, h₀}
+use Rattle.theory.proofs.Determine.Freeze.{Frozen, freeze}
+use Rattle.theory.proofs.Determine.Marked.{markOf, IsMarked, Extra, table, width, view-width}
 
-module _ (vs : List Line) (R : Query) where
-  -- above the numbers of all terms of the query and the views
-  abbrev pub room : ℕ
-  room = above (R ++ vs)
+module _ {vs : List Line} {R : Query} {w : ℕ} (F : Frozen vs R w) (i : ℕ) where
+  -- the rows of the other lines, and the marked rows
+  abbrev pub others : Archive → Archive
+  others extra = map (freeze F) (without i R) ++ extra
 
-  -- a line's row
-  abbrev pub freeze : Line → Row
-  freeze B = row (s₀ room) (h₀ room) B
+  module _ (A : Line) (extra : Archive) where
+    -- "The odd row comes first"
+    abbrev pub all-rows : Archive
+    all-rows = freeze F A ∷ others extra
 
-module _ (vs : List Line) (R : Query) (i : ℕ) (A : Line) where
-  abbrev pub extra : Archive
-  extra = markedRows (room vs R) (freeze vs R A) vs
+    -- the query has its frozen answer on the first archive
+    pub frozen-answer : getElem? R i ≡ some A → Answer R all-rows (F .s)
+    frozen-answer A-at = (
+      F .h,
+      λ B m.
+          ⊎-elim (λ e. List·Memᴰ·head (ap (freeze F) (Option·some-injective B A (sym e ∙ A-at))))
+          (λ k. List·Memᴰ·tail (Memᴰ·append-left extra (Memᴰ·map (freeze F) k))) (without-cases i R m),
+    )
 
-  -- the frozen lines and the marked rows
-  pub with-A : Archive
-  with-A = map (freeze vs R) R ++ extra
+    module _ (e : Extra F A extra) where
+      -- a row of the second archive is another line's, or a marked one
+      pub of-others : (r : Row) → r ∈ others extra → ((C : Line) × (C ∈ without i R) × (r ≡ freeze F C)) ⊎ IsMarked F A r
+      of-others r m =
+          ⊎-elim (λ k. let (C, c, q) = Memᴰ·of-map (freeze F) (without i R) k in inl (C, c, sym q)) (λ k. inr (e .only r k))
+          (List·Memᴰ·append-cases (map (freeze F) (without i R)) m)
 
-  -- the same without the row of the line at place i
-  pub without-A : Archive
-  without-A = map (freeze vs R) (without i R) ++ extra
+      -- no view tells the two apart
+      pub agree : (v : Line) → v ∈ vs → Agree v all-rows (others extra)
+      agree v m s = (
+        λ x.
+            let (h, k) = of-answer x in
+            ⊎-elim
+            (λ q. answer-of (markOf F v) (Memᴰ·append-right (map (freeze F) (without i R)) (e .each v s h m q)))
+            (λ t. answer-of h t) (List·Memᴰ·cases-cons k),
+        λ x. let (h, k) = of-answer x in answer-of h (List·Memᴰ·tail k),
+      )
 
-  less : (r : Row) → r ∈ without-A → r ∈ with-A
-  unfolding with-A without-A
-  less r m =
-      ⊎-elim
-      (λ k. let b = Memᴰ·of-map (freeze vs R) (without i R) k in
-      Memᴰ·append-left extra (Memᴰ·cast (sym (b .2)) (Memᴰ·map (freeze vs R) (without-subset i R (b .1)))))
-      (λ k. Memᴰ·append-right (map (freeze vs R) R) k) (List·Memᴰ·append-cases (map (freeze vs R) (without i R)) m)
-
-  -- one row alone is gone
-  only : getElem? R i ≡ some A → (r : Row) → r ∈ with-A → (r ≡ freeze vs R A) ⊎ (r ∈ without-A)
-  unfolding with-A without-A
-  only e r m =
-      ⊎-elim
-      (λ k. let b = Memᴰ·of-map (freeze vs R) R k in
-      ⊎-elim (λ f. inl (sym (b .2) ∙ ap (freeze vs R) (Option·some-injective (b .0) A (sym f ∙ e))))
-      (λ t. inr (Memᴰ·append-left extra (Memᴰ·cast (sym (b .2)) (Memᴰ·map (freeze vs R) t)))) (without-cases i R (b .1)))
-      (λ k. inr (Memᴰ·append-right (map (freeze vs R) (without i R)) k)) (List·Memᴰ·append-cases (map (freeze vs R) R) m)
-
-  -- no view tells them apart
-  agree : getElem? R i ≡ some A → (v : Line) → v ∈ vs → Agree v with-A without-A
-  unfolding without-A
-  agree e v m s = (
-    (λ x.
-        let k = of-answer x in
-        ⊎-elim
-        (λ q. answer-of (mark (room vs R) (freeze vs R A) (k .0))
-        (Memᴰ·append-right (map (freeze vs R) (without i R)) (marked-of (room vs R) (freeze vs R A) vs v s (k .0) m q)))
-        (λ t. answer-of (k .0) t) (only e (row s (k .0) v) (k .1))),
-    λ x. let k = of-answer x in answer-of (k .0) (less (row s (k .0) v) (k .1)),
-  )
-
-  -- both fit, where the lines of R do
-  with-A-fits : {widths : List ℕ} → AllFit widths R → A ∈ R → AllFit widths with-A
-  unfolding with-A
-  with-A-fits fits a r m =
-      ⊎-elim (λ k. let b = Memᴰ·of-map (freeze vs R) R k in
-      fits-like (ap (λ (x : Row). x .table) (b .2)) (ap (λ (x : Row). length (x .columns)) (b .2))
-      (fits-over (value (s₀ (room vs R)) (h₀ (room vs R))) (b .0) (fits (b .0) (b .1))))
-      (λ k. let b = of-marked (room vs R) (freeze vs R A) vs r k in
-      fits-like
-      (sym (ap (λ (x : Row). x .table) (b .same) ∙ ap (λ (x : Row). x .table) (b .matched)))
-      (sym (ap (λ (x : Row). length (x .columns)) (b .same)
-      ∙ length-map (b .v .columns) (value (b .s) (mark (room vs R) (freeze vs R A) (b .h)))
-      ∙ sym (length-map (b .v .columns) (value (b .s) (b .h))) ∙ ap (λ (x : Row). length (x .columns)) (b .matched)))
-      (fits-over (value (s₀ (room vs R)) (h₀ (room vs R))) A (fits A a)))
-      (List·Memᴰ·append-cases (map (freeze vs R) R) m)
-
-  without-A-fits : {widths : List ℕ} → AllFit widths R → A ∈ R → AllFit widths without-A
-  without-A-fits fits a r m = with-A-fits fits a r (less r m)
-
--- a row of the second archive is a frozen line, or a marked row
-pub of-without-A : (vs : List Line) (R : Query) (i : ℕ) (A : Line) (r : Row) → r ∈ without-A vs R i A
-    → ((C : Line) × (C ∈ without i R) × (r ≡ freeze vs R C)) ⊎ Marked (room vs R) (freeze vs R A) vs r
-unfolding without-A
-of-without-A vs R i A r m =
-    ⊎-elim (λ k. let b = Memᴰ·of-map (freeze vs R) (without i R) k in inl (b .0, b .1, sym (b .2)))
-    (λ k. inr (of-marked (room vs R) (freeze vs R A) vs r k))
-    (List·Memᴰ·append-cases (map (freeze vs R) (without i R)) m)
-
--- a determined query keeps its frozen answer when the row of A goes
-pub frozen-answer : (widths : List ℕ) (vs : List Line) (R : Query) → AllFit widths R → Determines widths vs R → (i : ℕ) (A : Line)
-    → getElem? R i ≡ some A → Answer R (without-A vs R i A) (s₀ (room vs R))
-unfolding with-A
-frozen-answer widths vs R fits determined i A e =
-    determined (with-A vs R i A) (without-A vs R i A) (with-A-fits vs R i A fits (at-place R i e))
-    (without-A-fits vs R i A fits (at-place R i e)) (agree vs R i A e) (s₀ (room vs R)) .0
-    (h₀ (room vs R), λ B m. Memᴰ·append-left (extra vs R i A) (Memᴰ·map (freeze vs R) m))
+      -- all rows fit, where the lines of R do
+      pub rows-fit : {widths : List ℕ} → getElem? R i ≡ some A → AllFit widths R → AllFit widths all-rows
+      rows-fit {widths} A-at fits r m =
+          ⊎-elim (λ q. frozen-fits A (at-place R i A-at) r q)
+          (λ t. ⊎-elim (λ (C, c, q). frozen-fits C (without-subset i R c) r q)
+          (λ k. fits-like (sym (table F A k)) (sym (width F A k ∙ view-width F A k)) (fits A (at-place R i A-at)))
+          (of-others r t))
+          (List·Memᴰ·cases-cons m)
+        where
+          frozen-fits : (C : Line) → C ∈ R → (b : Row) → b ≡ freeze F C → Fits widths b
+          frozen-fits C c b q =
+              fits-like (ap (λ (x : Row). x .table) (sym q)) (ap (λ (x : Row). length (x .columns)) (sym q))
+              (fits-over (value (F .s) (F .h)) C (fits C c))

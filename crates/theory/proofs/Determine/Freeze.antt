@@ -1,99 +1,100 @@
--- Terms as numbers, for archives that stand for a query: different terms become different numbers, and a number may carry a
--- mark that is taken off again.
-use mathlib.Core.Path.{_≡_, sym, ap, _∙_}
-use mathlib.Core.Logic.{⊎-elim, ite, if-pos, if-neg}
-use mathlib.Core.List.{List, [], _∷_, List·Memᴰ·not-nil, List·Memᴰ·cases-cons}
-use Prim.Native.Nat.{ℕ, suc, _+_, _-_, _*_, _%_, _≤_, _<_}
-use native.Mathlib.Nat.{mod-eq-of-lt, add-mul-mod-self-left, mul-suc, eq-of-mul-eq-mul-left, add-left-cancel, suc-inj}
-use native.Mathlib.Decide.{decLt}
+-- Values for the terms of a query, no two of them alike, and a further one for each of the first columns, its mark.
+use mathlib.Core.Path.{_≡_, ap}
+use mathlib.Core.Logic.{⊎-elim}
+use mathlib.Core.List.{List, [], _∷_, _++_, List·Memᴰ·not-nil, List·Memᴰ·cases-cons, Memᴰ·append-left, Memᴰ·append-right}
+use Prim.Native.Nat.{ℕ, _+_, _<_}
 use native.Mathlib.Omega.{arith}
-use Rattle.theory.specs.Query.{Term, constant, shown, hidden, Line, _∈_}
-use Rattle.theory.specs.Archive.{value}
+use Rattle.theory.specs.Query.{Term, constant, shown, hidden, Line, Query, _∈_}
+use Rattle.theory.specs.Archive.{Row, value, row}
 use Rattle.theory.specs.Executable.Test.{number}
 use Rattle.theory.proofs.Terms.{above-terms, number-below}
 
--- ---- a number above those of all terms
+-- the term stands in one of the lines
+abbrev pub In : List Line → Term → Type 0
+In l t = (A : Line) × (A ∈ l) × (t ∈ A .columns)
 
-pub above : List Line → ℕ
+-- s and h for the variables of R, and marks for the first w columns
+pub record Frozen (vs : List Line) (R : Query) (w : ℕ) : Type 0 where
+  pub s : ℕ → ℕ
+  pub h : ℕ → ℕ
+  pub mark : ℕ → ℕ
+  -- different terms have different values
+  pub one : (t u : Term) → In R t → In R u → value s h t ≡ value s h u → t ≡ u
+  -- a constant of a view is no variable's value
+  pub clear : (t : Term) (c : ℕ) → In R t → In vs (constant c) → value s h t ≡ c → t ≡ constant c
+  -- a mark is no term's value, and different columns have different marks
+  pub far : (t : Term) (p : ℕ) → In R t → p < w → value s h t ≡ mark p → ⊥
+  pub marks : (p q : ℕ) → p < w → q < w → mark p ≡ mark q → p ≡ q
+
+module _ {vs : List Line} {R : Query} {w : ℕ} (F : Frozen vs R w) where
+  abbrev pub frozen : Term → ℕ
+  frozen t = value (F .s) (F .h) t
+
+  abbrev pub freeze : Line → Row
+  freeze B = row (F .s) (F .h) B
+
+-- ---- values that are large enough
+
+above : List Line → ℕ
 above [] = 1
 above (A ∷ l) = above-terms (A .columns) + above l
 
-pub above-of : (l : List Line) (A : Line) (t : Term) → A ∈ l → t ∈ A .columns → number t < above l
+above-of : (l : List Line) (t : Term) → In l t → number t < above l
 unfolding above
-above-of [] A t m k = absurd (List·Memᴰ·not-nil m)
-above-of (B ∷ l) A t m k =
+above-of [] t (A, m, k) = absurd (List·Memᴰ·not-nil m)
+above-of (B ∷ l) t (A, m, k) =
     ⊎-elim
     (λ e.
     let f = number-below (A .columns) t k in
     let g : above-terms (A .columns) ≡ above-terms (B .columns) = ap (λ (C : Line). above-terms (C .columns)) e in
     omega (arith, f, g))
-    (λ n. let f = above-of l A t n k in omega (arith, f)) (List·Memᴰ·cases-cons m)
+    (λ n. let f = above-of l t (A, n, k) in omega (arith, f)) (List·Memᴰ·cases-cons m)
 
-pub above-positive : (l : List Line) → 0 < above l
-unfolding above
-above-positive [] = omega arith
-above-positive (A ∷ l) = omega (arith, above-positive l)
-
--- ---- frozen terms
-
--- Constants are below N, shown variables from N and hidden ones from N + N on; all numbers are below `span`.
+-- Constants are below N, shown variables from N, hidden ones from N + N and marks from N + N + N on.
 module _ (N : ℕ) where
-  pub s₀ : ℕ → ℕ
+  s₀ : ℕ → ℕ
   s₀ n = N + n
 
-  pub h₀ : ℕ → ℕ
+  h₀ : ℕ → ℕ
   h₀ n = N + N + n
 
-  pub span : ℕ
-  span = N + N + N
+  m₀ : ℕ → ℕ
+  m₀ p = N + N + N + p
 
-  abbrev pub frozen : Term → ℕ
-  frozen t = value s₀ h₀ t
+  one₀ : (t u : Term) → number t < N → number u < N → value s₀ h₀ t ≡ value s₀ h₀ u → t ≡ u
+  unfolding s₀ h₀ number
+  one₀ (constant c) (constant d) l m e = ap constant e
+  one₀ (constant c) (shown k) l m e = absurd (omega arith)
+  one₀ (constant c) (hidden k) l m e = absurd (omega arith)
+  one₀ (shown n) (constant d) l m e = absurd (omega arith)
+  one₀ (shown n) (shown k) l m e = ap shown (omega arith)
+  one₀ (shown n) (hidden k) l m e = absurd (omega arith)
+  one₀ (hidden n) (constant d) l m e = absurd (omega arith)
+  one₀ (hidden n) (shown k) l m e = absurd (omega arith)
+  one₀ (hidden n) (hidden k) l m e = ap hidden (omega arith)
 
-  pub frozen-below : (t : Term) → number t < N → frozen t < span
-  unfolding s₀ h₀ span number
-  frozen-below (constant c) l = omega arith
-  frozen-below (shown n) l = omega arith
-  frozen-below (hidden n) l = omega arith
+  far₀ : (t : Term) (p : ℕ) → number t < N → value s₀ h₀ t ≡ m₀ p → ⊥
+  unfolding s₀ h₀ m₀ number
+  far₀ (constant c) p l e = omega arith
+  far₀ (shown n) p l e = omega arith
+  far₀ (hidden n) p l e = omega arith
 
-  -- the term that a number stands for
-  thaw : ℕ → Term
-  thaw x = ite (decLt x N) (constant x) (ite (decLt x (N + N)) (shown (x - N)) (hidden (x - (N + N))))
+  marks₀ : (p q : ℕ) → m₀ p ≡ m₀ q → p ≡ q
+  unfolding m₀
+  marks₀ p q e = omega arith
 
-  thaw-frozen : (t : Term) → number t < N → thaw (frozen t) ≡ t
-  unfolding thaw s₀ h₀ number
-  thaw-frozen (constant c) l = if-pos (decLt c N) l _ _
-  thaw-frozen (shown n) l =
-      if-neg (decLt (N + n) N) (λ k. omega arith) _ _ ∙ if-pos (decLt (N + n) (N + N)) (omega arith) _ _
-      ∙ ap shown (omega arith)
-  thaw-frozen (hidden n) l =
-      if-neg (decLt (N + N + n) N) (λ k. omega arith) _ _ ∙ if-neg (decLt (N + N + n) (N + N)) (λ k. omega arith) _ _
-      ∙ ap hidden (omega arith)
-
-  pub frozen-one : (t u : Term) → number t < N → number u < N → frozen t ≡ frozen u → t ≡ u
-  frozen-one t u l m e = sym (thaw-frozen t l) ∙ ap thaw e ∙ thaw-frozen u m
-
-  -- a number with mark y, and the term that is left when the mark is taken off
-  pub marked : ℕ → ℕ → ℕ
-  marked x y = x + span * suc y
-
-  pub collapse : ℕ → Term
-  collapse x = thaw (x % span)
-
-  pub collapse-frozen : (t : Term) → number t < N → collapse (frozen t) ≡ t
-  unfolding collapse
-  collapse-frozen t l = ap thaw (mod-eq-of-lt (frozen-below t l)) ∙ thaw-frozen t l
-
-  pub collapse-marked : (x y : ℕ) → collapse (marked x y) ≡ collapse x
-  unfolding collapse marked
-  collapse-marked x y = ap thaw (add-mul-mod-self-left x span (suc y))
-
-  -- marked numbers are no frozen ones, and the mark can be told
-  pub marked-above : (x y : ℕ) → span ≤ marked x y
-  unfolding marked
-  marked-above x y = omega (arith, mul-suc span y)
-
-  pub marked-one : (x y z : ℕ) → 0 < N → marked x y ≡ marked x z → y ≡ z
-  unfolding marked span
-  marked-one x y z l e =
-      suc-inj (eq-of-mul-eq-mul-left (N + N + N) (omega arith) (suc y) (suc z) (add-left-cancel x e))
+pub large : (vs : List Line) (R : Query) (w : ℕ) → Frozen vs R w
+unfolding number
+large vs R w =
+    let N = above (R ++ vs) in
+    let in-R : (t : Term) → In R t → number t < N = λ t (A, m, k). above-of (R ++ vs) t (A, Memᴰ·append-left vs m, k) in
+    record {
+      s = s₀ N;
+      h = h₀ N;
+      mark = m₀ N;
+      one = λ t u i j e. one₀ N t u (in-R t i) (in-R u j) e;
+      clear = λ t c i (A, m, k) e.
+          one₀ N t (constant c) (in-R t i) (above-of (R ++ vs) (constant c) (A, Memᴰ·append-right R m, k)) e;
+      far = λ t p i l e. far₀ N t p (in-R t i) e;
+      marks = λ p q i j e. marks₀ N p q e;
+    }

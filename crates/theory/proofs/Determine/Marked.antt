@@ -1,57 +1,87 @@
--- The marked rows: for each view that matches a row, that row with a mark on its cells at the view's hidden columns.
-use mathlib.Core.Path.{_≡_, refl, sym, ap, _∙_}
-use mathlib.Core.Logic.{_⊎_, inl, inr, ⊎-elim}
-use mathlib.Core.List.{List, [], _∷_, List·Memᴰ·head, List·Memᴰ·tail, List·Memᴰ·not-nil, List·Memᴰ·cases-cons, Memᴰ·cast}
-use Prim.Native.Nat.{ℕ}
-use Rattle.theory.specs.Query.{Term, constant, shown, hidden, Line, _∈_}
+-- The marked rows of a row: for each view that matches it, the row with marks in its cells under the view's hidden variables.
+use mathlib.Core.Path.{_≡_, refl, sym, ap, _∙_, subst}
+use mathlib.Core.Logic.{_⊎_, inl, inr, ⊎-elim, ite}
+use mathlib.Core.List.{List, [], _∷_, List·Memᴰ·head, List·Memᴰ·tail, List·Memᴰ·not-nil, List·Memᴰ·cases-cons}
+use mathlib.Core.List.{List·Memᴰ·eq-of-singleton, Memᴰ·cast}
+use Prim.Native.Nat.{ℕ, zero, suc, _<_, zero-le, suc-le-suc}
+use lib.ListN.{length, getD, length-map}
+use Rattle.theory.specs.Query.{Term, constant, shown, hidden, Line, Query, _∈_}
 use Rattle.theory.specs.Archive.{Row, Archive, value, row}
-use Rattle.theory.proofs.Tuples.{over-same, same-map}
-use Rattle.theory.proofs.Match.{Matches, match-decided}
-use Rattle.theory.proofs.Determine.Freeze.{marked}
+use Rattle.theory.specs.Cover.{at}
+use Rattle.theory.proofs.Terms.{term-discrete}
+use Rattle.theory.proofs.Tuples.{over-same, same-map, getD-mem}
+use Rattle.theory.proofs.Match.{Matches, match-decided, cell, row-cell}
+use Rattle.theory.proofs.Determine.Freeze.{In, Frozen, frozen, freeze}
 
--- r is the row a, marked where v has a hidden variable
-pub record Marked (N : ℕ) (a : Row) (vs : List Line) (r : Row) : Type 0 where
+-- ---- the first column of a term
+
+pub firstOf : List Term → Term → ℕ
+firstOf [] t = zero
+firstOf (u ∷ l) t = ite (term-discrete u t) zero (suc (firstOf l t))
+
+pub first-column : (l : List Term) (t : Term) → t ∈ l → (firstOf l t < length l) × (getD l (firstOf l t) (constant 0) ≡ t)
+unfolding firstOf
+first-column [] t m = absurd (List·Memᴰ·not-nil m)
+first-column (u ∷ l) t m = go (term-discrete u t) (λ k. first-column l t k)
+  where
+    go : (d : Dec (u ≡ t)) → (t ∈ l → (firstOf l t < length l) × (getD l (firstOf l t) (constant 0) ≡ t))
+        → (ite d zero (suc (firstOf l t)) < suc (length l)) × (getD (u ∷ l) (ite d zero (suc (firstOf l t))) (constant 0) ≡ t)
+    go (yes e) rest = (suc-le-suc zero-le, e)
+    go (no n) rest =
+        let r = rest (⊎-elim (λ e. absurd (n (sym e))) (λ k. k) (List·Memᴰ·cases-cons m)) in (suc-le-suc (r .0), r .1)
+
+pub first-one : (l : List Term) (t u : Term) → t ∈ l → u ∈ l → firstOf l t ≡ firstOf l u → t ≡ u
+first-one l t u m k e =
+    sym (first-column l t m .1) ∙ ap (λ (p : ℕ). getD l p (constant 0)) e ∙ first-column l u k .1
+
+-- ---- marked rows
+
+-- r is the odd row with, where a view that matches it has a hidden variable, the mark of the view and the variable
+pub record Marked (mark : Line → ℕ → ℕ) (vs : List Line) (odd r : Row) : Type 0 where
   pub v : Line
   pub v-in : v ∈ vs
   pub s : ℕ → ℕ
   pub h : ℕ → ℕ
-  pub matched : row s h v ≡ a
-  pub same : r ≡ row s (λ n. marked N (h n) n) v
+  pub matched : row s h v ≡ odd
+  pub same : r ≡ row s (mark v) v
 
-module _ (N : ℕ) (a : Row) where
-  abbrev pub mark : (ℕ → ℕ) → ℕ → ℕ
-  mark h n = marked N (h n) n
+-- the marked rows, and nothing else
+pub record ExtraBy (mark : Line → ℕ → ℕ) (vs : List Line) (odd : Row) (extra : Archive) : Type 0 where
+  pub each : (v : Line) (s h : ℕ → ℕ) → v ∈ vs → row s h v ≡ odd → row s (mark v) v ∈ extra
+  pub only : (r : Row) → r ∈ extra → Marked mark vs odd r
 
-  add : (v : Line) → Dec (Matches v a) → Archive → Archive
-  add v (yes k) l = row (k .s) (mark (k .h)) v ∷ l
+-- ---- one row for each view that matches
+
+module _ (mark : Line → ℕ → ℕ) (odd : Row) where
+  add : (v : Line) → Dec (Matches v odd) → Archive → Archive
+  add v (yes k) l = row (k .s) (mark v) v ∷ l
   add v (no n) l = l
 
-  pub markedRows : List Line → Archive
+  markedRows : List Line → Archive
   markedRows [] = []
-  markedRows (v ∷ vs) = add v (match-decided v a) (markedRows vs)
+  markedRows (v ∷ vs) = add v (match-decided v odd) (markedRows vs)
 
-  -- valuations that make one row of v make one marked row of it
-  mark-same : (s h t k : ℕ → ℕ) (v : Line) → row s h v ≡ row t k v → row s (mark h) v ≡ row t (mark k) v
+  mark-same : (s h t k : ℕ → ℕ) (v : Line) → row s h v ≡ row t k v → row s (mark v) v ≡ row t (mark v) v
   mark-same s h t k v e =
-      over-same (value s (mark h)) (value t (mark k)) v
+      over-same (value s (mark v)) (value t (mark v)) v
       (λ x m. by-kind x (same-map (value s h) (value t k) (v .columns) (ap (λ (b : Row). b .columns) e) x m))
     where
-      by-kind : (x : Term) → value s h x ≡ value t k x → value s (mark h) x ≡ value t (mark k) x
+      by-kind : (x : Term) → value s h x ≡ value t k x → value s (mark v) x ≡ value t (mark v) x
       by-kind (constant c) q = refl
       by-kind (shown n) q = q
-      by-kind (hidden n) q = ap (λ (x : ℕ). marked N x n) q
+      by-kind (hidden n) q = refl
 
-  add-of : (v : Line) (d : Dec (Matches v a)) (l : Archive) (s h : ℕ → ℕ) → row s h v ≡ a → row s (mark h) v ∈ add v d l
+  add-of : (v : Line) (d : Dec (Matches v odd)) (l : Archive) (s h : ℕ → ℕ) → row s h v ≡ odd → row s (mark v) v ∈ add v d l
   unfolding add
   add-of v (yes k) l s h e = List·Memᴰ·head (mark-same s h (k .s) (k .h) v (e ∙ sym (k .same)))
   add-of v (no n) l s h e = absurd (n (record { s = s; h = h; same = e }))
 
-  add-rest : (v : Line) (d : Dec (Matches v a)) (l : Archive) {r : Row} → r ∈ l → r ∈ add v d l
+  add-rest : (v : Line) (d : Dec (Matches v odd)) (l : Archive) {r : Row} → r ∈ l → r ∈ add v d l
   unfolding add
   add-rest v (yes k) l m = List·Memᴰ·tail m
   add-rest v (no n) l m = m
 
-  of-add : (v : Line) (d : Dec (Matches v a)) (l : Archive) (r : Row) → r ∈ add v d l → Marked N a (v ∷ []) r ⊎ (r ∈ l)
+  of-add : (v : Line) (d : Dec (Matches v odd)) (l : Archive) (r : Row) → r ∈ add v d l → Marked mark (v ∷ []) odd r ⊎ (r ∈ l)
   unfolding add
   of-add v (yes k) l r m =
       ⊎-elim
@@ -59,23 +89,77 @@ module _ (N : ℕ) (a : Row) where
       (λ t. inr t) (List·Memᴰ·cases-cons m)
   of-add v (no n) l r m = inr m
 
-  pub marked-of : (vs : List Line) (v : Line) (s h : ℕ → ℕ) → v ∈ vs → row s h v ≡ a → row s (mark h) v ∈ markedRows vs
+  marked-of : (vs : List Line) (v : Line) (s h : ℕ → ℕ) → v ∈ vs → row s h v ≡ odd → row s (mark v) v ∈ markedRows vs
   unfolding markedRows
   marked-of [] v s h m e = absurd (List·Memᴰ·not-nil m)
   marked-of (u ∷ vs) v s h m e =
       ⊎-elim
-      (λ q. Memᴰ·cast (ap (row s (mark h)) q)
-      (add-of u (match-decided u a) (markedRows vs) s h (ap (row s h) (sym q) ∙ e)))
-      (λ t. add-rest u (match-decided u a) (markedRows vs) (marked-of vs v s h t e)) (List·Memᴰ·cases-cons m)
+      (λ q. subst (λ (x : Line). row s (mark x) x ∈ add u (match-decided u odd) (markedRows vs)) (sym q)
+      (add-of u (match-decided u odd) (markedRows vs) s h (ap (row s h) (sym q) ∙ e)))
+      (λ t. add-rest u (match-decided u odd) (markedRows vs) (marked-of vs v s h t e)) (List·Memᴰ·cases-cons m)
 
-  widen : {vs ws : List Line} {r : Row} → ((v : Line) → v ∈ vs → v ∈ ws) → Marked N a vs r → Marked N a ws r
+  widen : {us vs : List Line} {r : Row} → ((v : Line) → v ∈ us → v ∈ vs) → Marked mark us odd r → Marked mark vs odd r
   widen f k = record { v = k .v; v-in = f (k .v) (k .v-in); s = k .s; h = k .h; matched = k .matched; same = k .same }
 
-  pub of-marked : (vs : List Line) (r : Row) → r ∈ markedRows vs → Marked N a vs r
+  of-marked : (vs : List Line) (r : Row) → r ∈ markedRows vs → Marked mark vs odd r
   unfolding markedRows
   of-marked [] r m = absurd (List·Memᴰ·not-nil m)
   of-marked (u ∷ vs) r m =
-      ⊎-elim
-      (λ k. widen
-      (λ v n. ⊎-elim (λ q. List·Memᴰ·head q) (λ t. absurd (List·Memᴰ·not-nil t)) (List·Memᴰ·cases-cons n)) k)
-      (λ t. widen (λ v n. List·Memᴰ·tail n) (of-marked vs r t)) (of-add u (match-decided u a) (markedRows vs) r m)
+      ⊎-elim (λ k. widen (λ v n. List·Memᴰ·head (List·Memᴰ·eq-of-singleton n)) k)
+      (λ t. widen (λ v n. List·Memᴰ·tail n) (of-marked vs r t)) (of-add u (match-decided u odd) (markedRows vs) r m)
+
+  pub extra-rows : (vs : List Line) → (extra : Archive) × ExtraBy mark vs odd extra
+  extra-rows vs = (markedRows vs, record { each = marked-of vs; only = of-marked vs })
+
+-- ---- the marked rows of a frozen line
+
+module _ {vs : List Line} {R : Query} {w : ℕ} (F : Frozen vs R w) where
+  -- the mark of a view's hidden variable is that of its first column
+  abbrev pub markOf : Line → ℕ → ℕ
+  markOf v m = F .mark (firstOf (v .columns) (hidden m))
+
+module _ {vs : List Line} {R : Query} {w : ℕ} (F : Frozen vs R w) (A : Line) where
+  abbrev pub IsMarked : Row → Type 0
+  IsMarked r = Marked (markOf F) vs (freeze F A) r
+
+  abbrev pub Extra : Archive → Type 0
+  Extra extra = ExtraBy (markOf F) vs (freeze F A) extra
+
+  module _ {r : Row} (k : IsMarked r) where
+    pub table : r .table ≡ A .table
+    table = ap (λ (b : Row). b .table) (k .same) ∙ ap (λ (b : Row). b .table) (k .matched)
+
+    -- the row, the view and A are equally wide
+    pub width : length (r .columns) ≡ length (k .v .columns)
+    width = ap (λ (b : Row). length (b .columns)) (k .same) ∙ length-map (k .v .columns) (value (k .s) (markOf F (k .v)))
+
+    pub view-width : length (k .v .columns) ≡ length (A .columns)
+    view-width =
+        sym (length-map (k .v .columns) (value (k .s) (k .h))) ∙ ap (λ (b : Row). length (b .columns)) (k .matched)
+        ∙ length-map (A .columns) (frozen F)
+
+    module _ (p : ℕ) (l : p < length (k .v .columns)) where
+      pub in-view : at (k .v) p ∈ k .v .columns
+      in-view = getD-mem (k .v .columns) p (constant 0) l
+
+      pub marked-cell : cell r p ≡ value (k .s) (markOf F (k .v)) (at (k .v) p)
+      marked-cell = ap (λ (b : Row). cell b p) (k .same) ∙ row-cell (k .s) (markOf F (k .v)) (k .v) p l
+
+      pub matched-cell : value (k .s) (k .h) (at (k .v) p) ≡ frozen F (at A p)
+      matched-cell =
+          sym (row-cell (k .s) (k .h) (k .v) p l) ∙ ap (λ (b : Row). cell b p) (k .matched)
+          ∙ row-cell (F .s) (F .h) A p (subst (λ (n : ℕ). p < n) view-width l)
+
+    module _ (in-R : A ∈ R) where
+      pub term-in : (p : ℕ) → p < length (k .v .columns) → In R (at A p)
+      term-in p l = (A, in-R, getD-mem (A .columns) p (constant 0) (subst (λ (n : ℕ). p < n) view-width l))
+
+      -- rules 1 and 2 hold of the view and A
+      pub constants-match : (p c : ℕ) → p < length (k .v .columns) → at (k .v) p ≡ constant c → at A p ≡ constant c
+      constants-match p c l e =
+          F .clear (at A p) c (term-in p l) (k .v, k .v-in, Memᴰ·cast (sym e) (in-view p l))
+          (sym (matched-cell p l) ∙ ap (value (k .s) (k .h)) e)
+
+      pub equals-match : (p q : ℕ) → p < length (k .v .columns) → q < length (k .v .columns) → at (k .v) p ≡ at (k .v) q → at A p ≡ at A q
+      equals-match p q l m e =
+          F .one (at A p) (at A q) (term-in p l) (term-in q m) (sym (matched-cell p l) ∙ ap (value (k .s) (k .h)) e ∙ matched-cell q m)
