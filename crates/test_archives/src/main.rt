@@ -10,8 +10,10 @@ mod texts;
 
 ghost use mathlib.Core.Path.{_≡_};
 ghost use lib.ListN.{length};
+use desk::Reply;
 use desk::Session;
 use family::QUERIES;
+use family::Query;
 use model::Policy;
 use tally::Tally;
 
@@ -59,13 +61,21 @@ fn granted(first: u64, second: u64) -> Grant {
     }
 }
 
+// Whether a query that is not settled gets rows that do not tell it apart.
+fn not_by_rows(p: Policy, q: Query, reply: Reply) -> bool {
+    match reply {
+        Reply::No { .. } => texts::not_apart(p, q),
+        _ => false,
+    }
+}
+
 // One query under one partition.
 fn try_query(t: Tally, g: Grant, code: u64, apart: bool) -> Tally {
     let q = family::query_of(code);
     let p = g.policy;
     let s = g.session;
     let reply = texts::decide(p, s, q);
-    let next = tally::count(t, reply, apart);
+    let next = tally::count(t, reply, apart, not_by_rows(p, q, reply));
     if tally::wrong(t) < tally::wrong(next) && tally::wrong(t) < MOST_PRINTED {
         tally::print_case(reply, g.first, g.second, q);
     }

@@ -6,13 +6,15 @@ use crate::texts;
 use desk::Reply;
 use std::num::wrapping_add_u64;
 
-// Of the settled queries those that two archives tell apart, and of the others those that none do, count against the desk.
+// Of the settled queries those that two archives tell apart, and of the others those that none do or whose rows do not, count against the
+// desk.
 pub struct Tally {
     pub partitions: u64,
     pub settled: u64,
     pub apart: u64,
     pub unsettled: u64,
     pub never_apart: u64,
+    pub not_by_rows: u64,
     pub refused: u64,
 }
 
@@ -23,6 +25,7 @@ pub fn zero() -> Tally {
         apart: 0,
         unsettled: 0,
         never_apart: 0,
+        not_by_rows: 0,
         refused: 0,
     }
 }
@@ -41,8 +44,8 @@ pub fn count_partition(t: Tally) -> Tally {
     next
 }
 
-// The desk's reply to a query, which two archives that agree tell apart or not.
-pub fn count(t: Tally, reply: Reply, apart: bool) -> Tally {
+// The desk's reply to a query, which two archives that agree tell apart or not, and which the desk's own rows do not or do.
+pub fn count(t: Tally, reply: Reply, apart: bool, not_by_rows: bool) -> Tally {
     let mut next = t;
     match reply {
         Reply::Yes { .. } => {
@@ -52,6 +55,7 @@ pub fn count(t: Tally, reply: Reply, apart: bool) -> Tally {
         Reply::No { .. } => {
             next.unsettled = next_if(t.unsettled, true);
             next.never_apart = next_if(t.never_apart, !apart);
+            next.not_by_rows = next_if(t.not_by_rows, not_by_rows);
         }
         Reply::Refused { .. } => {
             next.refused = next_if(t.refused, true);
@@ -62,7 +66,8 @@ pub fn count(t: Tally, reply: Reply, apart: bool) -> Tally {
 
 // The cases that count against the desk.
 pub fn wrong(t: Tally) -> u64 {
-    wrapping_add_u64(wrapping_add_u64(t.apart, t.never_apart), t.refused)
+    let silent = wrapping_add_u64(t.never_apart, t.not_by_rows);
+    wrapping_add_u64(wrapping_add_u64(t.apart, silent), t.refused)
 }
 
 fn print_reply(reply: Reply) {
@@ -71,7 +76,10 @@ fn print_reply(reply: Reply) {
             io::write_all(1, b"settled, yet told apart");
         }
         Reply::No { .. } => {
-            io::write_all(1, b"not settled, yet never told apart");
+            io::write_all(
+                1,
+                b"not settled, yet never told apart, or not by the desk's rows",
+            );
         }
         Reply::Refused { .. } => {
             io::write_all(1, b"refused");
@@ -112,6 +120,7 @@ pub fn print(queries: u64, t: Tally) {
     print_count(b", of these told apart ", t.apart);
     print_count(b"\nnot settled ", t.unsettled);
     print_count(b", of these never told apart ", t.never_apart);
+    print_count(b", not told apart by the desk's rows ", t.not_by_rows);
     print_count(b"\nrefused ", t.refused);
     io::write_all(1, b"\n");
 }

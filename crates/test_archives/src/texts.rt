@@ -6,6 +6,7 @@ ghost use lib.ListN.{length};
 use crate::family::NONE;
 use crate::family::Query;
 use crate::family::TERMS;
+use apart::Telling;
 use desk::Reply;
 use desk::Session;
 use model::Policy;
@@ -51,13 +52,39 @@ pub fn policy(first: u64, second: u64) -> Policy {
     r.policy
 }
 
+// The text of a query. How many bytes it has.
+fn put_query(text: &mut [u8], q: Query) -> usize
+    requires { ⌜ length (now text) ≡ 36 ⌝ }
+    ensures { λ r. ⌜ r ≤ 36 ⌝ }
+    ensures { λ _. ⌜ length (now (text .exit)) ≡ length (now (text .entry)) ⌝ }
+{
+    put_line(text, 14, q.first);
+    put_line(text, 22, q.second);
+    put_line(text, 30, q.third);
+    12 + 8 * (lines(q.first) + lines(q.second) + lines(q.third))
+}
+
 // What the desk says to a query in a session.
 pub fn decide(p: Policy, s: Session, q: Query) -> Reply {
     let mut text = *b"table terms\n1 #0 #0\n1 #0 #0\n1 #0 #0\n";
-    put_line(&mut text, 14, q.first);
-    put_line(&mut text, 22, q.second);
-    put_line(&mut text, 30, q.third);
-    let end = 12 + 8 * (lines(q.first) + lines(q.second) + lines(q.third));
+    let end = put_query(&mut text, q);
     let d = desk::decide_checked(p, s, &text[..end]);
     d.reply
+}
+
+// Whether the desk says that the partition settles the query, or gives rows that do not tell it apart.
+pub fn not_apart(p: Policy, q: Query) -> bool {
+    let mut text = *b"table terms\n1 #0 #0\n1 #0 #0\n1 #0 #0\n";
+    let end = put_query(&mut text, q);
+    let mut rows = [0; 360];
+    match apart::tell_apart(p, 1, &text[..end], &mut rows) {
+        Telling::Apart { rows: count } => {
+            if count < 1 || 40 < count {
+                return true;
+            }
+            let to = count as usize * 9;
+            !valuations::tells_apart(p, 1, &text[..end], &rows[..to])
+        }
+        _ => true,
+    }
 }

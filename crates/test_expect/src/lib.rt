@@ -5,6 +5,7 @@ mod said;
 
 pub use deciding::decided;
 pub use said::Said;
+pub use said::apart;
 pub use said::counted;
 pub use said::given;
 pub use said::no;

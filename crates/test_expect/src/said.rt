@@ -13,6 +13,8 @@ const SETTLED: u64 = 5;
 
 const UNSETTLED: u64 = 6;
 
+const APART: u64 = 7;
+
 // The word, count, number and line of a reply.
 pub struct Said {
     pub word: u64,
@@ -52,6 +54,11 @@ pub fn settled(count: u64) -> Said {
 
 pub fn unsettled(count: u64) -> Said {
     answered(UNSETTLED, count)
+}
+
+// Telling a query apart: the number of rows.
+pub fn apart(count: u64) -> Said {
+    answered(APART, count)
 }
 
 // Any operation: "a count in the reply is 0".
@@ -94,8 +101,11 @@ fn print_word(word: u64) {
         5 => {
             io::write_all(1, b"settled");
         }
-        _ => {
+        6 => {
             io::write_all(1, b"not settled");
+        }
+        _ => {
+            io::write_all(1, b"apart");
         }
     }
 }

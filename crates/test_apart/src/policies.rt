@@ -1,0 +1,62 @@
+// The policies that archives are given under.
+
+use model::Policy;
+
+// Document 01's: partition 1 grants views 2 and 3, partition 2 views 1 and 4.
+pub fn example() -> Policy {
+    let r = load::load(
+        b"table columns\n1 3\n2 2\nview table terms\n1 1 !1 !2 !3\n2 1 !1 !2 ?3\n3 2 !1 !2\n4 2 !1 #7\npartition views\n1 2 3\n2 1 4\n",
+    );
+    r.policy
+}
+
+// The same with a third table, which has no view, and a third partition, which grants none.
+pub fn wider() -> Policy {
+    let r = load::load(
+        b"table columns\n1 3\n2 2\n3 1
+view table terms\n1 1 !1 !2 !3\n2 1 !1 !2 ?3\n3 2 !1 !2\n4 2 !1 #7\npartition views\n1 2 3\n2 1 4\n3\n",
+    );
+    r.policy
+}
+
+// A table of two columns. Partition 1 grants a view whose columns are one hidden variable, partition 2 two views that hide the second
+// column, partition 3 these and one that hides both.
+pub fn hiding() -> Policy {
+    let r = load::load(
+        b"table columns\n1 2\nview table terms\n1 1 ?1 ?1\n2 1 !1 ?2\n3 1 !5 ?6\n4 1 ?1 ?2\npartition views\n1 1\n2 2 3\n3 2 3 4\n",
+    );
+    r.policy
+}
+
+// Views with the constants 0, 71, 72 and 215: the first and the last number of a block of 72, the first of the next, and the last of the
+// third.
+pub fn constants() -> Policy {
+    let r = load::load(
+        b"table columns\n1 2\nview table terms\n1 1 #0 !1\n2 1 #71 !1\n3 1 #72 !1\n4 1 #215 !1\n5 1 !1 #7\npartition views\n1 1 2 3 4 5\n",
+    );
+    r.policy
+}
+
+// View k hides the columns at the bits of k, column 1 at bit 0; the partition grants all 32.
+pub fn forty() -> Policy {
+    let r = load::load(
+        b"table columns\n1 8\n2 1\nview table terms
+1 1 ?0 !1 !2 !3 !4 !5 !6 !7\n2 1 !0 ?1 !2 !3 !4 !5 !6 !7\n3 1 ?0 ?1 !2 !3 !4 !5 !6 !7\n4 1 !0 !1 ?2 !3 !4 !5 !6 !7
+5 1 ?0 !1 ?2 !3 !4 !5 !6 !7\n6 1 !0 ?1 ?2 !3 !4 !5 !6 !7\n7 1 ?0 ?1 ?2 !3 !4 !5 !6 !7\n8 1 !0 !1 !2 ?3 !4 !5 !6 !7
+9 1 ?0 !1 !2 ?3 !4 !5 !6 !7\n10 1 !0 ?1 !2 ?3 !4 !5 !6 !7\n11 1 ?0 ?1 !2 ?3 !4 !5 !6 !7\n12 1 !0 !1 ?2 ?3 !4 !5 !6 !7
+13 1 ?0 !1 ?2 ?3 !4 !5 !6 !7\n14 1 !0 ?1 ?2 ?3 !4 !5 !6 !7\n15 1 ?0 ?1 ?2 ?3 !4 !5 !6 !7\n16 1 !0 !1 !2 !3 ?4 !5 !6 !7
+17 1 ?0 !1 !2 !3 ?4 !5 !6 !7\n18 1 !0 ?1 !2 !3 ?4 !5 !6 !7\n19 1 ?0 ?1 !2 !3 ?4 !5 !6 !7\n20 1 !0 !1 ?2 !3 ?4 !5 !6 !7
+21 1 ?0 !1 ?2 !3 ?4 !5 !6 !7\n22 1 !0 ?1 ?2 !3 ?4 !5 !6 !7\n23 1 ?0 ?1 ?2 !3 ?4 !5 !6 !7\n24 1 !0 !1 !2 ?3 ?4 !5 !6 !7
+25 1 ?0 !1 !2 ?3 ?4 !5 !6 !7\n26 1 !0 ?1 !2 ?3 ?4 !5 !6 !7\n27 1 ?0 ?1 !2 ?3 ?4 !5 !6 !7\n28 1 !0 !1 ?2 ?3 ?4 !5 !6 !7
+29 1 ?0 !1 ?2 ?3 ?4 !5 !6 !7\n30 1 !0 ?1 ?2 ?3 ?4 !5 !6 !7\n31 1 ?0 ?1 ?2 ?3 ?4 !5 !6 !7\n32 1 !0 !1 !2 !3 !4 ?5 !6 !7
+partition views\n1 1 2 3 4 5 6 7 8 9 10 11 12 13 14 15 16 17 18 19 20 21 22 23 24 25 26 27 28 29 30 31 32\n",
+    );
+    r.policy
+}
+
+// A value that no text gives: partition 2, which grants views 1 and 4, is behind the last.
+pub fn altered() -> Policy {
+    let mut p = example();
+    p.partition_count = 1;
+    p
+}
