@@ -1,0 +1,2 @@
+-- Facts about the blocks that a pass over rows takes, and the spare one.
+pub mod Taken

@@ -1,0 +1,68 @@
+use Rattle.freezing.proofs.blocks.spare_block.Statement.{statement}
+use Rattle.freezing.proofs.blocks.spare_block.Tie as tie
+use Rattle.freezing.proofs.blocks.spare_block.Reads as reads
+use Rattle.freezing.proofs.blocks.spare_block.Lts as lts
+use Rattle.freezing.proofs.blocks.take_rows.Reads as take-rows-reads
+
+abbrev Inv-loop : tie.InvT-loop
+Inv-loop views lines taken j₀ j = ?
+
+abbrev μ-loop : tie.MeasureT-loop
+μ-loop views lines taken j₀ j = ?
+
+-- src/blocks.rt:60:5
+take-rows-requires : tie.Need-take-rows-requires Inv-loop μ-loop
+take-rows-requires c κs = ?
+
+-- src/blocks.rt:61:5
+take-rows-requires-2 : tie.Need-take-rows-requires-2 Inv-loop μ-loop
+take-rows-requires-2 c κs = ?
+
+-- src/blocks.rt:63:5
+loop-holds : tie.Need-loop-holds Inv-loop μ-loop
+loop-holds c = ?
+
+-- src/blocks.rt:63:11
+mul-loop : tie.Need-mul-loop Inv-loop μ-loop
+mul-loop c = ?
+
+-- src/blocks.rt:63:11
+array-read-loop : tie.Need-array-read-loop Inv-loop μ-loop
+array-read-loop c = ?
+
+-- src/blocks.rt:64:9
+add-j : tie.Need-add-j Inv-loop μ-loop
+add-j c = ?
+
+-- src/blocks.rt:63:5
+loop-less : tie.Need-loop-less Inv-loop μ-loop
+loop-less c = ?
+
+-- src/blocks.rt:63:5
+loop-again : tie.Need-loop-again Inv-loop μ-loop
+loop-again c = ?
+
+-- src/blocks.rt:66:5
+mul-result : tie.Need-mul-result Inv-loop μ-loop
+mul-result c = ?
+
+-- src/blocks.rt:55:1
+returns : tie.Need-returns Inv-loop μ-loop
+returns c = ?
+
+pub spare-block-spec : {M : Type 1} → statement M
+spare-block-spec =
+    tie.close
+    (tie.spec
+    Inv-loop
+    μ-loop
+    take-rows-requires
+    take-rows-requires-2
+    loop-holds
+    mul-loop
+    array-read-loop
+    add-j
+    loop-less
+    loop-again
+    mul-result
+    returns)
