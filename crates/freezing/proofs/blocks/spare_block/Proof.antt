@@ -1,3 +1,8 @@
+-- `spare_block`: the blocks before `j` are taken.
+use Prim.Native.Nat.{ℕ, _-_, _≤_, _<_}
+use native.Mathlib.Omega.{arith}
+use Rattle.freezing.specs.Blocks.{mostTerms, mostBlocks, IsTaken}
+use Rattle.freezing.proofs.Spare.{none-taken, taken-few, spares}
 use Rattle.freezing.proofs.blocks.spare_block.Statement.{statement}
 use Rattle.freezing.proofs.blocks.spare_block.Tie as tie
 use Rattle.freezing.proofs.blocks.spare_block.Reads as reads
@@ -5,10 +10,10 @@ use Rattle.freezing.proofs.blocks.spare_block.Lts as lts
 use Rattle.freezing.proofs.blocks.take_rows.Reads as take-rows-reads
 
 abbrev Inv-loop : tie.InvT-loop
-Inv-loop views lines taken j₀ j = ?
+Inv-loop views lines taken j₀ j = (j ≤ mostTerms) × ((b : ℕ) → b < j → IsTaken taken b)
 
 abbrev μ-loop : tie.MeasureT-loop
-μ-loop views lines taken j₀ j = ?
+μ-loop views lines taken j₀ j = mostBlocks - j
 
 -- src/blocks.rt:60:5
 take-rows-requires : tie.Need-take-rows-requires Inv-loop μ-loop
