@@ -1,8 +1,9 @@
 -- `spare_block`: the blocks before `j` are taken.
-use Prim.Native.Nat.{ℕ, _-_, _≤_, _<_}
+use Prim.Native.Nat.{ℕ, _+_, _-_, _≤_, _<_}
 use native.Mathlib.Omega.{arith}
+use borrow.Author.Count.{below-more}
 use Rattle.freezing.specs.Blocks.{mostTerms, mostBlocks, IsTaken}
-use Rattle.freezing.proofs.Spare.{none-taken, taken-few, spares}
+use Rattle.freezing.proofs.Spare.{none-taken, taken-few, spare-found}
 use Rattle.freezing.proofs.blocks.spare_block.Statement.{statement}
 use Rattle.freezing.proofs.blocks.spare_block.Tie as tie
 use Rattle.freezing.proofs.blocks.spare_block.Reads as reads
@@ -17,43 +18,50 @@ abbrev μ-loop : tie.MeasureT-loop
 
 -- src/blocks.rt:60:5
 take-rows-requires : tie.Need-take-rows-requires Inv-loop μ-loop
-take-rows-requires c κs = ?
+take-rows-requires c κs = (c .before .before .before .pre .0, omega arith)
 
 -- src/blocks.rt:61:5
 take-rows-requires-2 : tie.Need-take-rows-requires-2 Inv-loop μ-loop
-take-rows-requires-2 c κs = ?
+take-rows-requires-2 c κs = (c .before .before .before .before .before .pre .1, c .before .take-rows .ensures .long)
 
 -- src/blocks.rt:63:5
 loop-holds : tie.Need-loop-holds Inv-loop μ-loop
-loop-holds c = ?
+loop-holds c = (omega arith, λ b h. absurd (omega (arith, h)))
 
 -- src/blocks.rt:63:11
 mul-loop : tie.Need-mul-loop Inv-loop μ-loop
-mul-loop c = ?
+mul-loop c = omega arith
 
 -- src/blocks.rt:63:11
 array-read-loop : tie.Need-array-read-loop Inv-loop μ-loop
-array-read-loop c = ?
+array-read-loop c = omega arith
 
 -- src/blocks.rt:64:9
 add-j : tie.Need-add-j Inv-loop μ-loop
-add-j c = ?
+add-j c = omega arith
 
 -- src/blocks.rt:63:5
 loop-less : tie.Need-loop-less Inv-loop μ-loop
-loop-less c = ?
+loop-less c = omega arith
 
 -- src/blocks.rt:63:5
 loop-again : tie.Need-loop-again Inv-loop μ-loop
-loop-again c = ?
+loop-again c =
+    let at = c .before .loop in
+    let s = c .before .before in
+    let all = below-more _ _ (at .inv .1) (c .loop-test .taken) in
+    (taken-few (none-taken mostBlocks) (s .before .before .take-rows .ensures) (s .take-rows2 .ensures) (at .j + 1) all, all)
 
 -- src/blocks.rt:66:5
 mul-result : tie.Need-mul-result Inv-loop μ-loop
-mul-result c = ?
+mul-result c = omega arith
 
 -- src/blocks.rt:55:1
 returns : tie.Need-returns Inv-loop μ-loop
-returns c = ?
+returns c =
+    let at = c .before .loop in
+    let s = c .before .before in
+    spare-found (s .before .before .take-rows .ensures) (s .take-rows2 .ensures) (at .j) (at .inv .0) (c .loop-test .left)
 
 pub spare-block-spec : {M : Type 1} → statement M
 spare-block-spec =
