@@ -5,7 +5,7 @@ use mathlib.Core.List.{List, _++_, Memᴰ·append-left, Memᴰ·append-right}
 use Prim.Native.Nat.{ℕ, zero, suc, _+_, _*_, _/_, _≤_, _<_}
 use native.Mathlib.Decide.{decLt, decLe}
 use native.Mathlib.Omega.{arith}
-use lib.ListN.{length, getD, replicate, length-append}
+use lib.ListN.{getD, replicate, length-append}
 use Rattle.theory.specs.Query.{_∈_}
 use Rattle.theory.proofs.Taken.{below-in-list}
 use Rattle.theory.proofs.Determine.Block.{blockLong}

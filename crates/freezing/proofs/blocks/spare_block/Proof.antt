@@ -6,9 +6,6 @@ use Rattle.freezing.specs.Blocks.{mostTerms, mostBlocks, IsTaken}
 use Rattle.freezing.proofs.Spare.{none-taken, taken-few, spare-found}
 use Rattle.freezing.proofs.blocks.spare_block.Statement.{statement}
 use Rattle.freezing.proofs.blocks.spare_block.Tie as tie
-use Rattle.freezing.proofs.blocks.spare_block.Reads as reads
-use Rattle.freezing.proofs.blocks.spare_block.Lts as lts
-use Rattle.freezing.proofs.blocks.take_rows.Reads as take-rows-reads
 
 abbrev Inv-loop : tie.InvT-loop
 Inv-loop views lines taken j₀ j = (j ≤ mostTerms) × ((b : ℕ) → b < j → IsTaken taken b)
@@ -16,35 +13,27 @@ Inv-loop views lines taken j₀ j = (j ≤ mostTerms) × ((b : ℕ) → b < j �
 abbrev μ-loop : tie.MeasureT-loop
 μ-loop views lines taken j₀ j = mostBlocks - j
 
--- src/blocks.rt:60:5
 take-rows-requires : tie.Need-take-rows-requires Inv-loop μ-loop
 take-rows-requires c κs = (c .before .before .before .pre .0, omega arith)
 
--- src/blocks.rt:61:5
 take-rows-requires-2 : tie.Need-take-rows-requires-2 Inv-loop μ-loop
 take-rows-requires-2 c κs = (c .before .before .before .before .before .pre .1, c .before .take-rows .ensures .long)
 
--- src/blocks.rt:63:5
 loop-holds : tie.Need-loop-holds Inv-loop μ-loop
 loop-holds c = (omega arith, λ b h. absurd (omega (arith, h)))
 
--- src/blocks.rt:63:11
 mul-loop : tie.Need-mul-loop Inv-loop μ-loop
 mul-loop c = omega arith
 
--- src/blocks.rt:63:11
 array-read-loop : tie.Need-array-read-loop Inv-loop μ-loop
 array-read-loop c = omega arith
 
--- src/blocks.rt:64:9
 add-j : tie.Need-add-j Inv-loop μ-loop
 add-j c = omega arith
 
--- src/blocks.rt:63:5
 loop-less : tie.Need-loop-less Inv-loop μ-loop
 loop-less c = omega arith
 
--- src/blocks.rt:63:5
 loop-again : tie.Need-loop-again Inv-loop μ-loop
 loop-again c =
     let at = c .before .loop in
@@ -52,11 +41,9 @@ loop-again c =
     let all = below-more _ _ (at .inv .1) (c .loop-test .taken) in
     (taken-few (none-taken mostBlocks) (s .before .before .take-rows .ensures) (s .take-rows2 .ensures) (at .j + 1) all, all)
 
--- src/blocks.rt:66:5
 mul-result : tie.Need-mul-result Inv-loop μ-loop
 mul-result c = omega arith
 
--- src/blocks.rt:55:1
 returns : tie.Need-returns Inv-loop μ-loop
 returns c =
     let at = c .before .loop in

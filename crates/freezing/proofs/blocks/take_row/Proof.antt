@@ -8,9 +8,6 @@ use Rattle.model.specs.Limits.{mostColumns}
 use Rattle.freezing.proofs.Taken.{ColumnsTaken, takes-none, takes-as, columns-more, column-taken, column-left}
 use Rattle.freezing.proofs.blocks.take_row.Statement.{statement}
 use Rattle.freezing.proofs.blocks.take_row.Tie as tie
-use Rattle.freezing.proofs.blocks.take_row.Reads as reads
-use Rattle.freezing.proofs.blocks.take_row.Lts as lts
-use Rattle.model.proofs.term_at.Reads as term-at-reads
 
 abbrev Inv-loop : tie.InvT-loop
 Inv-loop rows k taken₀ p₀ taken p = (p ≤ mostColumns) × ColumnsTaken rows k p taken₀ taken
@@ -18,31 +15,24 @@ Inv-loop rows k taken₀ p₀ taken p = (p ≤ mostColumns) × ColumnsTaken rows
 abbrev μ-loop : tie.MeasureT-loop
 μ-loop rows k taken₀ p₀ taken p = mostColumns - p
 
--- src/blocks.rt:32:5
 loop-holds : tie.Need-loop-holds Inv-loop μ-loop
-loop-holds c = (omega arith, takes-none _ (λ i q l. omega (arith, l .1)))
+loop-holds c = (omega arith, takes-none (λ i q l mark low. omega (arith, l .1)))
 
--- src/blocks.rt:33:13
 term-at-requires : tie.Need-term-at-requires Inv-loop μ-loop
 term-at-requires c κs = (c .before .before .before .pre .0, omega (arith, c .loop-test .taken))
 
--- src/blocks.rt:36:13
 mul-taken : tie.Need-mul-taken Inv-loop μ-loop
 mul-taken c = omega arith
 
--- src/blocks.rt:36:13
 element-write-taken : tie.Need-element-write-taken Inv-loop μ-loop
 element-write-taken c = ltb-true _ _ (c .if2 .taken)
 
--- src/blocks.rt:38:9
 add-p : tie.Need-add-p Inv-loop μ-loop
 add-p c = omega arith
 
--- src/blocks.rt:32:5
 loop-less : tie.Need-loop-less Inv-loop μ-loop
 loop-less c = omega arith
 
--- src/blocks.rt:32:5
 loop-again : tie.Need-loop-again Inv-loop μ-loop
 loop-again c =
     let long = c .before .before .before .before .before .before .before .pre .1 in
@@ -58,7 +48,6 @@ loop-again c =
           (c .if1 .came)),
     )
 
--- src/blocks.rt:27:1
 returns : tie.Need-returns Inv-loop μ-loop
 returns c = takes-as (c .before .loop .inv .1) (λ i q h e. (e, omega (arith, h, c .loop-test .left))) (c .before .loop .inv .0)
 
