@@ -14,10 +14,10 @@ abbrev μ-loop : tie.MeasureT-loop
 μ-loop views lines taken j₀ j = mostBlocks - j
 
 take-rows-requires : tie.Need-take-rows-requires Inv-loop μ-loop
-take-rows-requires c κs = (c .before .before .before .pre .0, omega arith)
+take-rows-requires c κs = omega arith
 
 take-rows-requires-2 : tie.Need-take-rows-requires-2 Inv-loop μ-loop
-take-rows-requires-2 c κs = (c .before .before .before .before .before .pre .1, c .before .take-rows .ensures .long)
+take-rows-requires-2 c κs = omega (arith, c .before .take-rows .ensures .long)
 
 loop-holds : tie.Need-loop-holds Inv-loop μ-loop
 loop-holds c = (omega arith, λ b h. absurd (omega (arith, h)))
@@ -39,7 +39,8 @@ loop-again c =
     let at = c .before .loop in
     let s = c .before .before in
     let all = below-more _ _ (at .inv .1) (c .loop-test .taken) in
-    (taken-few (none-taken mostBlocks) (s .before .before .take-rows .ensures) (s .take-rows2 .ensures) (at .j + 1) all, all)
+    let few = taken-few (none-taken mostBlocks) (s .before .before .take-rows .ensures) (s .take-rows2 .ensures) (at .j + 1) all in
+    (omega (arith, few), all)
 
 mul-result : tie.Need-mul-result Inv-loop μ-loop
 mul-result c = omega arith
