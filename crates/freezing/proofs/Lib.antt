@@ -1,0 +1,4 @@
+-- Rows: their cells, and the lines and views that they are made of.
+pub mod RowCells
+pub mod LineColumns
+pub mod FrozenCells
