@@ -2,3 +2,5 @@
 pub mod RowCells
 pub mod LineColumns
 pub mod FrozenCells
+pub mod MatchedColumns
+pub mod MarkedCells
