@@ -26,7 +26,7 @@ use Rattle.theory.proofs.Determine.Marked.{constants-match, equals-matc
 use Rattle.theory.proofs.Determine.Thaw.{thaw, thaw-freeze}
 use Rattle.theory.proofs.Determine.Archives.{others, all-rows, agree, frozen-answer, rows-fit}
 use Rattle.theory.proofs.Determine.Necessary.{covering-view}
-use Rattle.theory.proofs.Determine.Block.{Spared, frozenRow, ExtraRows, frozen-shown, block, block-freezes, block-extra}
+use Rattle.theory.proofs.Determine.Block.{variables, columns, Spared, frozenRow, ExtraRows, frozen-shown, block, block-freezes, block-extra}
 
 -- ---- no row stands twice
 
@@ -90,7 +90,7 @@ module _ {vs : List Line} {R : Query} {w : ℕ} (F : Frozen vs R w) (reduced : R
 pub told-apart : (widths : List ℕ) (vs : List Line) {Q R : Query} → NoClash Q → AllFit widths Q → ReducesTo Q R
     → {w : ℕ} (F : Frozen vs R w) (i : ℕ) (A : Line) → getElem? R i ≡ some A → length (A .columns) ≤ w
     → ((v : Line) → v ∈ vs → Covers v (over (showTerm R) A) → ⊥)
-    → (extra : Archive) → Extra F A extra → NoRepeats extra → TellsApart widths vs Q (freeze F A) (others F i extra)
+    → (extra : Archive) → Extra F A extra → NoRepeats extra → TellsApart widths (λ v. v ∈ vs) Q (freeze F A) (others F i extra)
 told-apart widths vs {Q} {R} clear fits r F i A A-at short uncovered extra e once =
     record {
       fit = rows-fit F i A extra e A-at (λ B m. fits B (reduced-subset r B m));
@@ -117,22 +117,22 @@ module _ (base : ℕ) (R : Query) where
   unfolding showTerm
   spared-bare spare c i = spare c (shown-in R (constant c) i)
 
-  module _ (small-s : (n : ℕ) → In (show R) (shown n) → n < 64) (small-h : (n : ℕ) → In (show R) (hidden n) → n < 64) where
-    shown-small : (n : ℕ) → In R (shown n) → n < 64
+  module _ (small-s : (n : ℕ) → In (show R) (shown n) → n < variables) (small-h : (n : ℕ) → In (show R) (hidden n) → n < variables) where
+    shown-small : (n : ℕ) → In R (shown n) → n < variables
     unfolding showTerm
     shown-small n i = small-s n (shown-in R (shown n) i)
 
-    hidden-small : (n : ℕ) → In R (hidden n) → n < 64
+    hidden-small : (n : ℕ) → In R (hidden n) → n < variables
     hidden-small n i =
         ⊎-elim (λ r. small-s n (subst (In (show R)) (r .1) (shown-in R (hidden n) i)))
         (λ r. small-h n (subst (In (show R)) (r .1) (shown-in R (hidden n) i))) (show-shows R (hidden n))
 
 pub told-apart-shown : (widths : List ℕ) (vs : List Line) {Q R : Query} → NoClash Q → AllFit widths Q → ReducesTo Q R
     → (base : ℕ) → Spared base (show R) → Spared base vs
-    → ((n : ℕ) → In (show R) (shown n) → n < 64) → ((n : ℕ) → In (show R) (hidden n) → n < 64)
-    → (i : ℕ) (A′ : Line) → getElem? (show R) i ≡ some A′ → length (A′ .columns) ≤ 8 → ((v : Line) → v ∈ vs → Covers v A′ → ⊥)
+    → ((n : ℕ) → In (show R) (shown n) → n < variables) → ((n : ℕ) → In (show R) (hidden n) → n < variables)
+    → (i : ℕ) (A′ : Line) → getElem? (show R) i ≡ some A′ → length (A′ .columns) ≤ columns → ((v : Line) → v ∈ vs → Covers v A′ → ⊥)
     → (extra : Archive) → ExtraRows base vs (frozenRow base A′) extra → NoRepeats extra
-    → TellsApart widths vs Q (frozenRow base A′) (map (frozenRow base) (without i (show R)) ++ extra)
+    → TellsApart widths (λ v. v ∈ vs) Q (frozenRow base A′) (map (frozenRow base) (without i (show R)) ++ extra)
 unfolding show
 told-apart-shown widths vs {Q} {R} clear fits r base spare spare-views small-s small-h i A′ A′-at short uncovered extra e once =
     let (A, A-at, is) = map-place (over (showTerm R)) R i A′ A′-at in
@@ -141,16 +141,16 @@ told-apart-shown widths vs {Q} {R} clear fits r base spare spare-views small-s s
     clear-R : NoClash R
     clear-R = reduced-clear r clear
 
-    s-R : (n : ℕ) → In R (shown n) → n < 64
+    s-R : (n : ℕ) → In R (shown n) → n < variables
     s-R = shown-small base R small-s small-h
 
-    h-R : (n : ℕ) → In R (hidden n) → n < 64
+    h-R : (n : ℕ) → In R (hidden n) → n < variables
     h-R = hidden-small base R small-s small-h
 
     spare-R : Spared base R
     spare-R = spared-bare base R spare
 
-    F : Frozen vs R 8
+    F : Frozen vs R columns
     F = block base vs R clear-R s-R h-R spare-R spare-views
 
     same : (B : Line) → freeze F B ≡ frozenRow base (over (showTerm R) B)
@@ -162,13 +162,13 @@ told-apart-shown widths vs {Q} {R} clear fits r base spare spare-views small-s s
         ∙ sym (map-map (frozenRow base) (over (showTerm R)) (without i R)) ∙ ap (map (frozenRow base)) (map-without (over (showTerm R)) i R)
 
     Told : Line → Type 0
-    Told B = length (B .columns) ≤ 8 → ((v : Line) → v ∈ vs → Covers v B → ⊥) → ExtraRows base vs (frozenRow base B) extra
-        → TellsApart widths vs Q (frozenRow base B) (map (frozenRow base) (without i (show R)) ++ extra)
+    Told B = length (B .columns) ≤ columns → ((v : Line) → v ∈ vs → Covers v B → ⊥) → ExtraRows base vs (frozenRow base B) extra
+        → TellsApart widths (λ v. v ∈ vs) Q (frozenRow base B) (map (frozenRow base) (without i (show R)) ++ extra)
 
     told : (A : Line) → getElem? R i ≡ some A → Told (over (showTerm R) A)
     told A A-at short-A bare e-A =
-        subst₂ (TellsApart widths vs Q) (same A) (ap (λ (l : Archive). l ++ extra) others-same)
-        (told-apart widths vs clear fits r F i A A-at (subst (λ (n : ℕ). n ≤ 8) (length-map (A .columns) (showTerm R)) short-A) bare
+        subst₂ (TellsApart widths (λ v. v ∈ vs) Q) (same A) (ap (λ (l : Archive). l ++ extra) others-same)
+        (told-apart widths vs clear fits r F i A A-at (subst (λ (n : ℕ). n ≤ columns) (length-map (A .columns) (showTerm R)) short-A) bare
         extra
         (block-extra base vs R clear-R s-R h-R spare-R spare-views A extra
         (subst (λ (b : Row). ExtraRows base vs b extra) (frozen-shown base R A) e-A))

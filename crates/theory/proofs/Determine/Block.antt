@@ -1,4 +1,4 @@
--- Values of 64 bits: a block of 128 numbers that holds no constant, its first 64 for the variables and the next 8 for the columns' marks.
+-- Values of 64 bits: a block of numbers that holds no constant, the first of them for the variables and those behind for the columns' marks.
 use mathlib.Core.Path.{_≡_, refl, sym, ap, _∙_, subst}
 use mathlib.Core.Logic.{_⊎_, ⊎-elim}
 use mathlib.Core.List.{List}
@@ -12,9 +12,19 @@ use Rattle.theory.proofs.Executable.Show.{show-shows}
 use Rattle.theory.proofs.Determine.Freeze.{In, Frozen, freeze}
 use Rattle.theory.proofs.Determine.Marked.{firstOf, ExtraBy, Extra}
 
+-- document 01, "variables 0 to 63" and "columns 1 to 8": how many there are
+abbrev pub variables : ℕ
+variables = 64
+
+abbrev pub columns : ℕ
+columns = 8
+
+abbrev pub blockLong : ℕ
+blockLong = variables + columns
+
 -- no constant of the lines stands in the block
 abbrev pub Spared : (base : ℕ) → List Line → Type 0
-Spared base l = (c : ℕ) → In l (constant c) → (c < base) ⊎ (base + 128 ≤ c)
+Spared base l = (c : ℕ) → In l (constant c) → (c < base) ⊎ (base + blockLong ≤ c)
 
 -- shown and hidden variables alike: a query has no number for both
 abbrev pub frozenRow : (base : ℕ) → Line → Row
@@ -22,7 +32,7 @@ frozenRow base A = row (λ n. base + n) (λ n. base + n) A
 
 -- the mark of a view's hidden variable: that of its first column
 abbrev pub markBy : (base : ℕ) → Line → ℕ → ℕ
-markBy base v m = base + (64 + firstOf (v .columns) (hidden m))
+markBy base v m = base + (variables + firstOf (v .columns) (hidden m))
 
 -- the marked rows of the odd one, and no others
 abbrev pub ExtraRows : (base : ℕ) → List Line → (odd : Row) → Archive → Type 0
@@ -44,12 +54,12 @@ frozen-shown base R A =
 
 -- ---- the freezing
 
-module _ (base : ℕ) (vs : List Line) (R : Query) (clear : NoClash R) (small-s : (n : ℕ) → In R (shown n) → n < 64)
-    (small-h : (n : ℕ) → In R (hidden n) → n < 64) (spare : Spared base R) (spare-views : Spared base vs) where
+module _ (base : ℕ) (vs : List Line) (R : Query) (clear : NoClash R) (small-s : (n : ℕ) → In R (shown n) → n < variables)
+    (small-h : (n : ℕ) → In R (hidden n) → n < variables) (spare : Spared base R) (spare-views : Spared base vs) where
   abbrev frozen : Term → ℕ
   frozen t = value (λ n. base + n) (λ n. base + n) t
 
-  inside : (l : List Line) (c x : ℕ) → Spared base l → In l (constant c) → x < 128 → c ≡ base + x → ⊥
+  inside : (l : List Line) (c x : ℕ) → Spared base l → In l (constant c) → x < blockLong → c ≡ base + x → ⊥
   inside l c x s i h e = ⊎-elim (λ a. omega arith) (λ a. omega arith) (s c i)
 
   one : (t u : Term) → In R t → In R u → frozen t ≡ frozen u → t ≡ u
@@ -70,17 +80,17 @@ module _ (base : ℕ) (vs : List Line) (R : Query) (clear : NoClash R) (small-s 
   no-constant (shown n) c i j e = absurd (inside vs c n spare-views j (omega (arith, small-s n i)) (sym e))
   no-constant (hidden n) c i j e = absurd (inside vs c n spare-views j (omega (arith, small-h n i)) (sym e))
 
-  far : (t : Term) (p : ℕ) → In R t → p < 8 → frozen t ≡ base + (64 + p) → ⊥
+  far : (t : Term) (p : ℕ) → In R t → p < columns → frozen t ≡ base + (variables + p) → ⊥
   far (constant c) p i l e = inside R c (64 + p) spare i (omega arith) e
   far (shown n) p i l e = omega (arith, small-s n i)
   far (hidden n) p i l e = omega (arith, small-h n i)
 
-  pub block : Frozen vs R 8
+  pub block : Frozen vs R columns
   block =
       record {
         s = λ n. base + n;
         h = λ n. base + n;
-        mark = λ p. base + (64 + p);
+        mark = λ p. base + (variables + p);
         one = one;
         clear = no-constant;
         far = far;
