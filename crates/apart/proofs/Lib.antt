@@ -1,0 +1,2 @@
+-- Rows in a buffer.
+pub mod Cells
