@@ -1,12 +1,12 @@
 -- The cells of a row at its place in a buffer, written or compared one by one.
 use mathlib.Core.Path.{_≡_, refl, sym, ap, _∙_}
 use mathlib.Core.List.{List}
-use Prim.Native.Nat.{ℕ, suc, _+_, _*_, _≤_, _<_}
+use Prim.Native.Nat.{ℕ, suc, _+_, _*_, _<_}
 use native.Mathlib.Omega.{arith}
-use lib.ListN.{length, getD, take, drop, set, length-set, length-drop}
+use lib.ListN.{length, getD, drop, set, length-set, length-drop}
 use lib.Seq.{paste, paste-zero, paste-suc, take-all, length-take-le, getD-take, getD-drop, ext-getD}
 use Rattle.freezing.specs.Cells.{rowCells}
-use Rattle.apart.specs.Buffer.{HasCells, cellsAt, PutAt, SameAt}
+use Rattle.apart.specs.Buffer.{HasCells, cellsAt, PutAt}
 
 -- ---- written
 
