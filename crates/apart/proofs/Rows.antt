@@ -5,10 +5,10 @@ use mathlib.Core.Logic.{⊎-elim}
 use mathlib.Core.List.{List, [], _∷_, _++_, append-assoc, append-nil, List·Memᴰ·head, List·Memᴰ·tail, List·Memᴰ·not-nil}
 use mathlib.Core.List.{List·Memᴰ·append-cases, List·Memᴰ·eq-of-singleton, Memᴰ·cast}
 use mathlib.Core.Option.{some, Option·some-injective}
-use Prim.Native.Nat.{ℕ, zero, suc, _+_, _-_, _*_, _≤_, _<_}
+use Prim.Native.Nat.{ℕ, zero, suc, _+_, _-_, _*_, _≤_}
 use native.Mathlib.Omega.{arith}
 use lib.ListN.{length, getElem?, take, drop, length-append, length-drop}
-use lib.Seq.{take-at, drop-at, drop-append-add, drop-drop}
+use lib.Seq.{take-at, drop-append-add, drop-drop}
 use Rattle.theory.specs.Query.{_∈_}
 use Rattle.theory.specs.Archive.{Row}
 use Rattle.theory.proofs.Lists.{none≢some, place, at-place, place-below, below-place}
