@@ -1,0 +1,3 @@
+-- Facts about the blocks that a pass over rows takes, and the spare one.
+pub mod Taken
+pub mod Spare
