@@ -1,3 +1,7 @@
 -- Facts about the blocks that a pass over rows takes, and the spare one.
 pub mod Taken
 pub mod Spare
+-- Rows: their cells, and the lines and views that they are made of.
+pub mod RowCells
+pub mod LineColumns
+pub mod FrozenCells

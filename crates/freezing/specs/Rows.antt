@@ -2,7 +2,7 @@
 use mathlib.Core.Path.{_≡_}
 use mathlib.Core.Bool.{Bool, true, cond}
 use mathlib.Core.List.{List}
-use Prim.Native.Nat.{ℕ, zero, suc, _+_, _≤_, _<_}
+use Prim.Native.Nat.{ℕ, _+_, _≤_, _<_}
 use lib.Dec.{ltb}
 use lib.ListN.{length}
 use Rattle.theory.specs.Query.{Line, _∈_, shown, hidden}
@@ -11,7 +11,7 @@ use Rattle.theory.proofs.Match.{Matches}
 use Rattle.theory.proofs.Determine.Block.{frozenRow, markBy}
 use Rattle.model.specs.Limits.{mostColumns, lastVariable}
 use Rattle.model.specs.Rows.{laidTerm, LaidAt}
-use Rattle.model.specs.Value.{lineValue, sameTerm}
+use Rattle.model.specs.Value.{lineValue}
 use Rattle.model.specs.declared.Term.{Term}
 use Rattle.freezing.specs.Cells.{cellsOf}
 
@@ -41,17 +41,11 @@ LineFrozen base lines i cells = (A : Line) → HasLine lines i A → cells ≡ c
 
 -- ---- a view beside a row
 
--- the first column from q on, of at most `left` and then the next, that has the same term as column p
-unfoldable pub firstFrom : List ℕ → ℕ → ℕ → ℕ → ℕ → ℕ
-unfolding sameTerm laidTerm
-firstFrom rows k p q zero = q
-firstFrom rows k p q (suc left) =
-    cond (sameTerm (laidTerm rows k q) (laidTerm rows k p)) q (firstFrom rows k p (suc q) left)
-
--- the first column with the term of column p
-unfoldable pub firstColumn : List ℕ → ℕ → ℕ → ℕ
-unfolding firstFrom
-firstColumn rows k p = firstFrom rows k p 0 p
+-- q is the first column of row k that has the term of column p
+pub record FirstAlike (rows : List ℕ) (k p q : ℕ) : Type 0 where
+  pub upto : q ≤ p
+  pub same : laidTerm rows k q ≡ laidTerm rows k p
+  pub least : (j : ℕ) → j < q → laidTerm rows k j ≡ laidTerm rows k p → ⊥
 
 -- row k has the view, and the cells are those of a row of the view's table
 pub record Beside (views : List ℕ) (k : ℕ) (v : Line) (cells : List ℕ) (r : Row) : Type 0 where

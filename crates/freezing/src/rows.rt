@@ -5,7 +5,7 @@ ghost use Prim.Native.Nat.{_<_, _≤_};
 ghost use Rattle.model.specs.Limits.{mostColumns};
 ghost use Rattle.model.specs.Rows.{HasRow, laidTerm};
 ghost use Rattle.freezing.specs.Blocks.{lastBase};
-ghost use Rattle.freezing.specs.Rows.{frozenTerm, SmallTerm, SomeLine, LineFrozen, firstColumn, MatchGiven, MarkedGiven};
+ghost use Rattle.freezing.specs.Rows.{frozenTerm, SmallTerm, SomeLine, LineFrozen, FirstAlike, MatchGiven, MarkedGiven};
 use crate::blocks::VARIABLES;
 use model::CONSTANT;
 use model::HIDDEN;
@@ -48,7 +48,7 @@ pub fn frozen_row(base: u64, lines: &[u64], i: usize) -> Cells
 // The first column of row k that has the same term as column p.
 fn first_column(rows: &[u64], k: usize, p: usize) -> usize
     requires { ⌜ HasRow (now rows) k × (p < mostColumns) ⌝ }
-    ensures { λ r. ⌜ r ≡ firstColumn (now (rows .entry)) k p ⌝ }
+    ensures { λ q. ⌜ FirstAlike (now (rows .entry)) k p q ⌝ }
 {
     let t = model::term_at(rows, k, p);
     let mut q = 0;

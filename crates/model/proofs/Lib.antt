@@ -14,6 +14,7 @@ pub mod Variables
 pub mod Misfit
 pub mod Same
 pub mod LaidTerms
+pub mod LineValues
 -- What is printed is read back, and what is read was printed.
 pub mod Printed
 pub mod ReadLines

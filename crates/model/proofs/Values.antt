@@ -18,6 +18,10 @@ as-term (constant c) = refl
 as-term (shown n) = refl
 as-term (hidden n) = refl
 
+-- a value stands for one term
+pub value-same : (t u : Term) → termValue t ≡ termValue u → t ≡ u
+value-same t u e = sym (as-term t) ∙ ap asTerm e ∙ as-term u
+
 -- an unused term ends a line
 as-unused : (k : ℕ) → asTerms (replicate k unusedTerm) ≡ []
 unfolding asTerms unusedTerm

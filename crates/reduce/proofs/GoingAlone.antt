@@ -36,8 +36,9 @@ use Rattle.reduce.specs.Worded.{hiddenWord, Given}
 use Rattle.reduce.proofs.Agree.{Goes, goes-iff, agree-iff, agree-swap}
 use Rattle.reduce.proofs.Assign.{Assigned, assigned-iff}
 use Rattle.model.proofs.Same.{same-term-iff}
+use Rattle.model.proofs.Values.{value-same}
 use Rattle.reduce.proofs.Hidden.{hidden-at}
-use Rattle.reduce.proofs.LaidColumns.{value-same, hidden-or-not, goes-same, joint-columns, laid-column}
+use Rattle.reduce.proofs.LaidColumns.{hidden-or-not, goes-same, joint-columns, laid-column}
 use Rattle.reduce.proofs.Left.{in-lines}
 use Rattle.reduce.proofs.Lines.{laid-few, small-line}
 use Rattle.reduce.proofs.PairNumbers.{line-of, target-of}

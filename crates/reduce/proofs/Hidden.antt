@@ -24,7 +24,7 @@ use Rattle.model.specs.declared.Term.{Term}
 use Rattle.model.specs.Rows.{termAt}
 use Rattle.reduce.specs.Showing.{SmallLine, hiddenTerm}
 use Rattle.reduce.specs.Worded.{HiddenAt}
-use Rattle.reduce.proofs.LineValues.{used, unused}
+use Rattle.model.proofs.LineValues.{used, unused}
 
 pub hidden-small : (t : Term) → T (hiddenTerm t) → t .number ≤ lastVariable
 unfolding hiddenTerm

@@ -14,23 +14,19 @@ use Rattle.theory.specs.Executable.Reduce.{keeps}
 use Rattle.theory.proofs.Tuples.{zip-place, place-zip}
 use Rattle.theory.proofs.Executable.Test.{same-iff}
 use Rattle.theory.proofs.Executable.Reduce.{agrees-iff}
-use Rattle.model.specs.Abstract.{asTerm}
 use Rattle.model.specs.Limits.{mostColumns}
 use Rattle.model.specs.Value.{unusedTerm, termValue}
 use Rattle.model.specs.Rows.{laidTerm}
-use Rattle.model.proofs.Values.{as-term}
+use Rattle.model.proofs.Values.{value-same}
 use Rattle.reduce.specs.Agree.{lineAt}
 use Rattle.reduce.specs.Laid.{Laid}
 use Rattle.reduce.specs.Worded.{HiddenAt}
 use Rattle.reduce.proofs.Agree.{Goes, Joint}
 use Rattle.model.proofs.Same.{same-term-iff}
 use Rattle.reduce.proofs.Lines.{laid-few}
-use Rattle.reduce.proofs.LineValues.{same-unused, used, unused}
+use Rattle.model.proofs.LineValues.{same-unused, used, unused}
 
 -- ---- terms
-
-pub value-same : (t u : TheTerm) → termValue t ≡ termValue u → t ≡ u
-value-same t u e = sym (as-term t) ∙ ap asTerm e ∙ as-term u
 
 pub hidden-or-not : (t : TheTerm) → ((n : ℕ) × (t ≡ hidden n)) ⊎ ((n : ℕ) → t ≡ hidden n → ⊥)
 hidden-or-not (constant c) = inr (λ n e. let z : _≡_ {A = ℕ} 0 1 = cc in omega arith)

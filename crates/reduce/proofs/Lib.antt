@@ -1,6 +1,5 @@
 -- Lines that one map can send to lines, column by column.
 pub mod Agree
-pub mod LineValues
 pub mod Hidden
 pub mod LineWords
 pub mod Looked

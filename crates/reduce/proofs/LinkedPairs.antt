@@ -20,7 +20,8 @@ use Rattle.reduce.specs.Pairs.{Joined, Candidate}
 use Rattle.reduce.specs.Worded.{hiddenWord, HiddenAt, Given}
 use Rattle.reduce.proofs.Agree.{Goes, agree-iff}
 use Rattle.reduce.proofs.FirstColumns.{first-column}
-use Rattle.reduce.proofs.LaidColumns.{value-same, hidden-or-not, goes-same, joint-columns, laid-column, hidden-laid, laid-hidden}
+use Rattle.model.proofs.Values.{value-same}
+use Rattle.reduce.proofs.LaidColumns.{hidden-or-not, goes-same, joint-columns, laid-column, hidden-laid, laid-hidden}
 use Rattle.reduce.proofs.Lines.{laid-few}
 
 module _ {Q : Query} {n : ℕ} {rows words : List ℕ} (given : Given Q n rows words) where

@@ -33,9 +33,10 @@ use Rattle.reduce.specs.Showing.{hiddenTerm}
 use Rattle.reduce.specs.Worded.{twiceWord, HiddenAt, Given}
 use Rattle.reduce.proofs.Agree.{Goes, goes-iff, agree-iff}
 use Rattle.model.proofs.Same.{same-term-iff}
+use Rattle.model.proofs.Values.{value-same}
 use Rattle.reduce.proofs.FirstColumns.{first-unique}
 use Rattle.reduce.proofs.Hidden.{at-hidden, hidden-at}
-use Rattle.reduce.proofs.LaidColumns.{value-same, hidden-or-not, goes-same, joint-columns, laid-column}
+use Rattle.reduce.proofs.LaidColumns.{hidden-or-not, goes-same, joint-columns, laid-column}
 use Rattle.reduce.proofs.Lines.{laid-few, small-line}
 use Rattle.reduce.proofs.Looked.{Sieved, sieved-none, sieved-all}
 use Rattle.reduce.proofs.PairNumbers.{moving, moving-set}

@@ -24,9 +24,10 @@ use Rattle.reduce.specs.LineTargets.{SameAt, Near}
 use Rattle.reduce.specs.Worded.{columnsWord, HiddenAt, Given}
 use Rattle.reduce.proofs.Agree.{Goes, goes-iff}
 use Rattle.reduce.proofs.KeptColumns.{Kept, kept-iff}
-use Rattle.reduce.proofs.LaidColumns.{value-same, goes-same}
+use Rattle.reduce.proofs.LaidColumns.{goes-same}
 use Rattle.reduce.proofs.Lines.{laid-few}
-use Rattle.reduce.proofs.LineValues.{used, unused}
+use Rattle.model.proofs.Values.{value-same}
+use Rattle.model.proofs.LineValues.{used, unused}
 
 -- ---- terms
 

@@ -4,6 +4,7 @@ use mathlib.Core.Logic.{_⊎_, inl, inr, ⊎-elim, ite}
 use mathlib.Core.List.{List, [], _∷_, List·Memᴰ·head, List·Memᴰ·tail, List·Memᴰ·not-nil, List·Memᴰ·cases-cons}
 use mathlib.Core.List.{List·Memᴰ·eq-of-singleton, Memᴰ·cast}
 use Prim.Native.Nat.{ℕ, zero, suc, _<_, zero-le, suc-le-suc}
+use native.Mathlib.Nat.{not-suc-le-zero, le-of-suc-le-suc}
 use lib.ListN.{length, getD, length-map}
 use Rattle.theory.specs.Query.{Term, constant, shown, hidden, Line, Query, _∈_}
 use Rattle.theory.specs.Archive.{Row, Archive, value, row}
@@ -33,6 +34,22 @@ first-column (u ∷ l) t m = go (term-discrete u t) (λ k. first-column l t k)
 pub first-one : (l : List Term) (t u : Term) → t ∈ l → u ∈ l → firstOf l t ≡ firstOf l u → t ≡ u
 first-one l t u m k e =
     sym (first-column l t m .1) ∙ ap (λ (p : ℕ). getD l p (constant 0)) e ∙ first-column l u k .1
+
+-- a column that has the term, and before which none has it, is the first
+pub first-least : (l : List Term) (t : Term) (q : ℕ) → q < length l → getD l q (constant 0) ≡ t
+    → ((j : ℕ) → j < q → getD l j (constant 0) ≡ t → ⊥) → firstOf l t ≡ q
+unfolding firstOf
+first-least [] t q h e none = absurd (not-suc-le-zero h)
+first-least (u ∷ l) t q h e none = go (term-discrete u t) q h e none (λ p. first-least l t p)
+  where
+    go : (d : Dec (u ≡ t)) (p : ℕ) → p < suc (length l) → getD (u ∷ l) p (constant 0) ≡ t
+        → ((j : ℕ) → j < p → getD (u ∷ l) j (constant 0) ≡ t → ⊥)
+        → ((k : ℕ) → k < length l → getD l k (constant 0) ≡ t → ((j : ℕ) → j < k → getD l j (constant 0) ≡ t → ⊥) → firstOf l t ≡ k)
+        → ite d zero (suc (firstOf l t)) ≡ p
+    go (yes x) zero k f g rest = refl
+    go (yes x) (suc p) k f g rest = absurd (g zero (suc-le-suc zero-le) x)
+    go (no n) zero k f g rest = absurd (n f)
+    go (no n) (suc p) k f g rest = ap suc (rest p (le-of-suc-le-suc k) f (λ j b. g (suc j) (suc-le-suc b)))
 
 -- ---- marked rows
 
