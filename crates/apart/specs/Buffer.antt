@@ -4,7 +4,9 @@ use mathlib.Core.Bool.{Bool, true}
 use mathlib.Core.List.{List, _++_}
 use Prim.Native.Nat.{ℕ, _+_, _*_, _≤_, _<_}
 use lib.ListN.{length, take, drop}
+use Rattle.theory.specs.Query.{_∈_}
 use Rattle.theory.specs.Archive.{Row}
+use Rattle.model.specs.Limits.{mostColumns}
 use Rattle.freezing.specs.Cells.{rowCells, allCells}
 use Rattle.desk.specs.Buffer.{headed}
 use Rattle.apart.specs.Archives.{mostCells}
@@ -31,7 +33,12 @@ pub record StandsBetween (out : List ℕ) (from to : ℕ) (cells : List ℕ) (r 
   pub stands : r ≡ true → (k : ℕ) × (from ≤ k) × (k < to) × (cellsAt out k ≡ cells)
   pub said : (k : ℕ) → from ≤ k → k < to → cellsAt out k ≡ cells → r ≡ true
 
+-- the row has no more columns than there are cells for
+abbrev pub Narrow : Row → Type 0
+Narrow x = length (x .columns) ≤ mostColumns
+
 -- a buffer with room for all rows, and these rows written at its head; it was `start` before
 pub record Holds (start : List ℕ) (rows : List Row) (out : List ℕ) : Type 0 where
   pub wide : mostCells ≤ length start
+  pub narrow : (x : Row) → x ∈ rows → Narrow x
   pub are : out ≡ headed (allCells rows) start

@@ -3,7 +3,7 @@ use mathlib.Core.Path.{_≡_}
 use mathlib.Core.Logic.{_⊎_}
 use mathlib.Core.List.{List, _++_}
 use mathlib.Core.Option.{some}
-use Prim.Native.Nat.{ℕ, _+_, _*_, _≤_}
+use Prim.Native.Nat.{ℕ, _+_, _≤_}
 use lib.ListN.{length, getElem?}
 use Rattle.theory.specs.Query.{Line, Fits, _∈_}
 use Rattle.theory.specs.Archive.{Row, row}
@@ -26,11 +26,6 @@ pub record Roomy (from : ℕ) (out : List ℕ) : Type 0 where
 
 -- ---- one view
 
--- a row of the same table
-pub record Alike (r x : Row) : Type 0 where
-  pub table : x .table ≡ r .table
-  pub width : length (x .columns) ≡ length (r .columns)
-
 -- the view's marked row is among the extra rows then, if the view matches the odd row, and no other row is new
 pub record Adds (base : ℕ) (v : Line) (odd : Row) (extra then : List Row) : Type 0 where
   pub kept : (x : Row) → x ∈ extra → x ∈ then
@@ -38,14 +33,15 @@ pub record Adds (base : ℕ) (v : Line) (odd : Row) (extra then : List Row) : Ty
   pub only : (x : Row) → x ∈ then
       → (x ∈ extra) ⊎ ((s : ℕ → ℕ) × (h : ℕ → ℕ) × (row s h v ≡ odd) × (x ≡ row s (markBy base v) v))
   pub once : NoRepeats extra → NoRepeats then
-  pub one : length then ≤ length extra + 1
 
--- behind the rows `head` and the extra rows, which are of the odd row's table
-abbrev pub ViewPut : ℕ → List ℕ → ℕ → List ℕ → ℕ → ℕ → List ℕ → List ℕ → ℕ → Type 0
-ViewPut base r k cells from count before after n =
-    (v : Line) (odd : Row) → Beside r k v cells odd → (start : List ℕ) (head extra : List Row) → length head ≡ from
-    → length (head ++ extra) ≡ count → Holds start (head ++ extra) before → ((x : Row) → x ∈ extra → Alike odd x)
-    → (then : List Row) × (n ≡ length (head ++ then)) × Holds start (head ++ then) after × Adds base v odd extra then
+-- at most one row more, behind the rows `head` and the extra rows, which are as wide as the odd row
+pub record ViewPut (base : ℕ) (r : List ℕ) (k : ℕ) (cells : List ℕ) (from count : ℕ) (before after : List ℕ) (n : ℕ) : Type 0 where
+  pub least : count ≤ n
+  pub most : n ≤ count + 1
+  pub rows : (v : Line) (odd : Row) → Beside r k v cells odd → (start : List ℕ) (head extra : List Row) → length head ≡ from
+      → length (head ++ extra) ≡ count → Holds start (head ++ extra) before
+      → ((x : Row) → x ∈ extra → length (x .columns) ≡ length (odd .columns))
+      → (then : List Row) × (n ≡ length (head ++ then)) × Holds start (head ++ then) after × Adds base v odd extra then
 
 -- ---- the views of a partition
 

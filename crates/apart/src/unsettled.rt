@@ -1,5 +1,6 @@
 // A line that a partition has no view for.
 
+ghost use mathlib.Core.Path.{_≡_};
 ghost use Prim.Native.Nat.{_<_};
 ghost use lib.ListN.{length};
 ghost use Rattle.model.specs.Limits.{mostPartitions};

@@ -83,7 +83,7 @@ module _ (d : Declared) (good : WellFormed d) (ns : List ℕ) (known : Known (d 
 -- ---- views by their numbers
 
 module _ (views : List Line) (ns : List ℕ) (known : Known views ns) where
-  granted-iff : (v : Line) → HasNumber views ns v ↔ (v ∈ granted views ns)
+  pub granted-iff : (v : Line) → HasNumber views ns v ↔ (v ∈ granted views ns)
   unfolding granted lineAt
   granted-iff v = (
     λ g.
