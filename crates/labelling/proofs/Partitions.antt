@@ -128,10 +128,10 @@ pub good-known : (views : List Line) (vs : List ℕ) → GoodPartition (length v
 good-known views vs g = good-below (length views) vs g
 
 module _ (d : Declared) (good : WellFormed d) (n : ℕ) (vs : List ℕ) (at : getElem? (d .partitions) n ≡ some vs) where
-  known : Known (d .views) vs
+  pub known : Known (d .views) vs
   known = good-known (d .views) vs (good .partitions .each vs (at-place (d .partitions) n at))
 
-  grants-iff : (v : Line) → Grants d n v ↔ HasNumber (d .views) vs v
+  pub grants-iff : (v : Line) → Grants d n v ↔ HasNumber (d .views) vs v
   grants-iff v = (
     λ g.
         let same : g .numbers ≡ vs = Option·some-injective (g .numbers) vs (sym (g .partition) ∙ at) in

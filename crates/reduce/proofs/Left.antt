@@ -2,9 +2,10 @@
 use mathlib.Core.Path.{_≡_, refl, sym, ap}
 use mathlib.Core.Logic.{_≢_, ⊎-elim}
 use mathlib.Core.Bool.{Bool, true, false, cond}
-use mathlib.Core.List.{List, [], _∷_, _++_, List·Memᴰ·head, List·Memᴰ·tail, List·Memᴰ·not-nil, List·Memᴰ·cases-cons}
+use mathlib.Core.List.{List, [], _∷_, _++_, map, List·Memᴰ·head, List·Memᴰ·tail, List·Memᴰ·not-nil, List·Memᴰ·cases-cons}
 use Prim.Native.Nat.{ℕ, zero, suc, _-_, _^_, _≤_, _<_, zero-le, suc-le-suc}
 use native.Mathlib.Nat.{not-suc-le-zero, le-of-suc-le-suc, suc-inj, suc-ne-zero}
+use native.Mathlib.Omega.{arith}
 use lib.Dec.{T}
 use lib.ListN.{length, getD, take}
 use mir.Facts.{eqb-yes, yes-eqb}
@@ -82,6 +83,16 @@ module _ {X : Type 0} where
   pick-same f g [] h = refl
   pick-same f g (x ∷ l) h = rw (h 0, pick-same (λ k. f (suc k)) (λ k. g (suc k)) l (λ j. h (suc j)))
 
+  pub pick-few : (f : ℕ → Bool) (l : List X) → length (pick f l) ≤ length l
+  unfolding pick
+  pick-few f [] = zero-le
+  pick-few f (x ∷ l) = go (f 0) (pick-few (λ k. f (suc k)) l)
+    where
+      go : (b : Bool) → length (pick (λ k. f (suc k)) l) ≤ length l
+          → length (cond b (x ∷ pick (λ k. f (suc k)) l) (pick (λ k. f (suc k)) l)) ≤ suc (length l)
+      go true h = suc-le-suc h
+      go false h = omega (arith, h)
+
   -- taking out the element at a place before which all pass
   pub pick-without : (f g : ℕ → Bool) (l : List X) (i : ℕ) → i < length l → ((j : ℕ) → j ≤ i → f j ≡ true) → g i ≡ false
       → ((j : ℕ) → j ≢ i → g j ≡ f j) → without i (pick f l) ≡ pick g l
@@ -94,6 +105,17 @@ module _ {X : Type 0} where
       (rw (a 0 zero-le) (ap (λ (m : List X). x ∷ m)
       (pick-without (λ k. f (suc k)) (λ k. g (suc k)) l i (le-of-suc-le-suc h) (λ j b. a (suc j) (suc-le-suc b)) e
       (λ j n. s (suc j) (λ p. n (suc-inj p))))))
+
+pub pick-map : {X Y : Type 0} (g : X → Y) (f : ℕ → Bool) (l : List X) → pick f (map g l) ≡ map g (pick f l)
+unfolding pick
+pick-map g f [] = refl
+pick-map {Y = Y} g f (x ∷ l) = go (f 0) (pick-map g (λ k. f (suc k)) l)
+  where
+    go : (b : Bool) → pick (λ k. f (suc k)) (map g l) ≡ map g (pick (λ k. f (suc k)) l)
+        → cond b (g x ∷ pick (λ k. f (suc k)) (map g l)) (pick (λ k. f (suc k)) (map g l))
+        ≡ map g (cond b (x ∷ pick (λ k. f (suc k)) l) (pick (λ k. f (suc k)) l))
+    go true e = ap (λ (m : List Y). g x ∷ m) e
+    go false e = e
 
 -- ---- lines at the bits of a word
 

@@ -79,10 +79,12 @@ module _ (R : Query) (w : ℕ) (word : SharedWord R w) where
   shown-same (shown n) small = refl
   shown-same (hidden n) small = rw (le-leb n lastVariable (omega (arith, small n refl)), set-shared n (small n refl))
 
+  -- a line of the query, shown by the word
+  pub line-same : Small R → (A : TheLine) → A ∈ R → over (shownBy w) A ≡ over (showTerm R) A
+  line-same small A i =
+      over-same (shownBy w) (showTerm R) A
+      (λ t j. shown-same t (λ n e. small n A i (subst (λ (u : TheTerm). u ∈ A .columns) e j)))
+
   pub line-shown : ((A : TheLine) → A ∈ R → length (A .columns) ≤ mostColumns) → Small R → (A : TheLine) → A ∈ R
       → showLine w (lineValue A) ≡ lineValue (over (showTerm R) A)
-  line-shown few small A i =
-      line-value w A (few A i)
-      ∙ ap lineValue
-      (over-same (shownBy w) (showTerm R) A
-      (λ t j. shown-same t (λ n e. small n A i (subst (λ (u : TheTerm). u ∈ A .columns) e j))))
+  line-shown few small A i = line-value w A (few A i) ∙ ap lineValue (line-same small A i)
