@@ -3,26 +3,25 @@ use mathlib.Core.Path.{_≡_, refl, sym, ap, subst, _∙_}
 use mathlib.Core.Logic.{⊎-elim}
 use mathlib.Core.List.{List}
 use Prim.Native.Nat.{ℕ, _+_, _≤_, _<_}
-use native.Mathlib.Decide.{ℕ-discrete}
 use native.Mathlib.Omega.{arith}
-use lib.ListN.{length, getD, set, length-set, length-map, List·getD-eq-default}
+use borrow.Author.Count.{below-more}
+use lib.ListN.{length, getD, set, length-set, length-map}
 use lib.Seq.{getD-set-same, getD-set-other}
 use Rattle.theory.specs.Query.{Term, constant, shown, hidden, Line}
 use Rattle.theory.specs.Archive.{Row, value, row}
 use Rattle.theory.specs.Cover.{at}
-use Rattle.theory.specs.Executable.Test.{kind, number}
 use Rattle.theory.proofs.Match.{cell, row-cell}
 use Rattle.theory.proofs.Determine.Marked.{firstOf, first-least}
 use Rattle.theory.proofs.Determine.Block.{variables, markBy}
 use Rattle.model.specs.Limits.{mostColumns}
-use Rattle.model.specs.Value.{unusedTerm, termValue}
+use Rattle.model.specs.Value.{termValue}
 use Rattle.model.specs.Rows.{laidTerm}
 use Rattle.model.specs.declared.Term.{Term as TermValue}
 use Rattle.model.proofs.Values.{value-same}
 use Rattle.freezing.specs.Rows.{FirstAlike, Beside, MarkedGiven}
-use Rattle.freezing.proofs.RowCells.{cells-long, table-at, cells-are}
-use Rattle.freezing.proofs.LineColumns.{laid-used, laid-cases}
-use Rattle.freezing.proofs.MatchedColumns.{cell-is, no-cell}
+use Rattle.freezing.proofs.RowCells.{no-value, cells-are}
+use Rattle.freezing.proofs.TermMarks.{unused-mark, constant-mark, shown-mark, hidden-mark}
+use Rattle.freezing.proofs.ViewBeside.{view-used, view-column, beside-long, beside-table, cell-is, nothing-there}
 
 -- ---- one column
 
@@ -46,69 +45,43 @@ module _ {base : ℕ} {views : List ℕ} {k : ℕ} {cells : List ℕ} where
 
   pub marked-stays : {p : ℕ} {marked : List ℕ} → MarkedTo base views k cells p marked → (laidTerm views k p .mark ≡ 3 → ⊥)
       → MarkedTo base views k cells (p + 1) marked
-  marked-stays {p} {marked} m f = record {
-    long = m .long;
-    table = m .table;
-    done = λ q l. go q l (ℕ-discrete q p);
-    rest = λ q l. m .rest q (omega arith);
-  }
-    where
-      go : (q : ℕ) → q < p + 1 → Dec (q ≡ p) → MarkedCell base views k q (getD cells (1 + q) 0) (getD marked (1 + q) 0)
-      go q l (yes e) = rw e (record { hides = λ h. absurd (f h); stays = λ h. m .rest p (omega arith) })
-      go q l (no n) = m .done q (omega arith)
+  marked-stays {p} {marked} m f =
+      record {
+        long = m .long;
+        table = m .table;
+        done =
+            below-more (λ q. MarkedCell base views k q (getD cells (1 + q) 0) (getD marked (1 + q) 0)) p (m .done)
+            (record { hides = λ h. absurd (f h); stays = λ h. m .rest p (omega arith) });
+        rest = λ q l. m .rest q (omega arith);
+      }
 
-  pub marked-hides : {p q : ℕ} {marked : List ℕ} → MarkedTo base views k cells p marked → 1 + p < length cells → laidTerm views k p .mark ≡ 3
-      → FirstAlike views k p q → MarkedTo base views k cells (p + 1) (set marked (1 + p) (base + variables + q))
-  marked-hides {p} {q} {marked} m b h a = record {
-    long = length-set marked (1 + p) x ∙ m .long;
-    table = getD-set-other marked (1 + p) 0 x 0 (λ z. omega arith) ∙ m .table;
-    done = λ j l. go j l (ℕ-discrete j p);
-    rest = λ j l. getD-set-other marked (1 + p) (1 + j) x 0 (λ z. omega arith) ∙ m .rest j (omega arith);
-  }
-    where
-      x : ℕ
-      x = base + variables + q
-
-      go : (j : ℕ) → j < p + 1 → Dec (j ≡ p) → MarkedCell base views k j (getD cells (1 + j) 0) (getD (set marked (1 + p) x) (1 + j) 0)
-      go j l (yes e) =
-          rw e
-          (record {
-            hides = λ z. (q, a, getD-set-same marked (1 + p) x 0 (omega (arith, b, m .long)));
-            stays = λ f. absurd (f h);
-          })
-      go j l (no n) =
-          subst (MarkedCell base views k j (getD cells (1 + j) 0))
-          (sym (getD-set-other marked (1 + p) (1 + j) x 0 (λ z. n (omega arith)))) (m .done j (omega arith))
-
--- ---- the marks of terms
-
-constant-mark : (c : ℕ) → termValue (constant c) .mark ≡ 3 → ⊥
-unfolding termValue kind
-constant-mark c e = omega arith
-
-shown-mark : (n : ℕ) → termValue (shown n) .mark ≡ 3 → ⊥
-unfolding termValue kind
-shown-mark n e = omega arith
-
-hidden-mark : (m : ℕ) → termValue (hidden m) .mark ≡ 3
-unfolding termValue kind
-hidden-mark m = refl
-
-unused-mark : unusedTerm .mark ≡ 3 → ⊥
-unfolding unusedTerm
-unused-mark e = omega arith
+  pub marked-hides : {p q : ℕ} {marked : List ℕ} → MarkedTo base views k cells p marked → 1 + p < length cells
+      → laidTerm views k p .mark ≡ 3 → FirstAlike views k p q → MarkedTo base views k cells (p + 1) (set marked (1 + p) (base + variables + q))
+  marked-hides {p} {q} {marked} m b h a =
+      let x = base + variables + q in
+      let other : (j : ℕ) → (j ≡ 1 + p → ⊥) → getD (set marked (1 + p) x) j 0 ≡ getD marked j 0 =
+      λ j f. getD-set-other marked (1 + p) j x 0 f in
+      record {
+        long = length-set marked (1 + p) x ∙ m .long;
+        table = other 0 (λ z. omega arith) ∙ m .table;
+        done =
+            below-more (λ j. MarkedCell base views k j (getD cells (1 + j) 0) (getD (set marked (1 + p) x) (1 + j) 0)) p
+            (λ j l. subst (MarkedCell base views k j (getD cells (1 + j) 0)) (sym (other (1 + j) (λ z. omega arith))) (m .done j l))
+            (record {
+              hides = λ z. (q, a, getD-set-same marked (1 + p) x 0 (omega (arith, b, m .long)));
+              stays = λ f. absurd (f h);
+            });
+        rest = λ j l. other (1 + j) (λ z. omega arith) ∙ m .rest j (omega arith);
+      }
 
 -- ---- all columns
 
 module _ {views : List ℕ} {k : ℕ} {cells : List ℕ} (v : Line) (r : Row) (beside : Beside views k v cells r) where
-  abbrev few : length (v .columns) ≤ mostColumns
-  few = beside .columns
-
   -- the first column of a hidden variable is the one that the code finds
   first-is : (p q m : ℕ) → p < length (v .columns) → at v p ≡ hidden m → FirstAlike views k p q → firstOf (v .columns) (hidden m) ≡ q
   first-is p q m l e a =
-      let there : (j : ℕ) → j < length (v .columns) → laidTerm views k j ≡ termValue (at v j) = laid-used v (beside .view) few in
-      let here : laidTerm views k p ≡ termValue (hidden m) = there p l ∙ ap termValue e in
+      let there = view-used v r beside in
+      let here = there p l ∙ ap termValue e in
       let inside : q < length (v .columns) = omega (arith, a .upto, l) in
       first-least (v .columns) (hidden m) q inside
       (value-same (at v q) (hidden m) (sym (there q inside) ∙ a .same ∙ here))
@@ -116,13 +89,13 @@ module _ {views : List ℕ} {k : ℕ} {cells : List ℕ} (v : Line) (r : Row) (b
 
   module _ {base : ℕ} (s h : ℕ → ℕ) (matched : row s h v ≡ r) (q x : ℕ) (c : MarkedCell base views k q (getD cells (1 + q) 0) x) where
     -- a cell that stays, where the view has no hidden variable
-    stayed : (t : TermValue) → laidTerm views k q ≡ t → (t .mark ≡ 3 → ⊥) → x ≡ cell r q
-    stayed t e f = c .stays (λ z. f (sym (ap (λ (u : TermValue). u .mark) e) ∙ z)) ∙ cell-is v r beside q
+    stayed : {t : TermValue} {n : ℕ} → laidTerm views k q ≡ t → t .mark ≡ n → (n ≡ 3 → ⊥) → x ≡ cell r q
+    stayed e f g = c .stays (λ z. g (sym f ∙ sym (ap (λ (u : TermValue). u .mark) e) ∙ z)) ∙ cell-is v r beside q
 
     by-kind : (t : Term) → q < length (v .columns) → at v q ≡ t → laidTerm views k q ≡ termValue t → cell r q ≡ value s h t
         → x ≡ value s (markBy base v) t
-    by-kind (constant n) l e is old = stayed (termValue (constant n)) is (constant-mark n) ∙ old
-    by-kind (shown n) l e is old = stayed (termValue (shown n)) is (shown-mark n) ∙ old
+    by-kind (constant n) l e is old = stayed is (constant-mark n) (λ z. omega arith) ∙ old
+    by-kind (shown n) l e is old = stayed is (shown-mark n) (λ z. omega arith) ∙ old
     by-kind (hidden m) l e is old =
         let (j, a, new) = c .hides (ap (λ (u : TermValue). u .mark) is ∙ hidden-mark m) in
         omega (arith, new, first-is q j m l e a)
@@ -132,14 +105,13 @@ module _ {views : List ℕ} {k : ℕ} {cells : List ℕ} (v : Line) (r : Row) (b
         ⊎-elim
         (λ w. by-kind (at v q) (w .0) refl (w .1) (sym (ap (λ (y : Row). cell y q) matched) ∙ row-cell s h v q (w .0))
         ∙ sym (row-cell s (markBy base v) v q (w .0)))
-        (λ w. stayed unusedTerm (w .1) unused-mark ∙ no-cell v r beside q (w .0)
-        ∙ sym (List·getD-eq-default (row s (markBy base v) v .columns) 0 (simp length-map (w .0))))
-        (laid-cases v (beside .view) few q b)
+        (λ w. stayed (w .1) unused-mark (λ z. omega arith) ∙ nothing-there v r beside q (w .0)
+        ∙ sym (no-value s (markBy base v) v q (w .0)))
+        (view-column v r beside q b)
 
 pub marked-all : {base : ℕ} {views : List ℕ} {k p : ℕ} {cells marked : List ℕ} → MarkedTo base views k cells p marked → mostColumns ≤ p
     → MarkedGiven base views k cells marked
 marked-all {base} {marked = marked} m past v r beside s h matched =
     cells-are marked (row s (markBy base v) v) (simp length-map (beside .columns))
-    (m .long ∙ ap length (beside .are) ∙ cells-long r (omega (arith, beside .columns, beside .width)))
-    (m .table ∙ ap (λ (l : List ℕ). getD l 0 0) (beside .are) ∙ table-at r ∙ sym (beside .table))
+    (m .long ∙ beside-long v r beside) (m .table ∙ beside-table v r beside ∙ sym (beside .table))
     (λ q b. marked-cell v r beside s h matched q _ (m .done q (omega arith)) b)
