@@ -43,7 +43,7 @@ returns c =
     eqb-false _ _ (not-true _ (c .if2 .taken))
     (ap (λ (t : Term). t .number) read
     ∙ match-constant v r beside m _ (at .before .before .loop-test .taken)
-    (ap (λ (t : Term). t .mark) (sym read) ∙ c .before .before .if1 .taken)))
+    (omega (arith, ap (λ (t : Term). t .mark) read, c .before .before .if1 .taken))))
 
 add-if3 : tie.Need-add-if3 Inv-loop μ-loop
 add-if3 c = omega (arith, c .before .before .first-column .ensures .upto)
@@ -67,7 +67,7 @@ returns-2 : tie.Need-returns-2 Inv-loop μ-loop
 returns-2 c =
     let at = c .before .before .before in
     not-matched (λ v r beside m.
-    c .if3 .taken (match-equal v r beside m _ (at .before .before .loop-test .taken) (at .first-column .ensures)))
+    c .if3 .taken (omega (arith, match-equal v r beside m _ (at .before .before .loop-test .taken) (at .first-column .ensures))))
 
 add-p : tie.Need-add-p Inv-loop μ-loop
 add-p c = omega arith
@@ -83,7 +83,7 @@ loop-again c =
       below-more _ _ (at .before .before .before .loop .inv .1) (record {
         constants = λ e.
             ⊎-elim (λ w. ap (λ (t : Term). t .number) (sym read) ∙ eqb-true _ _ (not-false _ (w .2 .left)))
-            (λ w. absurd (w .left (ap (λ (t : Term). t .mark) read ∙ e))) (c .before .if1 .came);
+            (λ w. absurd (w .left (omega (arith, e, ap (λ (t : Term). t .mark) read)))) (c .before .if1 .came);
         first = at .first-column .result;
         alike = at .first-column .ensures;
         equals = c .if3 .left;
