@@ -1,27 +1,26 @@
 -- A view beside a row, column by column: its constants stand in the row, and each cell is that of the first column with the same term.
-use mathlib.Core.Path.{_≡_, refl, sym, ap, subst, _∙_}
+use mathlib.Core.Path.{_≡_, refl, sym, ap, _∙_}
 use mathlib.Core.Logic.{⊎-elim}
 use mathlib.Core.Bool.{true, false, false≢true}
 use mathlib.Core.List.{List}
-use Prim.Native.Nat.{ℕ, _+_, _≤_, _<_}
+use Prim.Native.Nat.{ℕ, _+_, _<_}
 use native.Mathlib.Decide.{decLt}
 use native.Mathlib.Omega.{arith}
-use lib.ListN.{length, getD, List·getD-eq-default}
-use Rattle.theory.specs.Query.{Term, constant, shown, hidden, Line}
+use lib.ListN.{length, getD}
+use Rattle.theory.specs.Query.{Line}
 use Rattle.theory.specs.Archive.{Row}
 use Rattle.theory.specs.Cover.{at}
-use Rattle.theory.specs.Executable.Test.{kind, number}
-use Rattle.theory.proofs.Match.{cell, Matches, Matchable, matches, matchable}
+use Rattle.theory.proofs.Match.{Matches, matches, matchable}
 use Rattle.model.specs.Limits.{mostColumns}
-use Rattle.model.specs.Value.{unusedTerm, termValue}
+use Rattle.model.specs.Value.{termValue}
 use Rattle.model.specs.Rows.{laidTerm}
 use Rattle.model.specs.declared.Term.{Term as TermValue}
 use Rattle.model.proofs.Same.{same-term-iff}
 use Rattle.model.proofs.Values.{value-same}
 use Rattle.model.proofs.LineValues.{same-unused}
-use Rattle.freezing.specs.Rows.{FirstAlike, Beside, Matched, MatchGiven}
-use Rattle.freezing.proofs.RowCells.{cell-at}
-use Rattle.freezing.proofs.LineColumns.{laid-used, laid-cases}
+use Rattle.freezing.specs.Rows.{FirstAlike, Beside, MatchGiven}
+use Rattle.freezing.proofs.TermMarks.{unused-mark, constant-mark, constant-number, marked-constant}
+use Rattle.freezing.proofs.ViewBeside.{view-used, view-column, cell-is, nothing-there}
 
 -- ---- one column
 
@@ -42,52 +41,28 @@ alike-one {f = f} {g} e a b = go (decLt f g) (decLt g f)
     go (no n) (yes l) = absurd (a .least g l (b .same ∙ sym e))
     go (no n) (no m) = omega arith
 
--- mark 1 is a constant's
-constant-mark : (t : Term) → termValue t .mark ≡ 1 → t ≡ constant (termValue t .number)
-unfolding termValue kind number
-constant-mark (constant c) e = refl
-constant-mark (shown n) e = absurd (omega arith)
-constant-mark (hidden n) e = absurd (omega arith)
-
-constant-value : (c : ℕ) → (termValue (constant c) .mark ≡ 1) × (termValue (constant c) .number ≡ c)
-unfolding termValue kind number
-constant-value c = (refl, refl)
-
-unused-mark : unusedTerm .mark ≡ 1 → ⊥
-unfolding unusedTerm
-unused-mark e = omega arith
-
 -- ---- a view and a row
 
 module _ {views : List ℕ} {k : ℕ} {cells : List ℕ} (v : Line) (r : Row) (beside : Beside views k v cells r) where
-  abbrev few : length (v .columns) ≤ mostColumns
-  few = beside .columns
-
-  pub cell-is : (p : ℕ) → getD cells (1 + p) 0 ≡ cell r p
-  cell-is p = ap (λ (l : List ℕ). getD l (1 + p) 0) (beside .are) ∙ cell-at r p
-
-  -- past the columns the cells are 0
-  pub no-cell : (p : ℕ) → length (v .columns) ≤ p → cell r p ≡ 0
-  no-cell p h = List·getD-eq-default (r .columns) 0 (omega (arith, h, beside .width))
-
   all-match : ((p : ℕ) → p < mostColumns → Allowed views k cells p) → Matches v r
   all-match f =
+      let inside : (p : ℕ) → p < length (v .columns) → p < mostColumns = λ p l. omega (arith, beside .columns, l) in
       matches v r
       (record {
         table = beside .table;
         width = beside .width;
         constants = λ p c l e.
-            let is = laid-used v (beside .view) few p l ∙ ap termValue e in
-            let known = constant-value c in
-            sym (cell-is p)
-            ∙ sym (f p (omega (arith, few)) .constants (ap (λ (t : TermValue). t .mark) is ∙ known .0))
-            ∙ ap (λ (t : TermValue). t .number) is ∙ known .1;
+            let is = view-used v r beside p l ∙ ap termValue e in
+            sym (cell-is v r beside p)
+            ∙ sym (f p (inside p l) .constants (ap (λ (t : TermValue). t .mark) is ∙ constant-mark c))
+            ∙ ap (λ (t : TermValue). t .number) is ∙ constant-number c;
         equals = λ p q l m e.
-            let a = f p (omega (arith, few)) in
-            let b = f q (omega (arith, few)) in
-            let same = laid-used v (beside .view) few p l ∙ ap termValue e ∙ sym (laid-used v (beside .view) few q m) in
-            sym (cell-is p) ∙ sym (a .equals)
-            ∙ ap (λ (i : ℕ). getD cells (1 + i) 0) (alike-one same (a .alike) (b .alike)) ∙ b .equals ∙ cell-is q;
+            let a = f p (inside p l) in
+            let b = f q (inside q m) in
+            let same = view-used v r beside p l ∙ ap termValue e ∙ sym (view-used v r beside q m) in
+            sym (cell-is v r beside p) ∙ sym (a .equals)
+            ∙ ap (λ (i : ℕ). getD cells (1 + i) 0) (alike-one same (a .alike) (b .alike))
+            ∙ b .equals ∙ cell-is v r beside q;
       })
 
   module _ (m : Matches v r) (p : ℕ) (b : p < mostColumns) where
@@ -95,25 +70,24 @@ module _ {views : List ℕ} {k : ℕ} {cells : List ℕ} (v : Line) (r : Row) (b
     pub match-constant : laidTerm views k p .mark ≡ 1 → laidTerm views k p .number ≡ getD cells (1 + p) 0
     match-constant e =
         ⊎-elim
-        (λ w. let c = constant-mark (at v p) (sym (ap (λ (t : TermValue). t .mark) (w .1)) ∙ e) in
-        ap (λ (t : TermValue). t .number) (w .1) ∙ sym (matchable v r m .constants p _ (w .0) c) ∙ sym (cell-is p))
-        (λ w. absurd (unused-mark (sym (ap (λ (t : TermValue). t .mark) (w .1)) ∙ e)))
-        (laid-cases v (beside .view) few p b)
+        (λ w. let c = marked-constant (at v p) (sym (ap (λ (t : TermValue). t .mark) (w .1)) ∙ e) in
+        ap (λ (t : TermValue). t .number) (w .1) ∙ sym (matchable v r m .constants p _ (w .0) c) ∙ sym (cell-is v r beside p))
+        (λ w. absurd (omega (arith, unused-mark, e, ap (λ (t : TermValue). t .mark) (w .1))))
+        (view-column v r beside p b)
 
     -- the cells of a column and of the first that is like it are the same
     pub match-equal : {q : ℕ} → FirstAlike views k p q → getD cells (1 + q) 0 ≡ getD cells (1 + p) 0
     match-equal {q} a =
-        cell-is q
+        cell-is v r beside q
         ∙ ⊎-elim
         (λ w. let l : q < length (v .columns) = omega (arith, a .upto, w .0) in
         matchable v r m .equals q p l (w .0)
-        (value-same (at v q) (at v p) (sym (laid-used v (beside .view) few q l) ∙ a .same ∙ w .1)))
-        (λ w. ⊎-elim
-        (λ u. absurd (same-unused (at v q) (same-term-iff _ _ .1 (sym (u .1) ∙ a .same ∙ w .1))))
-        (λ u. no-cell q (u .0) ∙ sym (no-cell p (w .0)))
-        (laid-cases v (beside .view) few q (omega (arith, a .upto, b))))
-        (laid-cases v (beside .view) few p b)
-        ∙ sym (cell-is p)
+        (value-same (at v q) (at v p) (sym (view-used v r beside q l) ∙ a .same ∙ w .1)))
+        (λ w. ⊎-elim (λ u. absurd (same-unused (at v q) (same-term-iff _ _ .1 (sym (u .1) ∙ a .same ∙ w .1))))
+        (λ u. nothing-there v r beside q (u .0) ∙ sym (nothing-there v r beside p (w .0)))
+        (view-column v r beside q (omega (arith, a .upto, b))))
+        (view-column v r beside p b)
+        ∙ sym (cell-is v r beside p)
 
 -- ---- the answer
 

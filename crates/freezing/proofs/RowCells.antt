@@ -4,13 +4,23 @@ use mathlib.Core.List.{List}
 use Prim.Native.Nat.{ℕ, zero, suc, _+_, _≤_, _<_}
 use native.Mathlib.Numerals.{one-add}
 use native.Mathlib.Omega.{arith}
-use lib.ListN.{length, getD}
+use lib.ListN.{length, getD, length-map, List·getD-eq-default}
 use lib.Seq.{ext-getD}
-use Rattle.theory.specs.Archive.{Row}
+use Rattle.theory.specs.Query.{Line}
+use Rattle.theory.specs.Archive.{Row, row}
 use Rattle.theory.proofs.Match.{cell}
 use Rattle.model.specs.Limits.{mostColumns}
 use Rattle.model.proofs.Pad.{pad-length, pad-get}
 use Rattle.freezing.specs.Cells.{rowCells, cellsOf}
+
+-- past its columns a row has nothing
+pub no-cell : (r : Row) (p : ℕ) → length (r .columns) ≤ p → cell r p ≡ 0
+no-cell r p h = List·getD-eq-default (r .columns) 0 h
+
+pub no-value : (s h : ℕ → ℕ) (A : Line) (p : ℕ) → length (A .columns) ≤ p → cell (row s h A) p ≡ 0
+no-value s h A p l = no-cell (row s h A) p (simp length-map l)
+
+-- ---- nine numbers
 
 pub cells-long : (r : Row) → length (r .columns) ≤ mostColumns → length (cellsOf r) ≡ rowCells
 unfolding cellsOf

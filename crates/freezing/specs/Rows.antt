@@ -8,7 +8,7 @@ use lib.ListN.{length}
 use Rattle.theory.specs.Query.{Line, _∈_, shown, hidden}
 use Rattle.theory.specs.Archive.{Row, row}
 use Rattle.theory.proofs.Match.{Matches}
-use Rattle.theory.proofs.Determine.Block.{frozenRow, markBy}
+use Rattle.theory.proofs.Determine.Block.{variables, frozenRow, markBy}
 use Rattle.model.specs.Limits.{mostColumns, lastVariable}
 use Rattle.model.specs.Rows.{laidTerm, LaidAt}
 use Rattle.model.specs.Value.{lineValue}
@@ -62,6 +62,11 @@ pub record Matched (v : Line) (r : Row) (b : Bool) : Type 0 where
 
 abbrev pub MatchGiven : List ℕ → ℕ → List ℕ → Bool → Type 0
 MatchGiven views k cells b = (v : Line) (r : Row) → Beside views k v cells r → Matched v r b
+
+-- what becomes of the value under a view's term that stands first in column q
+pub record CellMarked (base : ℕ) (t : Term) (q old new : ℕ) : Type 0 where
+  pub hides : t .mark ≡ 3 → new ≡ base + variables + q
+  pub stays : (t .mark ≡ 3 → ⊥) → new ≡ old
 
 -- the view's row again, its hidden variables marked
 abbrev pub MarkedGiven : ℕ → List ℕ → ℕ → List ℕ → List ℕ → Type 0

@@ -3,9 +3,9 @@
 ghost use mathlib.Core.Path.{_≡_};
 ghost use Prim.Native.Nat.{_<_, _≤_};
 ghost use Rattle.model.specs.Limits.{mostColumns};
-ghost use Rattle.model.specs.Rows.{HasRow, laidTerm};
+ghost use Rattle.model.specs.Rows.{HasRow};
 ghost use Rattle.freezing.specs.Blocks.{lastBase};
-ghost use Rattle.freezing.specs.Rows.{frozenTerm, SmallTerm, SomeLine, LineFrozen, FirstAlike, MatchGiven, MarkedGiven};
+ghost use Rattle.freezing.specs.Rows.{frozenTerm, SmallTerm, SomeLine, LineFrozen, FirstAlike, MatchGiven, CellMarked, MarkedGiven};
 use crate::blocks::VARIABLES;
 use model::CONSTANT;
 use model::HIDDEN;
@@ -83,6 +83,17 @@ pub fn matches(views: &[u64], k: usize, cells: Cells) -> bool
     true
 }
 
+// What becomes of a cell under a view's term that stands first in column q: a hidden variable has that column's mark.
+fn marked_cell(base: u64, t: Term, q: usize, cell: u64) -> u64
+    requires { ⌜ (base ≤ lastBase) × (q < mostColumns) ⌝ }
+    ensures { λ r. ⌜ CellMarked base t q cell r ⌝ }
+{
+    if t.mark == HIDDEN {
+        return base + VARIABLES + q as u64;
+    }
+    cell
+}
+
 // The row with a mark wherever the view in row k has a hidden variable: that of the variable's first column.
 pub fn marked_row(base: u64, views: &[u64], k: usize, cells: Cells) -> Cells
     requires { ⌜ (base ≤ lastBase) × HasRow (now views) k ⌝ }
@@ -92,10 +103,8 @@ pub fn marked_row(base: u64, views: &[u64], k: usize, cells: Cells) -> Cells
     let mut p = 0;
     while p < MOST_COLUMNS {
         let t = model::term_at(views, k, p);
-        if t.mark == HIDDEN {
-            let q = first_column(views, k, p);
-            marked[1 + p] = base + VARIABLES + q as u64;
-        }
+        let q = first_column(views, k, p);
+        marked[1 + p] = marked_cell(base, t, q, cells[1 + p]);
         p += 1;
     }
     marked

@@ -1,20 +1,17 @@
 -- `marked_row`: the cells before that of column `p` are marked.
-use mathlib.Core.Path.{sym, ap, _∙_}
-use mathlib.Core.Logic.{⊎-elim}
 use Prim.Native.Nat.{_-_, _≤_}
 use native.Mathlib.Omega.{arith}
 use borrow.Author.Needs.{needs}
 use Rattle.model.specs.Limits.{mostColumns}
-use Rattle.model.specs.declared.Term.{Term}
-use Rattle.freezing.proofs.MarkedCells.{MarkedTo, marked-none, marked-stays, marked-hides, marked-all}
+use Rattle.freezing.proofs.MarkedCells.{MarkedTo, marked-none, marked-more, marked-all}
 use Rattle.freezing.proofs.rows.marked_row.Statement.{statement}
 use Rattle.freezing.proofs.rows.marked_row.Tie as tie
 
 abbrev Inv-loop : tie.InvT-loop
-Inv-loop base views k marked₀ p₀ marked p = (p ≤ mostColumns) × MarkedTo base views k marked₀ p marked
+Inv-loop base views k cells marked₀ p₀ marked p = (p ≤ mostColumns) × MarkedTo base views k cells p marked
 
 abbrev μ-loop : tie.MeasureT-loop
-μ-loop base views k marked₀ p₀ marked p = mostColumns - p
+μ-loop base views k cells marked₀ p₀ marked p = mostColumns - p
 
 loop-holds : tie.Need-loop-holds Inv-loop μ-loop
 loop-holds c = (omega arith, marked-none)
@@ -23,16 +20,22 @@ term-at-requires : tie.Need-term-at-requires Inv-loop μ-loop
 term-at-requires c κs = (c .before .before .before .pre .1, omega arith)
 
 first-column-requires : tie.Need-first-column-requires Inv-loop μ-loop
-first-column-requires c κs = (c .before .before .before .before .before .before .pre .1, omega arith)
+first-column-requires c κs = (c .before .before .before .before .pre .1, omega arith)
+
+add-marked-cell : tie.Need-add-marked-cell Inv-loop μ-loop
+add-marked-cell c = omega arith
+
+mul-marked-cell : tie.Need-mul-marked-cell Inv-loop μ-loop
+mul-marked-cell c = omega arith
+
+array-read-marked-cell : tie.Need-array-read-marked-cell Inv-loop μ-loop
+array-read-marked-cell c = omega arith
+
+marked-cell-requires : tie.Need-marked-cell-requires Inv-loop μ-loop
+marked-cell-requires c κs = (omega arith, omega (arith, c .first-column .ensures .upto))
 
 add-marked : tie.Need-add-marked Inv-loop μ-loop
 add-marked c = omega arith
-
-add-marked-2 : tie.Need-add-marked-2 Inv-loop μ-loop
-add-marked-2 c = omega (arith, c .first-column .ensures .upto)
-
-add-marked-3 : tie.Need-add-marked-3 Inv-loop μ-loop
-add-marked-3 c = omega arith
 
 mul-marked : tie.Need-mul-marked Inv-loop μ-loop
 mul-marked c = omega arith
@@ -48,13 +51,10 @@ loop-less c = omega arith
 
 loop-again : tie.Need-loop-again Inv-loop μ-loop
 loop-again c =
-    let at = c .before .before in
-    let read = at .term-at .ensures in
-    let inv = at .before .before .loop .inv .1 in (
+    let at = c .before .before in (
       omega arith,
-      ⊎-elim
-          (λ w. rw (w .2) (marked-hides inv (search needs) (ap (λ (t : Term). t .mark) (sym read) ∙ w .0 .taken) (w .1 .ensures)))
-          (λ w. rw (w .1) (marked-stays inv (λ e. w .0 .left (ap (λ (t : Term). t .mark) read ∙ e)))) (c .if1 .came),
+      marked-more (at .before .before .loop .inv .1) (search needs) (at .term-at .ensures) (c .before .first-column .ensures)
+          (c .marked-cell .ensures),
     )
 
 returns : tie.Need-returns Inv-loop μ-loop
@@ -69,9 +69,11 @@ marked-row-spec =
     loop-holds
     term-at-requires
     first-column-requires
+    add-marked-cell
+    mul-marked-cell
+    array-read-marked-cell
+    marked-cell-requires
     add-marked
-    add-marked-2
-    add-marked-3
     mul-marked
     array-write-marked
     add-p

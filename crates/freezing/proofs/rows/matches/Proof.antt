@@ -4,7 +4,6 @@ use mathlib.Core.Logic.{⊎-elim}
 use Prim.Native.Nat.{ℕ, _-_, _≤_, _<_}
 use native.Mathlib.Omega.{arith}
 use borrow.Author.Count.{below-none, below-more}
-use borrow.Author.Needs.{needs}
 use borrow.Author.Tests.{eqb-true, eqb-false, not-true, not-false}
 use Rattle.model.specs.Limits.{mostColumns}
 use Rattle.model.specs.declared.Term.{Term}
@@ -34,7 +33,7 @@ mul-if2 : tie.Need-mul-if2 Inv-loop μ-loop
 mul-if2 c = omega arith
 
 array-read-if2 : tie.Need-array-read-if2 Inv-loop μ-loop
-array-read-if2 c = search needs
+array-read-if2 c = omega arith
 
 returns : tie.Need-returns Inv-loop μ-loop
 returns c =
@@ -44,7 +43,7 @@ returns c =
     eqb-false _ _ (not-true _ (c .if2 .taken))
     (ap (λ (t : Term). t .number) read
     ∙ match-constant v r beside m _ (at .before .before .loop-test .taken)
-    (ap (λ (t : Term). t .mark) (sym read) ∙ c .before .before .if1 .taken)))
+    (omega (arith, ap (λ (t : Term). t .mark) read, c .before .before .if1 .taken))))
 
 add-if3 : tie.Need-add-if3 Inv-loop μ-loop
 add-if3 c = omega (arith, c .before .before .first-column .ensures .upto)
@@ -67,7 +66,8 @@ array-read-if3-2 c = omega arith
 returns-2 : tie.Need-returns-2 Inv-loop μ-loop
 returns-2 c =
     let at = c .before .before .before in
-    not-matched (λ v r beside m. c .if3 .taken (match-equal v r beside m _ (at .before .before .loop-test .taken) (at .first-column .ensures)))
+    not-matched (λ v r beside m.
+    c .if3 .taken (omega (arith, match-equal v r beside m _ (at .before .before .loop-test .taken) (at .first-column .ensures))))
 
 add-p : tie.Need-add-p Inv-loop μ-loop
 add-p c = omega arith
@@ -83,7 +83,7 @@ loop-again c =
       below-more _ _ (at .before .before .before .loop .inv .1) (record {
         constants = λ e.
             ⊎-elim (λ w. ap (λ (t : Term). t .number) (sym read) ∙ eqb-true _ _ (not-false _ (w .2 .left)))
-            (λ w. absurd (w .left (ap (λ (t : Term). t .mark) read ∙ e))) (c .before .if1 .came);
+            (λ w. absurd (w .left (omega (arith, e, ap (λ (t : Term). t .mark) read)))) (c .before .if1 .came);
         first = at .first-column .result;
         alike = at .first-column .ensures;
         equals = c .if3 .left;
