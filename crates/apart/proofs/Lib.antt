@@ -6,3 +6,5 @@ pub mod OtherLines
 -- The rows that keep what views show.
 pub mod TableViews
 pub mod MarkedRows
+-- The rows of the lines.
+pub mod FrozenLines

@@ -1,12 +1,11 @@
 // The rows of both archives: the odd row, the other lines of the reduced query, and the marked rows.
 
 ghost use mathlib.Core.Path.{_≡_};
-ghost use Prim.Native.Nat.{_<_, _≤_};
+ghost use Prim.Native.Nat.{_≤_};
 ghost use lib.ListN.{length};
-ghost use Rattle.model.specs.Limits.{mostPartitions};
 ghost use Rattle.model.specs.Rows.{queryRowsLong};
 ghost use Rattle.freezing.specs.Blocks.{lastBase};
-ghost use Rattle.apart.specs.Writing.{SomeLines, LinesPut, SomeOdd, ArchivesPut};
+ghost use Rattle.apart.specs.Writing.{Wide, SomeLines, LinesPut, SomeOdd, ArchivesPut};
 use crate::buffer::put_row;
 use crate::marking::put_marked;
 use covering::Prepared;
@@ -14,7 +13,7 @@ use model::QueryRows;
 
 // The lines of a word, of n lines, each as a row, behind the one row that is there. How many rows there are then.
 fn put_lines(base: u64, n: usize, lines: &QueryRows, others: u64, out: &mut [u64]) -> usize
-    requires { ⌜ (base ≤ lastBase) × SomeLines n (now lines) × (length (now lines) ≡ queryRowsLong) × Roomy (n + 1) (now out) ⌝ }
+    requires { ⌜ (base ≤ lastBase) × SomeLines n (now lines) × (length (now lines) ≡ queryRowsLong) × Wide (now out) ⌝ }
     ensures { λ r. ⌜ LinesPut base n (now (lines .entry)) others (now (out .entry)) (now (out .exit)) r ⌝ }
 {
     let mut count = 1;
