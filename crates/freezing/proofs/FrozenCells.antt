@@ -3,9 +3,9 @@ use mathlib.Core.Path.{_≡_, refl, sym, ap, _∙_}
 use mathlib.Core.Logic.{⊎-elim}
 use mathlib.Core.List.{List, Memᴰ·cast}
 use Prim.Native.Nat.{ℕ, _+_, _≤_, _<_}
-use native.Mathlib.Decide.{ℕ-discrete}
 use native.Mathlib.Omega.{arith}
-use lib.ListN.{length, getD, set, length-set, length-map, List·getD-eq-default}
+use borrow.Author.Count.{below-more}
+use lib.ListN.{length, getD, set, length-set, length-map}
 use lib.Seq.{getD-set-same, getD-set-other}
 use Rattle.theory.specs.Query.{Term, constant, shown, hidden, Line, _∈_}
 use Rattle.theory.specs.Archive.{value}
@@ -17,10 +17,10 @@ use Rattle.theory.proofs.Determine.Block.{frozenRow}
 use Rattle.model.specs.Limits.{mostColumns, lastVariable}
 use Rattle.model.specs.Value.{unusedTerm, termValue, lineValue}
 use Rattle.model.specs.Rows.{laidTable, laidTerm}
-use Rattle.freezing.specs.Cells.{rowCells, cellsOf}
-use Rattle.freezing.specs.Rows.{frozenTerm, SmallTerm, HasLine, SomeLine, LineFrozen}
-use Rattle.freezing.proofs.RowCells.{cells-are}
-use Rattle.freezing.proofs.LineColumns.{laid-cases}
+use Rattle.freezing.specs.Cells.{rowCells}
+use Rattle.freezing.specs.Rows.{frozenTerm, SmallTerm, HasLine, LineFrozen}
+use Rattle.freezing.proofs.RowCells.{no-value, cells-are}
+use Rattle.freezing.proofs.LineColumns.{laid-column}
 
 -- ---- terms
 
@@ -54,15 +54,14 @@ module _ (lines : List ℕ) (i : ℕ) (A : Line) (has : HasLine lines i A) where
       (λ w. let here : at A p ∈ A .columns = getD-mem (A .columns) p (constant 0) (w .0) in
       rw (w .1) (small-value (at A p) (λ n e. has .small-shown n (Memᴰ·cast (sym e) here))
       (λ n e. has .small-hidden n (Memᴰ·cast (sym e) here))))
-      (λ w. rw (w .1) small-unused) (laid-cases A (has .line) (has .columns) p b)
+      (λ w. rw (w .1) small-unused) (laid-column A (has .line) (has .columns) p b)
 
   frozen-cell : (base p : ℕ) → p < mostColumns → frozenTerm base (laidTerm lines i p) ≡ cell (frozenRow base A) p
   frozen-cell base p b =
       let s : ℕ → ℕ = λ n. base + n in
       ⊎-elim (λ w. ap (frozenTerm base) (w .1) ∙ frozen-value base (at A p) ∙ sym (row-cell s s A p (w .0)))
-      (λ w. ap (frozenTerm base) (w .1) ∙ frozen-unused base
-      ∙ sym (List·getD-eq-default (frozenRow base A .columns) 0 (simp length-map (w .0))))
-      (laid-cases A (has .line) (has .columns) p b)
+      (λ w. ap (frozenTerm base) (w .1) ∙ frozen-unused base ∙ sym (no-value s s A p (w .0)))
+      (laid-column A (has .line) (has .columns) p b)
 
 -- ---- the cells, column by column
 
@@ -75,15 +74,15 @@ pub record FrozenTo (base : ℕ) (lines : List ℕ) (i p : ℕ) (cells : List �
 module _ {base : ℕ} {lines : List ℕ} {i : ℕ} where
   pub frozen-more : {p x : ℕ} {cells : List ℕ} → FrozenTo base lines i p cells → p < mostColumns → x ≡ frozenTerm base (laidTerm lines i p)
       → FrozenTo base lines i (p + 1) (set cells (1 + p) x)
-  frozen-more {p} {x} {cells} f b e = record {
-    long = length-set cells (1 + p) x ∙ f .long;
-    table = getD-set-other cells (1 + p) 0 x 0 (λ z. omega arith) ∙ f .table;
-    columns = λ q l. go q l (ℕ-discrete q p);
-  }
-    where
-      go : (q : ℕ) → q < p + 1 → Dec (q ≡ p) → getD (set cells (1 + p) x) (1 + q) 0 ≡ frozenTerm base (laidTerm lines i q)
-      go q l (yes z) = rw z (getD-set-same cells (1 + p) x 0 (omega (arith, f .long)) ∙ e)
-      go q l (no n) = getD-set-other cells (1 + p) (1 + q) x 0 (λ z. n (omega arith)) ∙ f .columns q (omega arith)
+  frozen-more {p} {x} {cells} f b e =
+      record {
+        long = length-set cells (1 + p) x ∙ f .long;
+        table = getD-set-other cells (1 + p) 0 x 0 (λ z. omega arith) ∙ f .table;
+        columns =
+            below-more (λ q. getD (set cells (1 + p) x) (1 + q) 0 ≡ frozenTerm base (laidTerm lines i q)) p
+            (λ q l. getD-set-other cells (1 + p) (1 + q) x 0 (λ z. omega arith) ∙ f .columns q l)
+            (getD-set-same cells (1 + p) x 0 (omega (arith, f .long)) ∙ e);
+      }
 
   pub frozen-all : {p : ℕ} {cells : List ℕ} → FrozenTo base lines i p cells → mostColumns ≤ p → LineFrozen base lines i cells
   unfolding lineValue

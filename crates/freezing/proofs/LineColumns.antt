@@ -13,21 +13,19 @@ use Rattle.model.specs.Value.{unusedTerm, termValue, lineValue}
 use Rattle.model.specs.Rows.{laidTerm, LaidAt}
 use Rattle.model.proofs.LineValues.{used, unused}
 
+-- column p of row k has a term of the line, or is unused
+abbrev pub LineColumn : List ℕ → ℕ → Line → ℕ → Type 0
+LineColumn rows k A p =
+    ((p < length (A .columns)) × (laidTerm rows k p ≡ termValue (at A p)))
+    ⊎ ((length (A .columns) ≤ p) × (laidTerm rows k p ≡ unusedTerm))
+
 module _ {rows : List ℕ} {k : ℕ} (A : Line) (laid : LaidAt rows k (lineValue A)) (few : length (A .columns) ≤ mostColumns) where
   pub laid-used : (p : ℕ) → p < length (A .columns) → laidTerm rows k p ≡ termValue (at A p)
   laid-used p h = laid .term p (omega arith) ∙ used A few p h
 
-  pub laid-unused : (p : ℕ) → p < mostColumns → length (A .columns) ≤ p → laidTerm rows k p ≡ unusedTerm
-  laid-unused p b h = laid .term p b ∙ unused A few p h
-
-  -- a column has a term of the line, or is unused
-  pub laid-cases : (p : ℕ) → p < mostColumns
-      → ((p < length (A .columns)) × (laidTerm rows k p ≡ termValue (at A p)))
-      ⊎ ((length (A .columns) ≤ p) × (laidTerm rows k p ≡ unusedTerm))
-  laid-cases p b = go (decLt p (length (A .columns)))
+  pub laid-column : (p : ℕ) → p < mostColumns → LineColumn rows k A p
+  laid-column p b = go (decLt p (length (A .columns)))
     where
-      go : Dec (p < length (A .columns))
-          → ((p < length (A .columns)) × (laidTerm rows k p ≡ termValue (at A p)))
-          ⊎ ((length (A .columns) ≤ p) × (laidTerm rows k p ≡ unusedTerm))
+      go : Dec (p < length (A .columns)) → LineColumn rows k A p
       go (yes h) = inl (h, laid-used p h)
-      go (no f) = inr (omega arith, laid-unused p b (omega arith))
+      go (no f) = inr (omega arith, laid .term p b ∙ unused A few p (omega arith))

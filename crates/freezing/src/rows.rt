@@ -3,7 +3,7 @@
 ghost use mathlib.Core.Path.{_≡_};
 ghost use Prim.Native.Nat.{_<_, _≤_};
 ghost use Rattle.model.specs.Limits.{mostColumns};
-ghost use Rattle.model.specs.Rows.{HasRow, laidTerm};
+ghost use Rattle.model.specs.Rows.{HasRow};
 ghost use Rattle.freezing.specs.Blocks.{lastBase};
 ghost use Rattle.freezing.specs.Rows.{frozenTerm, SmallTerm, SomeLine, LineFrozen, FirstAlike, MatchGiven, MarkedGiven};
 use crate::blocks::VARIABLES;

@@ -58,9 +58,7 @@ loop-again c =
     )
 
 returns-2 : tie.Need-returns-2 Inv-loop μ-loop
-returns-2 c =
-    let e : c .before .loop .q ≡ c .before .before .before .before .args .p = omega arith in
-    record { upto = omega arith; same = refl; least = λ j l. c .before .loop .inv .1 j (omega arith) }
+returns-2 c = record { upto = omega arith; same = refl; least = λ j l. c .before .loop .inv .1 j (omega arith) }
 
 pub first-column-spec : {M : Type 1} → statement M
 first-column-spec =

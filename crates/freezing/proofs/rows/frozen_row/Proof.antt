@@ -2,7 +2,6 @@
 use mathlib.Core.Path.{refl, ap, _∙_}
 use Prim.Native.Nat.{_-_, _≤_}
 use native.Mathlib.Omega.{arith}
-use borrow.Author.Needs.{needs}
 use Rattle.model.specs.Limits.{mostColumns}
 use Rattle.freezing.specs.Rows.{frozenTerm}
 use Rattle.freezing.proofs.FrozenCells.{FrozenTo, small-term, frozen-more, frozen-all}
@@ -19,7 +18,7 @@ table-at-requires : tie.Need-table-at-requires Inv-loop μ-loop
 table-at-requires c κs = c .before .pre .1
 
 array-write-cells : tie.Need-array-write-cells Inv-loop μ-loop
-array-write-cells c = search needs
+array-write-cells c = omega arith
 
 loop-holds : tie.Need-loop-holds Inv-loop μ-loop
 loop-holds c = (omega arith, record { long = refl; table = c .table-at .ensures; columns = λ q l. absurd (omega arith) })
@@ -40,7 +39,7 @@ mul-cells : tie.Need-mul-cells Inv-loop μ-loop
 mul-cells c = omega arith
 
 array-write-cells-2 : tie.Need-array-write-cells-2 Inv-loop μ-loop
-array-write-cells-2 c = search needs
+array-write-cells-2 c = omega arith
 
 add-p : tie.Need-add-p Inv-loop μ-loop
 add-p c = omega arith

@@ -1,63 +1,64 @@
+-- `marked_row`: the cells before that of column `p` are marked.
+use mathlib.Core.Path.{sym, ap, _∙_}
+use mathlib.Core.Logic.{⊎-elim}
+use Prim.Native.Nat.{_-_, _≤_}
+use native.Mathlib.Omega.{arith}
+use borrow.Author.Needs.{needs}
+use Rattle.model.specs.Limits.{mostColumns}
+use Rattle.model.specs.declared.Term.{Term}
+use Rattle.freezing.proofs.MarkedCells.{MarkedTo, marked-none, marked-stays, marked-hides, marked-all}
 use Rattle.freezing.proofs.rows.marked_row.Statement.{statement}
 use Rattle.freezing.proofs.rows.marked_row.Tie as tie
-use Rattle.freezing.proofs.rows.marked_row.Reads as reads
-use Rattle.freezing.proofs.rows.marked_row.Lts as lts
-use Rattle.freezing.proofs.rows.first_column.Reads as first-column-reads
-use Rattle.model.proofs.term_at.Reads as term-at-reads
 
 abbrev Inv-loop : tie.InvT-loop
-Inv-loop base views k marked₀ p₀ marked p = ?
+Inv-loop base views k marked₀ p₀ marked p = (p ≤ mostColumns) × MarkedTo base views k marked₀ p marked
 
 abbrev μ-loop : tie.MeasureT-loop
-μ-loop base views k marked₀ p₀ marked p = ?
+μ-loop base views k marked₀ p₀ marked p = mostColumns - p
 
--- src/rows.rt:93:5
 loop-holds : tie.Need-loop-holds Inv-loop μ-loop
-loop-holds c = ?
+loop-holds c = (omega arith, marked-none)
 
--- src/rows.rt:94:13
 term-at-requires : tie.Need-term-at-requires Inv-loop μ-loop
-term-at-requires c κs = ?
+term-at-requires c κs = (c .before .before .before .pre .1, omega arith)
 
--- src/rows.rt:96:17
 first-column-requires : tie.Need-first-column-requires Inv-loop μ-loop
-first-column-requires c κs = ?
+first-column-requires c κs = (c .before .before .before .before .before .before .pre .1, omega arith)
 
--- src/rows.rt:97:29
 add-marked : tie.Need-add-marked Inv-loop μ-loop
-add-marked c = ?
+add-marked c = omega arith
 
--- src/rows.rt:97:29
 add-marked-2 : tie.Need-add-marked-2 Inv-loop μ-loop
-add-marked-2 c = ?
+add-marked-2 c = omega (arith, c .first-column .ensures .upto)
 
--- src/rows.rt:97:20
 add-marked-3 : tie.Need-add-marked-3 Inv-loop μ-loop
-add-marked-3 c = ?
+add-marked-3 c = omega arith
 
--- src/rows.rt:97:13
 mul-marked : tie.Need-mul-marked Inv-loop μ-loop
-mul-marked c = ?
+mul-marked c = omega arith
 
--- src/rows.rt:97:13
 array-write-marked : tie.Need-array-write-marked Inv-loop μ-loop
-array-write-marked c = ?
+array-write-marked c = omega arith
 
--- src/rows.rt:99:9
 add-p : tie.Need-add-p Inv-loop μ-loop
-add-p c = ?
+add-p c = omega arith
 
--- src/rows.rt:93:5
 loop-less : tie.Need-loop-less Inv-loop μ-loop
-loop-less c = ?
+loop-less c = omega arith
 
--- src/rows.rt:93:5
 loop-again : tie.Need-loop-again Inv-loop μ-loop
-loop-again c = ?
+loop-again c =
+    let at = c .before .before in
+    let read = at .term-at .ensures in
+    let inv = at .before .before .loop .inv .1 in (
+      omega arith,
+      ⊎-elim
+          (λ w. rw (w .2) (marked-hides inv (search needs) (ap (λ (t : Term). t .mark) (sym read) ∙ w .0 .taken) (w .1 .ensures)))
+          (λ w. rw (w .1) (marked-stays inv (λ e. w .0 .left (ap (λ (t : Term). t .mark) read ∙ e)))) (c .if1 .came),
+    )
 
--- src/rows.rt:87:1
 returns : tie.Need-returns Inv-loop μ-loop
-returns c = ?
+returns c = marked-all (c .before .loop .inv .1) (omega arith)
 
 pub marked-row-spec : {M : Type 1} → statement M
 marked-row-spec =

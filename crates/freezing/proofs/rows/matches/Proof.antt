@@ -1,87 +1,97 @@
+-- `matches`: the columns before `p` allow their cells.
+use mathlib.Core.Path.{sym, ap, _∙_}
+use mathlib.Core.Logic.{⊎-elim}
+use Prim.Native.Nat.{ℕ, _-_, _≤_, _<_}
+use native.Mathlib.Omega.{arith}
+use borrow.Author.Count.{below-none, below-more}
+use borrow.Author.Tests.{eqb-true, eqb-false, not-true, not-false}
+use Rattle.model.specs.Limits.{mostColumns}
+use Rattle.model.specs.declared.Term.{Term}
+use Rattle.freezing.proofs.MatchedColumns.{Allowed, match-constant, match-equal, is-matched, not-matched}
 use Rattle.freezing.proofs.rows.matches.Statement.{statement}
 use Rattle.freezing.proofs.rows.matches.Tie as tie
-use Rattle.freezing.proofs.rows.matches.Reads as reads
-use Rattle.freezing.proofs.rows.matches.Lts as lts
-use Rattle.freezing.proofs.rows.first_column.Reads as first-column-reads
-use Rattle.model.proofs.term_at.Reads as term-at-reads
 
 abbrev Inv-loop : tie.InvT-loop
-Inv-loop views k cells p₀ p = ?
+Inv-loop views k cells p₀ p = (p ≤ mostColumns) × ((q : ℕ) → q < p → Allowed views k cells q)
 
 abbrev μ-loop : tie.MeasureT-loop
-μ-loop views k cells p₀ p = ?
+μ-loop views k cells p₀ p = mostColumns - p
 
--- src/rows.rt:72:5
 loop-holds : tie.Need-loop-holds Inv-loop μ-loop
-loop-holds c = ?
+loop-holds c = (omega arith, below-none _)
 
--- src/rows.rt:73:13
 term-at-requires : tie.Need-term-at-requires Inv-loop μ-loop
-term-at-requires c κs = ?
+term-at-requires c κs = (c .before .before .before .pre, omega arith)
 
--- src/rows.rt:74:13
 first-column-requires : tie.Need-first-column-requires Inv-loop μ-loop
-first-column-requires c κs = ?
+first-column-requires c κs = (c .before .before .before .before .pre, omega arith)
 
--- src/rows.rt:75:52
 add-if2 : tie.Need-add-if2 Inv-loop μ-loop
-add-if2 c = ?
+add-if2 c = omega arith
 
--- src/rows.rt:75:46
 mul-if2 : tie.Need-mul-if2 Inv-loop μ-loop
-mul-if2 c = ?
+mul-if2 c = omega arith
 
--- src/rows.rt:75:46
 array-read-if2 : tie.Need-array-read-if2 Inv-loop μ-loop
-array-read-if2 c = ?
+array-read-if2 c = omega arith
 
--- src/rows.rt:76:13
 returns : tie.Need-returns Inv-loop μ-loop
-returns c = ?
+returns c =
+    let at = c .before .before .before .before in
+    let read = at .before .term-at .ensures in
+    not-matched (λ v r beside m.
+    eqb-false _ _ (not-true _ (c .if2 .taken))
+    (ap (λ (t : Term). t .number) read
+    ∙ match-constant v r beside m _ (at .before .before .loop-test .taken)
+    (ap (λ (t : Term). t .mark) (sym read) ∙ c .before .before .if1 .taken)))
 
--- src/rows.rt:78:18
 add-if3 : tie.Need-add-if3 Inv-loop μ-loop
-add-if3 c = ?
+add-if3 c = omega (arith, c .before .before .first-column .ensures .upto)
 
--- src/rows.rt:78:12
 mul-if3 : tie.Need-mul-if3 Inv-loop μ-loop
-mul-if3 c = ?
+mul-if3 c = omega (arith, c .before .before .first-column .ensures .upto)
 
--- src/rows.rt:78:12
 array-read-if3 : tie.Need-array-read-if3 Inv-loop μ-loop
-array-read-if3 c = ?
+array-read-if3 c = omega (arith, c .before .before .first-column .ensures .upto)
 
--- src/rows.rt:78:34
 add-if3-2 : tie.Need-add-if3-2 Inv-loop μ-loop
-add-if3-2 c = ?
+add-if3-2 c = omega arith
 
--- src/rows.rt:78:28
 mul-if3-2 : tie.Need-mul-if3-2 Inv-loop μ-loop
-mul-if3-2 c = ?
+mul-if3-2 c = omega arith
 
--- src/rows.rt:78:28
 array-read-if3-2 : tie.Need-array-read-if3-2 Inv-loop μ-loop
-array-read-if3-2 c = ?
+array-read-if3-2 c = omega arith
 
--- src/rows.rt:79:13
 returns-2 : tie.Need-returns-2 Inv-loop μ-loop
-returns-2 c = ?
+returns-2 c =
+    let at = c .before .before .before in
+    not-matched (λ v r beside m.
+    c .if3 .taken (match-equal v r beside m _ (at .before .before .loop-test .taken) (at .first-column .ensures)))
 
--- src/rows.rt:81:9
 add-p : tie.Need-add-p Inv-loop μ-loop
-add-p c = ?
+add-p c = omega arith
 
--- src/rows.rt:72:5
 loop-less : tie.Need-loop-less Inv-loop μ-loop
-loop-less c = ?
+loop-less c = omega arith
 
--- src/rows.rt:72:5
 loop-again : tie.Need-loop-again Inv-loop μ-loop
-loop-again c = ?
+loop-again c =
+    let at = c .before .before .before in
+    let read = at .before .term-at .ensures in (
+      omega arith,
+      below-more _ _ (at .before .before .before .loop .inv .1) (record {
+        constants = λ e.
+            ⊎-elim (λ w. ap (λ (t : Term). t .number) (sym read) ∙ eqb-true _ _ (not-false _ (w .2 .left)))
+            (λ w. absurd (w .left (ap (λ (t : Term). t .mark) read ∙ e))) (c .before .if1 .came);
+        first = at .first-column .result;
+        alike = at .first-column .ensures;
+        equals = c .if3 .left;
+      }),
+    )
 
--- src/rows.rt:67:1
 returns-3 : tie.Need-returns-3 Inv-loop μ-loop
-returns-3 c = ?
+returns-3 c = is-matched (λ p b. c .before .loop .inv .1 p (omega arith))
 
 pub matches-spec : {M : Type 1} → statement M
 matches-spec =
