@@ -1,13 +1,13 @@
 // The rows that keep what the views of a partition show of the odd row.
 
 ghost use mathlib.Core.Path.{_≡_};
-ghost use mathlib.Core.Bool.{_&&_};
 ghost use Prim.Native.Nat.{_<_, _≤_};
 ghost use lib.ListN.{length};
 ghost use Rattle.model.specs.Limits.{mostViews, mostPartitions};
 ghost use Rattle.covering.specs.Prepared.{preparedLong};
 ghost use Rattle.freezing.specs.Blocks.{lastBase};
-ghost use Rattle.apart.specs.Marking.{SomeMarking, ViewPut, MarkedPut};
+ghost use Rattle.apart.specs.Buffer.{HasCells};
+ghost use Rattle.apart.specs.Marking.{Roomy, SomeMarking, ViewPut, MarkedPut};
 use crate::buffer::put_row;
 use crate::buffer::stands;
 use covering::Prepared;
@@ -17,7 +17,7 @@ use freezing::Cells;
 // marked; a row that stands there already is not written. How many rows there are then.
 fn put_view(base: u64, ready: &Prepared, k: usize, odd: Cells, from: usize, count: usize, out: &mut [u64]) -> usize
     requires { ⌜ (base ≤ lastBase) × (length (now ready) ≡ preparedLong) × (k < mostViews) ⌝ }
-    requires { ⌜ (from ≤ count) × RoomFor (now out) count ⌝ }
+    requires { ⌜ (from ≤ count) × HasCells (now out) count ⌝ }
     ensures { λ r. ⌜ ViewPut base (now (ready .entry)) k odd from count (now (out .entry)) (now (out .exit)) r ⌝ }
 {
     if !freezing::matches(ready, k, odd) {

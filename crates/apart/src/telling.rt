@@ -1,11 +1,11 @@
 // Two archives for a query and a partition that does not settle it.
 
-ghost use Prim.Native.Nat.{_<_, _≤_};
+ghost use mathlib.Core.Path.{_≡_};
 ghost use lib.ListN.{length};
-ghost use Rattle.model.specs.Limits.{mostPartitions};
 ghost use Rattle.model.specs.Rows.{queryRowsLong};
 ghost use Rattle.apart.specs.Archives.{ArchivesGiven};
 ghost use Rattle.apart.specs.Telling.{SomeAsked, AskedTold};
+ghost use Rattle.apart.specs.Writing.{Wide};
 use crate::unsettled::unsettled_line;
 use crate::writing::put_archives;
 use covering::Prepared;
