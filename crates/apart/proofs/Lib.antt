@@ -6,5 +6,6 @@ pub mod OtherLines
 -- The rows that keep what views show.
 pub mod TableViews
 pub mod MarkedRows
+pub mod ViewRows
 -- The rows of the lines.
 pub mod FrozenLines
