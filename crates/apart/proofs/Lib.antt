@@ -1,11 +1,13 @@
 -- Rows in a buffer.
 pub mod Cells
 pub mod Rows
--- Lines of a query.
+-- Lines of a query, and their rows.
 pub mod OtherLines
 pub mod ShownLines
+pub mod FrozenLines
 -- The rows that keep what views show.
 pub mod TableViews
 pub mod MarkedRows
+pub mod ViewRows
 -- Both archives.
 pub mod Told

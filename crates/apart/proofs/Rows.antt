@@ -15,17 +15,14 @@ use Rattle.theory.proofs.Lists.{none≢some, place, at-place, place-below, belo
 use Rattle.theory.proofs.Tuples.{tuple-path}
 use Rattle.model.specs.Limits.{mostColumns}
 use Rattle.model.specs.Value.{pad}
-use Rattle.model.proofs.Pad.{pad-length, pad-take}
+use Rattle.model.proofs.Pad.{pad-take}
 use Rattle.freezing.specs.Cells.{rowCells, cellsOf, allCells}
+use Rattle.freezing.proofs.RowCells.{cells-long}
 use Rattle.desk.specs.Buffer.{headed}
 use Rattle.apart.specs.Archives.{mostRows, mostCells}
 use Rattle.apart.specs.Buffer.{cellsAt, PutAt, StandsBetween, Narrow, Holds}
 
 -- ---- the cells of rows
-
-pub length-cells : (x : Row) → Narrow x → length (cellsOf x) ≡ rowCells
-unfolding cellsOf
-length-cells x h = ap suc (pad-length mostColumns 0 (x .columns) h)
 
 -- rows of one width are the same where their cells are
 pub cells-one : (x y : Row) → length (x .columns) ≡ length (y .columns) → cellsOf x ≡ cellsOf y → x ≡ y
@@ -44,7 +41,7 @@ unfolding allCells
 length-all [] h = refl
 length-all (x ∷ rows) h =
     length-append (cellsOf x) (allCells rows)
-    ∙ omega (arith, length-cells x (h x (List·Memᴰ·head refl)), length-all rows (λ y m. h y (List·Memᴰ·tail m)))
+    ∙ omega (arith, cells-long x (h x (List·Memᴰ·head refl)), length-all rows (λ y m. h y (List·Memᴰ·tail m)))
 
 all-append : (k l : List Row) → allCells (k ++ l) ≡ allCells k ++ allCells l
 unfolding allCells
@@ -62,12 +59,12 @@ unfolding allCells
 row-at [] behind k x h e = absurd (none≢some e)
 row-at (y ∷ rows) behind zero x h e =
     ap (take rowCells) (append-assoc (cellsOf y) (allCells rows) behind)
-    ∙ take-at (cellsOf y) (allCells rows ++ behind) rowCells (length-cells y (h y (List·Memᴰ·head refl)))
+    ∙ take-at (cellsOf y) (allCells rows ++ behind) rowCells (cells-long y (h y (List·Memᴰ·head refl)))
     ∙ ap cellsOf (Option·some-injective y x e)
 row-at (y ∷ rows) behind (suc k) x h e =
     let rest = allCells rows ++ behind in
     let next : suc k * rowCells ≡ length (cellsOf y) + k * rowCells =
-    omega (arith, length-cells y (h y (List·Memᴰ·head refl)))
+    omega (arith, cells-long y (h y (List·Memᴰ·head refl)))
     in
     ap₂ (λ (l : List ℕ) (n : ℕ). take rowCells (drop n l)) (append-assoc (cellsOf y) (allCells rows) behind) next
     ∙ ap (take rowCells) (drop-append-add (cellsOf y) rest (k * rowCells))
@@ -115,7 +112,7 @@ module _ {start : List ℕ} {rows : List Row} {out : List ℕ} (h : Holds start 
 
       all : headed (allCells (rows ++ x ∷ [])) start ≡ C ++ cellsOf x ++ drop (length C + rowCells) start
       all =
-          rw (all-append rows (x ∷ []), all-one x, length-append C (cellsOf x), length-cells x n)
+          rw (all-append rows (x ∷ []), all-one x, length-append C (cellsOf x), cells-long x n)
 
 -- ---- whether a row stands behind some of them
 

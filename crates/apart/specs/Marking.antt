@@ -34,13 +34,20 @@ pub record Adds (base : ℕ) (v : Line) (odd : Row) (extra then : List Row) : Ty
       → (x ∈ extra) ⊎ ((s : ℕ → ℕ) × (h : ℕ → ℕ) × (row s h v ≡ odd) × (x ≡ row s (markBy base v) v))
   pub once : NoRepeats extra → NoRepeats then
 
--- at most one row more, behind the rows `head` and the extra rows, which are as wide as the odd row
+-- the view in row k is beside the odd row, and the buffer has the rows `head` and then the extra ones, which are as wide as the odd row
+pub record RowsBefore (r : List ℕ) (k : ℕ) (cells : List ℕ) (from count : ℕ) (before : List ℕ) (v : Line) (odd : Row) (start : List ℕ)
+    (head extra : List Row) : Type 0 where
+  pub beside : Beside r k v cells odd
+  pub first : length head ≡ from
+  pub last : length (head ++ extra) ≡ count
+  pub holds : Holds start (head ++ extra) before
+  pub wide : (x : Row) → x ∈ extra → length (x .columns) ≡ length (odd .columns)
+
+-- at most one row more
 pub record ViewPut (base : ℕ) (r : List ℕ) (k : ℕ) (cells : List ℕ) (from count : ℕ) (before after : List ℕ) (n : ℕ) : Type 0 where
   pub least : count ≤ n
   pub most : n ≤ count + 1
-  pub rows : (v : Line) (odd : Row) → Beside r k v cells odd → (start : List ℕ) (head extra : List Row) → length head ≡ from
-      → length (head ++ extra) ≡ count → Holds start (head ++ extra) before
-      → ((x : Row) → x ∈ extra → length (x .columns) ≡ length (odd .columns))
+  pub rows : (v : Line) (odd : Row) (start : List ℕ) (head extra : List Row) → RowsBefore r k cells from count before v odd start head extra
       → (then : List Row) × (n ≡ length (head ++ then)) × Holds start (head ++ then) after × Adds base v odd extra then
 
 -- ---- the views of a partition

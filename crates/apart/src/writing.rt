@@ -1,7 +1,7 @@
 // The rows of both archives: the odd row, the other lines of the reduced query, and the marked rows.
 
 ghost use mathlib.Core.Path.{_≡_};
-ghost use Prim.Native.Nat.{_<_, _≤_};
+ghost use Prim.Native.Nat.{_≤_};
 ghost use lib.ListN.{length};
 ghost use Rattle.model.specs.Rows.{queryRowsLong};
 ghost use Rattle.freezing.specs.Blocks.{lastBase};
