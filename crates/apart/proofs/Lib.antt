@@ -11,3 +11,5 @@ pub mod MarkedRows
 pub mod ViewRows
 -- Both archives.
 pub mod Told
+-- What replies mean.
+pub mod Outcomes

@@ -21,6 +21,11 @@ pub record Asked (p : Policy) (l : Loadable p) (n : ℕ) (text before : List ℕ
   pub room : mostCells ≤ length before
 
 pub record Outcomes : Type 0 where
+  -- two replies to one call differ in the rows alone: "The values are free apart from this"
+  pub one-outcome : (p : Policy) (n : ℕ) (text before : List ℕ) (r t : Telling) (after then : List ℕ)
+      → ArchivesGiven p n text before r after → ArchivesGiven p n text before t then
+      → (saidTelling r .word ≡ saidTelling t .word) × (saidTelling r .number ≡ saidTelling t .number)
+      × (saidTelling r .line ≡ saidTelling t .line)
   -- "A partition that settles the query gives the reply `settled`": exactly when it determines the query
   pub settled-exactly : (p : Policy) (l : Loadable p) (n : ℕ) (text before : List ℕ) (r : Telling) (after : List ℕ) (Q : Query)
       → ArchivesGiven p n text before r after → Asked p l n text before Q
