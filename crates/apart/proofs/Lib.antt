@@ -7,5 +7,6 @@ pub mod OtherLines
 pub mod TableViews
 pub mod MarkedRows
 pub mod ViewRows
+pub mod MarkedViews
 -- The rows of the lines.
 pub mod FrozenLines

@@ -15,7 +15,15 @@ use freezing::Cells;
 
 // The marked row of the view at place k, if the view matches the odd row, behind `count` rows, of which those from `from` on are
 // marked; a row that stands there already is not written. How many rows there are then.
-fn put_view(base: u64, ready: &Prepared, k: usize, odd: Cells, from: usize, count: usize, out: &mut [u64]) -> usize
+fn put_view(
+    base: u64,
+    ready: &Prepared,
+    k: usize,
+    odd: Cells,
+    from: usize,
+    count: usize,
+    out: &mut [u64],
+) -> usize
     requires { ⌜ (base ≤ lastBase) × (length (now ready) ≡ preparedLong) × (k < mostViews) ⌝ }
     requires { ⌜ (from ≤ count) × HasCells (now out) count ⌝ }
     ensures { λ r. ⌜ ViewPut base (now (ready .entry)) k odd from count (now (out .entry)) (now (out .exit)) r ⌝ }
@@ -33,7 +41,14 @@ fn put_view(base: u64, ready: &Prepared, k: usize, odd: Cells, from: usize, coun
 
 // The marked rows of the views of the odd row's table that the partition at place i, counted from 0, grants, behind `from` rows. How
 // many rows there are then.
-pub fn put_marked(base: u64, ready: &Prepared, i: u64, odd: Cells, from: usize, out: &mut [u64]) -> usize
+pub fn put_marked(
+    base: u64,
+    ready: &Prepared,
+    i: u64,
+    odd: Cells,
+    from: usize,
+    out: &mut [u64],
+) -> usize
     requires { ⌜ (base ≤ lastBase) × SomeMarking (now ready) odd × (i < mostPartitions) × Roomy from (now out) ⌝ }
     ensures { λ r. ⌜ MarkedPut base (now (ready .entry)) i odd from (now (out .entry)) (now (out .exit)) r ⌝ }
 {

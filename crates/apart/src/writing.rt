@@ -30,7 +30,15 @@ fn put_lines(base: u64, n: usize, lines: &QueryRows, others: u64, out: &mut [u64
 }
 
 // The rows for a line of those left that the partition at place i, counted from 0, has no view for. How many there are.
-pub fn put_archives(ready: &Prepared, i: u64, n: usize, lines: &QueryRows, left: u64, line: usize, out: &mut [u64]) -> usize
+pub fn put_archives(
+    ready: &Prepared,
+    i: u64,
+    n: usize,
+    lines: &QueryRows,
+    left: u64,
+    line: usize,
+    out: &mut [u64],
+) -> usize
     requires { ⌜ SomeOdd (now ready) i n (now lines) left line × (length (now lines) ≡ queryRowsLong) × Wide (now out) ⌝ }
     ensures { λ r. ⌜ ArchivesPut (now (ready .entry)) i n (now (lines .entry)) left line (now (out .entry)) (now (out .exit)) r ⌝ }
 {
