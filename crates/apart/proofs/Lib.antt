@@ -5,8 +5,8 @@ pub mod Rows
 pub mod OtherLines
 -- The rows that keep what views show.
 pub mod TableViews
+pub mod MarkedViews
 pub mod MarkedRows
 pub mod ViewRows
-pub mod MarkedViews
 -- The rows of the lines.
 pub mod FrozenLines
