@@ -7,6 +7,7 @@ pub mod ShownLines
 pub mod FrozenLines
 -- The rows that keep what views show.
 pub mod TableViews
+pub mod MarkedViews
 pub mod MarkedRows
 pub mod ViewRows
 -- Both archives.

@@ -117,7 +117,7 @@ module _ {start : List ℕ} {rows : List Row} {out : List ℕ} (h : Holds start 
 -- ---- whether a row stands behind some of them
 
 -- what stands behind a list
-pub behind-place : {X : Type 0} (k l : List X) (j : ℕ) → getElem? (k ++ l) (length k + j) ≡ getElem? l j
+behind-place : {X : Type 0} (k l : List X) (j : ℕ) → getElem? (k ++ l) (length k + j) ≡ getElem? l j
 behind-place [] l j = let e : 0 + j ≡ j = omega arith in ap (getElem? l) e
 behind-place (x ∷ k) l j =
     let e : suc (length k) + j ≡ suc (length k + j) = omega arith in ap (getElem? (x ∷ (k ++ l))) e ∙ behind-place k l j

@@ -9,13 +9,13 @@ use lib.ListN.{length, getD, getElem?}
 use Rattle.theory.specs.Query.{Tuple, Line, Fits, _∈_}
 use Rattle.theory.specs.Archive.{Row}
 use Rattle.theory.proofs.Lists.{at-place}
-use Rattle.theory.proofs.Tuples.{getD-mem}
 use Rattle.words.specs.Bits.{bit}
 use Rattle.model.specs.Limits.{mostTables, mostColumns, mostViews}
 use Rattle.model.specs.declared.Tables.{Tables}
 use Rattle.model.proofs.Limits.{up-to-iff}
+use Rattle.model.proofs.Values.{width-is}
 use Rattle.policy_text.specs.Declared.{Declared}
-use Rattle.policy_text.specs.WellFormed.{WellFormed}
+use Rattle.policy_text.specs.WellFormed.{GoodWidth, WellFormed}
 use Rattle.policy_text.proofs.Grants.{grants-bit}
 use Rattle.covering.specs.Prepared.{grantWord}
 use Rattle.labelling.specs.Posed.{Ready}
@@ -29,9 +29,7 @@ module _ {X : Type 0} {d : Declared} {A : Tuple X} (good : WellFormed d) (fits :
   fits-table = omega (arith, fits .last, good .tables .few)
 
   pub fits-narrow : length (A .columns) ≤ mostColumns
-  fits-narrow =
-      let m = getD-mem (d .widths) (A .table - 1) 0 (omega (arith, fits .first, fits .last)) in
-      rw (fits .width) (up-to-iff mostColumns _ .0 (good .tables .each _ m) .1)
+  fits-narrow = up-to-iff mostColumns _ .0 (width-is GoodWidth (d .widths) (good .tables .each) A fits) .1
 
 module _ {d : Declared} {t : Tables} {r : List ℕ} (ready : Ready d t r) where
   -- a view of the row's table is as wide as the row

@@ -37,8 +37,8 @@ unmatched m given e =
 module _ (base : ℕ) (r : List ℕ) (k : ℕ) (cells : List ℕ) (from count : ℕ) (before marked : List ℕ) (stands : Bool)
     (is : MarkedGiven base r k cells marked) (found : StandsBetween before from count marked stands) where
   -- a valuation that turns the view into the odd row: whether the row that it makes with marks stands there
-  module _ (v : Line) (odd : Row) (start : List ℕ) (head extra : List Row) (b : RowsBefore r k cells from count before v odd start head extra)
-      (s t : ℕ → ℕ) (same : row s t v ≡ odd) where
+  module _ (v : Line) (odd : Row) (start : List ℕ) (head extra : List Row)
+      (b : RowsBefore r k cells from count before v odd start head extra) (s t : ℕ → ℕ) (same : row s t v ≡ odd) where
     as-wide : (y : Row) → y ∈ extra → length (y .columns) ≡ length (row s (markBy base v) v .columns)
     as-wide y m = b .wide y m ∙ sym (b .beside .width) ∙ sym (length-map (v .columns) (value s (markBy base v)))
 
@@ -69,8 +69,8 @@ module _ (base : ℕ) (r : List ℕ) (k : ℕ) (cells : List ℕ) (from count : 
         let at : PutAt (length (head ++ extra)) (cellsOf x) before after = rw (b .last, ← are (q .s) (q .h) (q .same)) put in
         let one : (s t : ℕ → ℕ) → row s t v ≡ odd → row s mark v ≡ x =
         λ s t same.
-            cells-one (row s mark v) x (length-map (v .columns) (value s mark) ∙ sym (length-map (v .columns) (value (q .s) mark)))
-            (sym (are s t same) ∙ are (q .s) (q .h) (q .same))
+        cells-one (row s mark v) x (length-map (v .columns) (value s mark) ∙ sym (length-map (v .columns) (value (q .s) mark)))
+        (sym (are s t same) ∙ are (q .s) (q .h) (q .same))
         in
         let more : head ++ extra ++ x ∷ [] ≡ head ++ (extra ++ x ∷ []) = append-assoc head extra (x ∷ []) in (
           extra ++ x ∷ [],

@@ -4,7 +4,7 @@ use mathlib.Core.List.{List, [], _∷_, _++_, map, List·Memᴰ·head, List·Mem
 use Prim.Native.Nat.{ℕ, zero, suc, _-_, _≤_, _<_}
 use native.Mathlib.Omega.{arith}
 use lib.ListN.{length, take, getD, replicate, length-map}
-use Rattle.theory.specs.Query.{Term, constant, shown, hidden, Line, Query, _∈_, Fits}
+use Rattle.theory.specs.Query.{Tuple, Term, constant, shown, hidden, Line, Query, _∈_, Fits}
 use Rattle.theory.proofs.Tuples.{getD-mem}
 use Rattle.model.specs.Value.{pad, unusedTerm, unusedLine, termValue, lineValue, queryValue}
 use Rattle.model.specs.Abstract.{asTerm, asTerms, asLine, asQuery}
@@ -52,8 +52,9 @@ as-query Q h =
     ap (map asLine) (ap (λ (n : ℕ). take n (pad mostLines unusedLine l)) (sym (length-map Q lineValue)) ∙ pad-take mostLines unusedLine l)
     ∙ as-lines Q h
 
--- what holds of each table's columns holds of the terms of a line that fits
-pub width-is : (P : ℕ → Type 0) (widths : List ℕ) → ((w : ℕ) → w ∈ widths → P w) → (A : Line) → Fits widths A → P (length (A .columns))
+-- what holds of each table's columns holds of those of a line or a row that fits
+pub width-is : {X : Type 0} (P : ℕ → Type 0) (widths : List ℕ) → ((w : ℕ) → w ∈ widths → P w) → (A : Tuple X) → Fits widths A
+    → P (length (A .columns))
 width-is P widths h A f =
     let i : A .table - 1 < length widths = omega (arith, f .first, f .last) in
     subst P (sym (f .width)) (h (getD widths (A .table - 1) 0) (getD-mem widths (A .table - 1) 0 i))
