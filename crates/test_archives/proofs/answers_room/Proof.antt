@@ -1,7 +1,7 @@
 -- `answers_room`: the array has as many elements as its type says, by a law over every number, since this one is too
 -- large to be computed with.
-use mathlib.Core.Path.{_≡_}
 use Prim.Native.Nat.{ℕ}
+use mathlib.Core.Path.{_≡_}
 use lib.ListN.{length, replicate, length-replicate}
 use Rattle.test_archives.proofs.answers_room.Statement.{statement}
 use Rattle.test_archives.proofs.answers_room.Tie as tie

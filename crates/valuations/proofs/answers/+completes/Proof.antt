@@ -1,6 +1,5 @@
 -- `completes` ends: each call has a line less to look at, and `j` comes nearer to the number of rows.
 use Prim.Native.Nat.{ℕ, _-_, _/_, _≤_, _<_}
-use native.Mathlib.Omega.{arith}
 use lib.ListN.{length}
 use borrow.Author.Needs.{needs}
 use borrow.Fn.Kinds.{In}
