@@ -27,7 +27,7 @@ fn counted(n: u64, got: Said, right: bool) -> u64 {
 
 // The query is told apart by so many rows: the rows are judged, and the cells past them are as they were.
 pub fn apart(n: u64, p: Policy, partition: u64, text: &[u8], count: usize) -> u64
-    requires { ⌜ count ≤ 40 ⌝ }
+    requires { ⌜ (1 ≤ count) × (count ≤ 40) ⌝ }
 {
     let mut cells = rows::untouched();
     let got = told(apart::tell_apart(p, partition, text, &mut cells));

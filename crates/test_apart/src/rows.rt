@@ -31,11 +31,17 @@ pub fn stay(cells: &[u64; 370], from: usize) -> bool {
 
 // How many cells of a row are used: the table, and its columns. 0 where there is no such table.
 fn used(t: Tables, table: u64) -> u64 {
-    if table < 1 || 16 < table {
+    if table < 1 {
+        return 0;
+    }
+    if 16 < table {
         return 0;
     }
     let columns = t.columns[(table - 1) as usize];
-    if columns < 1 || 8 < columns {
+    if columns < 1 {
+        return 0;
+    }
+    if 8 < columns {
         return 0;
     }
     columns + 1

@@ -79,7 +79,10 @@ pub fn not_apart(p: Policy, q: Query) -> bool {
     let mut rows = [0; 360];
     match apart::tell_apart(p, 1, &text[..end], &mut rows) {
         Telling::Apart { rows: count } => {
-            if count < 1 || 40 < count {
+            if count < 1 {
+                return true;
+            }
+            if 40 < count {
                 return true;
             }
             let to = count as usize * 9;

@@ -87,6 +87,7 @@ pub fn shown_word(lines: &[u64]) -> u64
 fn keep(answers: &mut Answers, count: usize, shown: &[u64]) -> usize
     requires { ⌜ length (now shown) ≡ 64 ⌝ }
     ensures { λ r. ⌜ r ≤ 64 ⌝ }
+    ensures { λ _. ⌜ length (now (answers .exit)) ≡ length (now (answers .entry)) ⌝ }
 {
     if MOST_ANSWERS <= count {
         return MOST_ANSWERS;
@@ -127,6 +128,7 @@ fn collect(
     requires { ⌜ (length (now lines) ≤ 136) × (length (now shown) ≡ 64) × (count ≤ 64) ⌝ }
     ensures { λ r. ⌜ r ≤ 64 ⌝ }
     ensures { λ _. ⌜ length (now (shown .exit)) ≡ length (now (shown .entry)) ⌝ }
+    ensures { λ _. ⌜ length (now (answers .exit)) ≡ length (now (answers .entry)) ⌝ }
 {
     if !is_answer(lines, archive, known, shown) {
         return count;
@@ -153,6 +155,7 @@ fn collect(
 pub fn answers_of(lines: &[u64], archive: &[u64], answers: &mut Answers) -> usize
     requires { ⌜ length (now lines) ≤ 136 ⌝ }
     ensures { λ r. ⌜ r ≤ 64 ⌝ }
+    ensures { λ _. ⌜ length (now (answers .exit)) ≡ length (now (answers .entry)) ⌝ }
 {
     let mut shown = [0; VARIABLES];
     let word = shown_word(lines);

@@ -10,8 +10,10 @@ use crate::answers::no_answers;
 use crate::answers::shown_word;
 use crate::valuation::ROW;
 use crate::valuation::VARIABLES;
+use model::MOST_LINES;
 use model::MOST_VIEWS;
 use model::Policy;
+use model::QueryRows;
 
 // Whether the rows at two places are the same.
 fn same_rows(rows: &[u64], i: usize, j: usize) -> bool
@@ -72,6 +74,21 @@ fn loses_answer(lines: &[u64], rows: &[u64]) -> bool
     false
 }
 
+// The same of the query that is the first n lines.
+fn first_lines_lose(lines: &[u64], n: usize, rows: &[u64]) -> bool
+    requires { ⌜ (length (now lines) ≡ 136) × (n ≤ 8) × (9 ≤ length (now rows)) ⌝ }
+{
+    let end = n * model::ROW;
+    loses_answer(&lines[..end], rows)
+}
+
+// The same where the lines stand in the rows of a query.
+fn query_loses(lines: &QueryRows, n: usize, rows: &[u64]) -> bool
+    requires { ⌜ (length (now lines) ≡ 136) × (n ≤ 8) × (9 ≤ length (now rows)) ⌝ }
+{
+    first_lines_lose(lines, n, rows)
+}
+
 // Whether partition n, counted from 1, grants the view at place k, counted from 0.
 pub fn grants(p: Policy, n: u64, k: usize) -> bool
     requires { ⌜ k < 32 ⌝ }
@@ -119,10 +136,12 @@ pub fn tells_apart(p: Policy, n: u64, text: &[u8], rows: &[u64]) -> bool
 {
     let r = query_text::read_query(p.tables, text);
     let q = r.query;
-    let lines = reduce::query_rows(q);
-    let end = q.count % 9 * model::ROW;
+    if MOST_LINES < q.count {
+        return false;
+    }
     if some_row_twice(rows) || some_view_loses(p, n, rows) {
         return false;
     }
-    loses_answer(&lines[..end], rows)
+    let lines = reduce::query_rows(q);
+    query_loses(&lines, q.count, rows)
 }
