@@ -12,5 +12,8 @@ pub mod MarkedRows
 pub mod ViewRows
 -- Both archives.
 pub mod Told
+pub mod BothArchives
+pub mod SettledLines
+pub mod Replies
 -- What replies mean.
 pub mod Outcomes

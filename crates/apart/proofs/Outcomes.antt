@@ -4,7 +4,7 @@ use mathlib.Core.Bool.{Bool, true, false, cond}
 use mathlib.Core.Logic.{_↔_, _≢_}
 use mathlib.Core.List.{List, [], _∷_, List·Memᴰ·head, List·Memᴰ·tail, Memᴰ·append-left, List-discrete}
 use Prim.Native.Nat.{ℕ, _-_}
-use native.Mathlib.Decide.{ℕ-discrete, map-dec}
+use native.Mathlib.Decide.{ℕ-discrete}
 use native.Mathlib.Omega.{arith}
 use borrow.Author.Tests.{le-ltb}
 use lib.Dec.{T, ltb}
@@ -14,7 +14,7 @@ use Rattle.theory.specs.Executable.Label.{labels}
 use Rattle.theory.specs.Executable.Test.{any}
 use Rattle.theory.proofs.Lists.{below-place, there}
 use Rattle.theory.proofs.Pigeonhole.{member}
-use Rattle.words.proofs.Answers.{true-holds, holds-true, either}
+use Rattle.words.proofs.Answers.{holds-true, either}
 use Rattle.model.specs.Limits.{upTo}
 use Rattle.model.specs.declared.Policy.{Policy}
 use Rattle.model.proofs.Limits.{up-to-iff}

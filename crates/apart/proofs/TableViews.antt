@@ -8,9 +8,9 @@ use native.Mathlib.Omega.{arith}
 use lib.ListN.{length, getD, getElem?}
 use Rattle.theory.specs.Query.{Tuple, Line, Fits, _∈_}
 use Rattle.theory.specs.Archive.{Row}
-use Rattle.theory.proofs.Lists.{at-place}
+use Rattle.theory.proofs.Lists.{at-place, place-below}
 use Rattle.words.specs.Bits.{bit}
-use Rattle.model.specs.Limits.{mostTables, mostColumns, mostViews}
+use Rattle.model.specs.Limits.{mostTables, mostColumns, mostViews, mostPartitions}
 use Rattle.model.specs.declared.Tables.{Tables}
 use Rattle.model.proofs.Limits.{up-to-iff}
 use Rattle.model.proofs.Values.{width-is}
@@ -46,6 +46,9 @@ module _ {d : Declared} {t : Tables} {r : List ℕ} (ready : Ready d t r) where
       }
 
   module _ (i : ℕ) (ns : List ℕ) (at : getElem? (d .partitions) i ≡ some ns) where
+    pub partition-low : i < mostPartitions
+    partition-low = omega (arith, place-below (d .partitions) i at, ready .good .partitions .few)
+
     pub partition-known : Known (d .views) ns
     partition-known = good-known (d .views) ns (ready .good .partitions .each ns (at-place (d .partitions) i at))
 

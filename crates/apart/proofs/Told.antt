@@ -64,16 +64,16 @@ spared-line {base} {rows} spare k A low laid few c m =
 
 module _ {d : Declared} {t : Tables} {ns : List ℕ} {Q : Query} {r : List ℕ} {i n : ℕ} {lines : List ℕ} {left k : ℕ}
     (o : OddLine d t ns Q r i n lines left k) where
-  abbrev S : Query
+  abbrev pub S : Query
   S = linesIn (o .shown)
 
-  abbrev A : Line
+  abbrev pub A : Line
   A = lineAt S k
 
-  held : HasLines S n lines
+  pub held : HasLines S n lines
   held = has-lines (o .shown) (o .query) (o .count)
 
-  low : k < length S
+  pub low : k < length S
   low = omega (arith, o .unsettled .there, o .count, held .count)
 
   -- the line as it is shown in what is left of the query
@@ -115,10 +115,10 @@ module _ {d : Declared} {t : Tables} {ns : List ℕ} {Q : Query} {r : List ℕ} 
         spared-line (spare .of-views) (g .number - 1) v (omega (arith, b, good .views .few)) (o .ready .laid .row _ v (g .view))
         (fits-narrow good (good .views .each v (at-place (d .views) (g .number - 1) (g .view)) .fits)) c x
 
-    abbrev odd : Row
+    abbrev pub odd : Row
     odd = frozenRow base A
 
-    abbrev others : List Row
+    abbrev pub others : List Row
     others = map (frozenRow base) (linesAt (clearBit left k) S)
 
     -- eight lines, one of them odd

@@ -23,8 +23,8 @@ use Rattle.apart.specs.Buffer.{Holds}
 use Rattle.apart.specs.Unsettled.{Unsettled}
 
 -- room for every row
-abbrev pub Wide : List ℕ → Type 0
-Wide out = mostCells ≤ length out
+pub record Wide (out : List ℕ) : Type 0 where
+  pub room : mostCells ≤ length out
 
 -- ---- the lines of a word
 

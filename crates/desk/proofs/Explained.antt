@@ -93,7 +93,7 @@ module _ {p : Policy} (l : Loadable p) where
       let b = up-to-iff (p .«partition_count») n .0 (true-holds e) in
       (b .0, omega (arith, b .1, few-partitions (loaded-to l)))
 
-  declared-place : (n : ℕ) (b : Bool) → upTo (p .«partition_count») n ≡ b → upTo (length (l .declared .partitions)) n ≡ b
+  pub declared-place : (n : ℕ) (b : Bool) → upTo (p .«partition_count») n ≡ b → upTo (length (l .declared .partitions)) n ≡ b
   declared-place n b e = ap (λ (k : ℕ). upTo k n) (sym (partition-count (loaded-to l))) ∙ e
 
   -- the word of the partition's views, and what the word of settling partitions says of it
