@@ -16,7 +16,7 @@ use model::MOST_VIEWS;
 // How many variables there are; a column's number in a block stands behind these.
 pub const VARIABLES: u64 = LAST_VARIABLE + 1;
 
-pub const BLOCK: u64 = VARIABLES + MOST_COLUMNS as u64;
+const BLOCK: u64 = VARIABLES + MOST_COLUMNS as u64;
 
 // One block more than there are terms: one at least is spare, whatever constants the terms are.
 const BLOCKS: usize = (MOST_VIEWS + MOST_LINES) * MOST_COLUMNS + 1;

@@ -3,7 +3,6 @@
 mod blocks;
 mod rows;
 
-pub use blocks::BLOCK;
 pub use blocks::spare_block;
 pub use rows::Cells;
 pub use rows::ROW_CELLS;
