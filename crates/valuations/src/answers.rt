@@ -100,13 +100,13 @@ fn keep(answers: &mut Answers, count: usize, shown: &[u64]) -> usize
     count + 1
 }
 
-// Whether the number at a place of the archive stands at an earlier one.
-fn stands_before(archive: &[u64], at: usize) -> bool
-    requires { ⌜ at < length (now archive) ⌝ }
+// Whether the number at a place of a list stands at an earlier one.
+fn stands_before(list: &[u64], at: usize) -> bool
+    requires { ⌜ at < length (now list) ⌝ }
 {
     let mut i = 0;
     while i < at {
-        if archive[i] == archive[at] {
+        if list[i] == list[at] {
             return true;
         }
         i += 1;
@@ -114,11 +114,12 @@ fn stands_before(archive: &[u64], at: usize) -> bool
     false
 }
 
-// The answers that have the values so far for the shown variables of `known`, behind `count` answers; each number of the archive is tried,
-// once, for the first variable of `rest`. How many answers there are then.
+// The answers that have the values so far for the shown variables of `known`, behind `count` answers; each number of
+// `domain` is tried, once, for the first variable of `rest`. How many answers there are then.
 fn collect(
     lines: &[u64],
     archive: &[u64],
+    domain: &[u64],
     rest: u64,
     known: u64,
     shown: &mut [u64],
@@ -141,23 +142,24 @@ fn collect(
     let next = words::set_bit(known, x);
     let mut found = count;
     let mut at = 0;
-    while at < archive.len() && found < MOST_ANSWERS {
-        if !stands_before(archive, at) {
-            shown[x as usize] = archive[at];
-            found = collect(lines, archive, left, next, shown, answers, found);
+    while at < domain.len() && found < MOST_ANSWERS {
+        if !stands_before(domain, at) {
+            shown[x as usize] = domain[at];
+            found = collect(lines, archive, domain, left, next, shown, answers, found);
         }
         at += 1;
     }
     found
 }
 
-// The answers of a query on an archive, as many as are kept. How many these are.
-pub fn answers_of(lines: &[u64], archive: &[u64], answers: &mut Answers) -> usize
+// The answers of a query on an archive that have numbers of `domain`, in the order in which these stand there, as many as are kept. How
+// many these are.
+pub fn answers_of(lines: &[u64], archive: &[u64], domain: &[u64], answers: &mut Answers) -> usize
     requires { ⌜ length (now lines) ≤ 136 ⌝ }
     ensures { λ r. ⌜ r ≤ 64 ⌝ }
     ensures { λ _. ⌜ length (now (answers .exit)) ≡ length (now (answers .entry)) ⌝ }
 {
     let mut shown = [0; VARIABLES];
     let word = shown_word(lines);
-    collect(lines, archive, word, 0, &mut shown, answers, 0)
+    collect(lines, archive, domain, word, 0, &mut shown, answers, 0)
 }

@@ -60,7 +60,7 @@ fn loses_answer(lines: &[u64], rows: &[u64]) -> bool
 {
     let word = shown_word(lines);
     let mut answers = no_answers();
-    let count = answers_of(lines, rows, &mut answers);
+    let count = answers_of(lines, rows, rows, &mut answers);
     let others = &rows[ROW..];
     let mut i = 0;
     while i < count {
