@@ -23,25 +23,24 @@ fn print_row(archive: &[u64], j: usize, width: usize, known: &List, names: &mut 
     io::write_all(1, b"\n");
 }
 
-// The rows of a table. How many there are.
-fn print_rows(archive: &[u64], table: u64, width: usize, known: &List, names: &mut List) -> usize
+// The rows of a table, under its number; nothing of a table that has none.
+fn print_rows(archive: &[u64], table: u64, width: usize, known: &List, names: &mut List)
     requires { ⌜ width ≤ 8 ⌝ }
 {
-    let mut found = 0;
+    let mut found = false;
     let mut j = 0;
     while j < archive.len() / ROW {
         if archive[j * ROW] == table {
-            if found == 0 {
+            if !found {
                 io::write_all(1, b"    table ");
                 io::print_decimal(1, table);
                 io::write_all(1, b"\n");
             }
             print_row(archive, j, width, known, names);
-            found = 1;
+            found = true;
         }
         j += 1;
     }
-    found
 }
 
 // How many columns the table at a place has.

@@ -53,9 +53,7 @@ fn add_constants(rows: &[u64], count: usize, list: &mut List)
 }
 
 // The constants of the policy and of a query's lines.
-pub fn constants_of(p: Policy, lines: QueryRows) -> List
-    ensures { λ r. ⌜ 321 ≡ length r ⌝ }
-{
+pub fn constants_of(p: Policy, lines: QueryRows) -> List {
     let mut list = no_names();
     let mut k = 0;
     while k < MOST_VIEWS {
@@ -67,9 +65,7 @@ pub fn constants_of(p: Policy, lines: QueryRows) -> List
     list
 }
 
-pub fn no_names() -> List
-    ensures { λ r. ⌜ 321 ≡ length r ⌝ }
-{
+pub fn no_names() -> List {
     [0; 321]
 }
 
