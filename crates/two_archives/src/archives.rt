@@ -1,4 +1,4 @@
-// An archive, table by table.
+// Both archives, table by table.
 
 ghost use mathlib.Core.Path.{_≡_};
 ghost use Prim.Native.Nat.{_+_, _*_, _≤_};
@@ -56,7 +56,7 @@ fn width_at(p: Policy, t: usize) -> usize
     columns as usize
 }
 
-pub fn print(p: Policy, archive: &[u64], known: &List, names: &mut List) {
+fn print(p: Policy, archive: &[u64], known: &List, names: &mut List) {
     if archive.len() < ROW {
         io::write_all(1, b"    no row\n");
     }
@@ -66,4 +66,14 @@ pub fn print(p: Policy, archive: &[u64], known: &List, names: &mut List) {
         print_rows(archive, t as u64 + 1, width, known, names);
         t += 1;
     }
+}
+
+// The rows of the first archive are the others and one more, which comes first.
+pub fn print_both(p: Policy, rows: &[u64], known: &List, names: &mut List)
+    requires { ⌜ 9 ≤ length (now rows) ⌝ }
+{
+    io::write_all(1, b"  archive 1\n");
+    print(p, rows, known, names);
+    io::write_all(1, b"  archive 2\n");
+    print(p, &rows[ROW..], known, names);
 }

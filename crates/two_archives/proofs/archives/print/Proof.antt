@@ -1,56 +1,44 @@
+-- `print` ends: `t` comes nearer to 16.
+use Prim.Native.Nat.{_-_, _≤_}
+use borrow.Author.Needs.{needs}
 use Rattle.two_archives.proofs.archives.print.Statement.{statement}
 use Rattle.two_archives.proofs.archives.print.Tie as tie
-use Rattle.two_archives.proofs.archives.print.Reads as reads
-use Rattle.two_archives.proofs.archives.print.Lts as lts
-use Rattle.io.proofs.write_all.Reads as write-all-reads
-use Rattle.two_archives.proofs.archives.print_rows.Reads as print-rows-reads
-use Rattle.two_archives.proofs.archives.width_at.Reads as width-at-reads
 
 abbrev Inv-loop : tie.InvT-loop
-Inv-loop p archive known names₀ t₀ names t = ?
+Inv-loop p archive known names₀ t₀ names t = t ≤ 16
 
 abbrev μ-loop : tie.MeasureT-loop
-μ-loop p archive known names₀ t₀ names t = ?
+μ-loop p archive known names₀ t₀ names t = 16 - t
 
--- src/archives.rt:61:26
 slice-aggregate-write-all : tie.Need-slice-aggregate-write-all Inv-loop μ-loop
-slice-aggregate-write-all c = ?
+slice-aggregate-write-all c = search needs
 
--- src/archives.rt:61:9
 write-all-requires : tie.Need-write-all-requires Inv-loop μ-loop
-write-all-requires c κs = ?
+write-all-requires c κs = search needs
 
--- src/archives.rt:64:5
 loop-holds : tie.Need-loop-holds Inv-loop μ-loop
-loop-holds c = ?
+loop-holds c = search needs
 
--- src/archives.rt:65:13
 width-at-requires : tie.Need-width-at-requires Inv-loop μ-loop
-width-at-requires c κs = ?
+width-at-requires c κs = search needs
 
--- src/archives.rt:66:29
 add-print-rows : tie.Need-add-print-rows Inv-loop μ-loop
-add-print-rows c = ?
+add-print-rows c = search needs
 
--- src/archives.rt:66:9
 print-rows-requires : tie.Need-print-rows-requires Inv-loop μ-loop
-print-rows-requires c κs = ?
+print-rows-requires c κs = search needs
 
--- src/archives.rt:67:9
 add-t : tie.Need-add-t Inv-loop μ-loop
-add-t c = ?
+add-t c = search needs
 
--- src/archives.rt:64:5
 loop-less : tie.Need-loop-less Inv-loop μ-loop
-loop-less c = ?
+loop-less c = search needs
 
--- src/archives.rt:64:5
 loop-again : tie.Need-loop-again Inv-loop μ-loop
-loop-again c = ?
+loop-again c = search needs
 
--- src/archives.rt:59:1
 returns : tie.Need-returns Inv-loop μ-loop
-returns c = ?
+returns c = search needs
 
 pub print-spec : {M : Type 1} → statement M
 print-spec =
