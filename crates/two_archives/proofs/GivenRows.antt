@@ -33,12 +33,12 @@ few-given d i k before after (archives Q) g =
     let e = ap (λ (s : SaidTelling). s .count) (g .reply) in (omega (arith, e), omega (arith, e, g .few))
 
 module _ {p : Policy} {n : ℕ} {text before after : List ℕ} where
-  -- a policy that is not loaded gives no rows
+  -- rows are given under a loaded policy alone
   not-more : (k : ℕ) → ArchivesGiven p n text before (Apart k) after → (FewRows k → ⊥) → ⊥
   unfolding saidTelling gives
   not-more k g none =
       let few : Loadable p → FewRows k
-          = λ l. few-given (l .declared) (n - 1) k before after (owed (l .declared) n text (length before)) (g .loaded l) in
+      = λ l. few-given (l .declared) (n - 1) k before after (owed (l .declared) n text (length before)) (g .loaded l) in
       omega (arith, ap gives (g .unloaded (λ l. none (few l)) .reply))
 
   pub few-rows : {r : Telling} {k : ℕ} → ArchivesGiven p n text before r after → r ≡ Apart k → FewRows k

@@ -1,6 +1,5 @@
 // Both archives, table by table.
 
-ghost use mathlib.Core.Path.{_≡_};
 ghost use Prim.Native.Nat.{_+_, _*_, _≤_};
 ghost use lib.ListN.{length};
 use crate::values;
@@ -68,7 +67,7 @@ fn print(p: Policy, archive: &[u64], known: &List, names: &mut List) {
     }
 }
 
-// The rows of the first archive are the others and one more, which comes first.
+// The first archive is all rows, the second all but the first of them.
 pub fn print_both(p: Policy, rows: &[u64], known: &List, names: &mut List)
     requires { ⌜ 9 ≤ length (now rows) ⌝ }
 {

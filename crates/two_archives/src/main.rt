@@ -13,7 +13,7 @@ use model::Outcome;
 use model::Policy;
 use text::Numeral;
 
-// Whatever stands behind a word of a line.
+// A refusal, and the end of the line that it stands in.
 fn print_pair(number: u64, line: u64) {
     io::write_all(1, b"refused ");
     io::print_decimal(1, number);

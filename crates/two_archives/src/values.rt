@@ -1,8 +1,7 @@
 // Values as they are printed. A constant of the policy or of the query is its number; of the others the desk is free to choose, so each is
 // a letter, in the order in which they are printed.
 
-ghost use mathlib.Core.Path.{_≡_};
-ghost use Prim.Native.Nat.{_*_, _≤_, _<_};
+ghost use Prim.Native.Nat.{_*_, _≤_};
 ghost use lib.ListN.{length};
 use model::CONSTANT;
 use model::MOST_COLUMNS;
