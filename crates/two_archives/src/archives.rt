@@ -1,6 +1,5 @@
-// An archive, table by table.
+// Both archives, table by table.
 
-ghost use mathlib.Core.Path.{_≡_};
 ghost use Prim.Native.Nat.{_+_, _*_, _≤_};
 ghost use lib.ListN.{length};
 use crate::values;
@@ -23,25 +22,24 @@ fn print_row(archive: &[u64], j: usize, width: usize, known: &List, names: &mut 
     io::write_all(1, b"\n");
 }
 
-// The rows of a table. How many there are.
-fn print_rows(archive: &[u64], table: u64, width: usize, known: &List, names: &mut List) -> usize
+// The rows of a table, under its number; nothing of a table that has none.
+fn print_rows(archive: &[u64], table: u64, width: usize, known: &List, names: &mut List)
     requires { ⌜ width ≤ 8 ⌝ }
 {
-    let mut found = 0;
+    let mut found = false;
     let mut j = 0;
     while j < archive.len() / ROW {
         if archive[j * ROW] == table {
-            if found == 0 {
+            if !found {
                 io::write_all(1, b"    table ");
                 io::print_decimal(1, table);
                 io::write_all(1, b"\n");
             }
             print_row(archive, j, width, known, names);
-            found = 1;
+            found = true;
         }
         j += 1;
     }
-    found
 }
 
 // How many columns the table at a place has.
@@ -57,7 +55,7 @@ fn width_at(p: Policy, t: usize) -> usize
     columns as usize
 }
 
-pub fn print(p: Policy, archive: &[u64], known: &List, names: &mut List) {
+fn print(p: Policy, archive: &[u64], known: &List, names: &mut List) {
     if archive.len() < ROW {
         io::write_all(1, b"    no row\n");
     }
@@ -67,4 +65,14 @@ pub fn print(p: Policy, archive: &[u64], known: &List, names: &mut List) {
         print_rows(archive, t as u64 + 1, width, known, names);
         t += 1;
     }
+}
+
+// The first archive is all rows, the second all but the first of them.
+pub fn print_both(p: Policy, rows: &[u64], known: &List, names: &mut List)
+    requires { ⌜ 9 ≤ length (now rows) ⌝ }
+{
+    io::write_all(1, b"  archive 1\n");
+    print(p, rows, known, names);
+    io::write_all(1, b"  archive 2\n");
+    print(p, &rows[ROW..], known, names);
 }

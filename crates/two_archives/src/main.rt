@@ -13,7 +13,7 @@ use model::Outcome;
 use model::Policy;
 use text::Numeral;
 
-// Whatever stands behind a word of a line.
+// A refusal, and the end of the line that it stands in.
 fn print_pair(number: u64, line: u64) {
     io::write_all(1, b"refused ");
     io::print_decimal(1, number);
@@ -34,11 +34,8 @@ fn print_apart(p: Policy, n: u64, text: &[u8], rows: &[u64])
     let lines = reduce::query_rows(q);
     let known = values::constants_of(p, lines);
     let mut names = values::no_names();
-    let others = &rows[valuations::ROW..];
-    io::write_all(1, b"not settled\n  archive 1\n");
-    archives::print(p, rows, &known, &mut names);
-    io::write_all(1, b"  archive 2\n");
-    archives::print(p, others, &known, &mut names);
+    io::write_all(1, b"not settled\n");
+    archives::print_both(p, rows, &known, &mut names);
     answers::of_views(p, n, rows, &known, &mut names);
     let end = q.count * model::ROW;
     answers::of_query(&lines[..end], rows, &known, &mut names);
@@ -55,10 +52,8 @@ fn print_partition(p: Policy, n: u64, text: &[u8]) {
             io::write_all(1, b"settled\n");
         }
         Telling::Apart { rows: count } => {
-            if 1 <= count && count <= 40 {
-                let end = count as usize * valuations::ROW;
-                print_apart(p, n, text, &rows[..end]);
-            }
+            let end = count as usize * valuations::ROW;
+            print_apart(p, n, text, &rows[..end])
         }
         Telling::Refused { number, line } => print_pair(number, line),
     }
@@ -78,8 +73,9 @@ fn partition_at(i: usize) -> u64 {
 }
 
 fn print_partitions(p: Policy, text: &[u8]) {
+    let count = os::arg_count();
     let mut i = 1;
-    while i < os::arg_count() && i < 33 {
+    while i < count {
         print_partition(p, partition_at(i), text);
         i += 1;
     }

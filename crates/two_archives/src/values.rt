@@ -1,8 +1,7 @@
 // Values as they are printed. A constant of the policy or of the query is its number; of the others the desk is free to choose, so each is
 // a letter, in the order in which they are printed.
 
-ghost use mathlib.Core.Path.{_≡_};
-ghost use Prim.Native.Nat.{_*_, _≤_, _<_};
+ghost use Prim.Native.Nat.{_*_, _≤_};
 ghost use lib.ListN.{length};
 use model::CONSTANT;
 use model::MOST_COLUMNS;
@@ -53,9 +52,7 @@ fn add_constants(rows: &[u64], count: usize, list: &mut List)
 }
 
 // The constants of the policy and of a query's lines.
-pub fn constants_of(p: Policy, lines: QueryRows) -> List
-    ensures { λ r. ⌜ 321 ≡ length r ⌝ }
-{
+pub fn constants_of(p: Policy, lines: QueryRows) -> List {
     let mut list = no_names();
     let mut k = 0;
     while k < MOST_VIEWS {
@@ -67,9 +64,7 @@ pub fn constants_of(p: Policy, lines: QueryRows) -> List
     list
 }
 
-pub fn no_names() -> List
-    ensures { λ r. ⌜ 321 ≡ length r ⌝ }
-{
+pub fn no_names() -> List {
     [0; 321]
 }
 

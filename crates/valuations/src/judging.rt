@@ -1,5 +1,5 @@
-// Whether rows tell a query apart: no row stands twice, the views of a partition have the same answers with the first row as without it, and
-// the query has not.
+// Whether rows tell a query apart: no row stands twice, the views of a partition have the same answers with the first row as without it,
+// and the query has not.
 
 ghost use mathlib.Core.Path.{_≡_};
 ghost use Prim.Native.Nat.{_+_, _*_, _≤_, _<_};

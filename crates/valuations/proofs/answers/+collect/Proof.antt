@@ -1,4 +1,4 @@
--- `collect` ends: each call has a variable less to try, and `at` comes nearer to the end of the archive.
+-- `collect` ends: each call has a variable less to try, and `at` comes nearer to the end of the numbers to try.
 use mathlib.Core.Path.{_≡_, ap, _∙_}
 use mathlib.Core.Logic.{⊎-elim}
 use Prim.Native.Nat.{ℕ, _-_, _≤_, _<_}
@@ -19,14 +19,14 @@ use Rattle.words.proofs.set_bit.Reads as set-bit-reads
 use Rattle.valuations.proofs.answers.+collect.{statement}
 use Rattle.valuations.proofs.answers.+collect.Tie.{close}
 
-abbrev μ-collect : Measures 4 collect-kinds.ps ℕ
-μ-collect κs a = a .1 .1 .0
+abbrev μ-collect : Measures 5 collect-kinds.ps ℕ
+μ-collect κs a = a .1 .1 .1 .0
 
-abbrev collect-at : ℕ → In 4 collect-kinds.ps
-collect-at t = and 4 collect-kinds.ps (is 4 collect-kinds.ps μ-collect t) collect′.Pre
+abbrev collect-at : ℕ → In 5 collect-kinds.ps
+collect-at t = and 5 collect-kinds.ps (is 5 collect-kinds.ps μ-collect t) collect′.Pre
 
-abbrev collect-below : ℕ → In 4 collect-kinds.ps
-collect-below t = and 4 collect-kinds.ps (falls 4 collect-kinds.ps _<_ μ-collect t) collect′.Pre
+abbrev collect-below : ℕ → In 5 collect-kinds.ps
+collect-below t = and 5 collect-kinds.ps (falls 5 collect-kinds.ps _<_ μ-collect t) collect′.Pre
 
 -- what each call asks and says, in the order of the calls
 abbrev calls : ℕ → collect-lts.Claims
@@ -48,11 +48,11 @@ calls t = (
 )
 
 abbrev collect-Inv-loop : collect-lts.InvT-loop
-collect-Inv-loop lines archive rest known shown₀ answers₀ count x left next found₀ at₀ shown answers found at =
-    (at ≤ length archive) × (found ≤ 64) × (length shown ≡ length shown₀) × (length answers ≡ length answers₀)
+collect-Inv-loop lines archive domain rest known shown₀ answers₀ count x left next found₀ at₀ shown answers found at =
+    (at ≤ length domain) × (found ≤ 64) × (length shown ≡ length shown₀) × (length answers ≡ length answers₀)
 
 abbrev collect-μ-loop : collect-lts.MeasureT-loop
-collect-μ-loop lines archive rest known shown₀ answers₀ count x left next found₀ at₀ shown answers found at = length archive - at
+collect-μ-loop lines archive domain rest known shown₀ answers₀ count x left next found₀ at₀ shown answers found at = length domain - at
 
 collect-is-answer-requires : (t : ℕ)
     → collect-lts.Need-is-answer-requires (calls t) (collect-at t) collect′.Post collect-Inv-loop collect-μ-loop
