@@ -48,8 +48,8 @@ module _ {d : Declared} {t : Tables} {ns : List ℕ} {Q : Query} {r : List ℕ} 
     pub first-wide : (start : List ℕ) → Wide start → {out : List ℕ} → PutAt 0 cells start out → Wide out
     first-wide start wide put = record { room = rw (holds-length (first start wide put) (omega arith)) (wide .room) }
 
-    module _ (start : List ℕ) (wide : Wide start) (out next : List ℕ) {from w : ℕ} (put : PutAt 0 cells start out) (clear : w ≡ clearBit left k)
-        (lines-put : LinesPut base n lines w out next from) where
+    module _ (start : List ℕ) (wide : Wide start) (out next : List ℕ) {from w : ℕ} (put : PutAt 0 cells start out)
+        (clear : w ≡ clearBit left k) (lines-put : LinesPut base n lines w out next from) where
       behind : (from ≡ length (odd o spare ∷ others o spare)) × Holds start (odd o spare ∷ others o spare) next
       behind =
           subst (λ (v : ℕ). LinesPut base n lines v out next from) clear lines-put (S o) (held o) start (odd o spare) (first start wide put)

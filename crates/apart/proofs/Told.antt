@@ -139,8 +139,8 @@ module _ {d : Declared} {t : Tables} {ns : List ℕ} {Q : Query} {r : List ℕ} 
         let there-j : getElem? (show (reduce Q)) j ≡ some A = subst (λ (R : Query). getElem? R j ≡ some A) is at-j in
         let line = held .line k (omega (arith, low, held .count)) in
         let told = told-apart-shown (d .widths) (granted (d .views) ns) (o .query .clear) (o .query .fits) (reduce-reduces Q) base
-        spared-lines spared-views
-        (small shown (λ B x l. l .small-shown)) (small hidden (λ B x l. l .small-hidden)) j A there-j (line .columns) uncovered extra e once in
+        spared-lines spared-views (small shown (λ B x l. l .small-shown)) (small hidden (λ B x l. l .small-hidden))
+        j A there-j (line .columns) uncovered extra e once in
         let mapped : map (frozenRow base) (without j (show (reduce Q))) ≡ others =
         ap (λ (R : Query). map (frozenRow base) (without j R)) (sym is) ∙ ap (map (frozenRow base)) (sym rest) in
         of-partition (subst (λ (l : List Row). TellsApart (d .widths) (λ v. v ∈ granted (d .views) ns) Q odd (l ++ extra)) mapped told)

@@ -9,18 +9,18 @@ mod rows;
 mod told;
 
 fn main() {
-    let p = policies::example();
+    let p = test_expect::example();
     let mut n = told::example(p, 0);
     n = told::lines_and_joins(p, n);
     n = told::hiding(policies::hiding(), n);
-    n = told::without_views(policies::wider(), n);
+    n = told::without_views(test_expect::wider(), n);
     n = told::constants(policies::constants(), n);
     n = told::forty(policies::forty(), n);
     n = told::settled_ones(p, n);
     n = refusals::partitions(p, n);
     n = refusals::rooms(p, n);
     n = refusals::texts(p, n);
-    n = refusals::orders(p, policies::altered(), n);
+    n = refusals::orders(p, test_expect::altered(), n);
     io::print_decimal(1, n);
     io::write_all(1, b" cases\n");
 }

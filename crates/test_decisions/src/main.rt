@@ -6,13 +6,6 @@ mod refusals;
 
 use model::Policy;
 
-fn policy() -> Policy {
-    let r = load::load(
-        b"table columns\n1 3\n2 2\nview table terms\n1 1 !1 !2 !3\n2 1 !1 !2 ?3\n3 2 !1 !2\n4 2 !1 #7\npartition views\n1 2 3\n2 1 4\n",
-    );
-    r.policy
-}
-
 // The partitions that opening opens: both.
 fn opened(p: Policy, n: u64) -> u64 {
     let o = desk::open_session(p);
@@ -26,7 +19,7 @@ fn opened(p: Policy, n: u64) -> u64 {
 }
 
 fn main() {
-    let p = policy();
+    let p = test_expect::example();
     let mut n = opened(p, 0);
     n = example::queries(p, n);
     n = example::labels_of_table_1(p, n);

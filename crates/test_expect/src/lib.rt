@@ -1,9 +1,13 @@
-// What the test programs share: a reply as plain numbers, compared and printed, and deciding in a session that is lent.
+// What the test programs share: a reply as plain numbers, compared and printed, deciding in a session that is lent, and policies.
 
 mod deciding;
+mod policies;
 mod said;
 
 pub use deciding::decided;
+pub use policies::altered;
+pub use policies::example;
+pub use policies::wider;
 pub use said::Said;
 pub use said::apart;
 pub use said::counted;

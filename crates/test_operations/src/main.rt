@@ -58,10 +58,10 @@ fn sessions(p: Policy, wider: Policy, widest: Policy, altered: Policy, start: u6
 }
 
 fn main() {
-    let p = policies::example();
-    let wider = policies::wider();
+    let p = test_expect::example();
+    let wider = test_expect::wider();
     let widest = policies::widest();
-    let altered = policies::altered();
+    let altered = test_expect::altered();
     let mut n = loading::taken(0);
     n = loading::refused(n);
     n = labels(p, wider, widest, altered, n);

@@ -5,23 +5,6 @@ ghost use Rattle.model.specs.Limits.{mostTables, mostColumns, mostViews};
 use model::Policy;
 use model::Term;
 
-// Document 01's: partition 1 grants views 2 and 3, partition 2 views 1 and 4.
-pub fn example() -> Policy {
-    let r = load::load(
-        b"table columns\n1 3\n2 2\nview table terms\n1 1 !1 !2 !3\n2 1 !1 !2 ?3\n3 2 !1 !2\n4 2 !1 #7\npartition views\n1 2 3\n2 1 4\n",
-    );
-    r.policy
-}
-
-// The same with a third table, which has no view, and a third partition, which grants none.
-pub fn wider() -> Policy {
-    let r = load::load(
-        b"table columns\n1 3\n2 2\n3 1
-view table terms\n1 1 !1 !2 !3\n2 1 !1 !2 ?3\n3 2 !1 !2\n4 2 !1 #7\npartition views\n1 2 3\n2 1 4\n3\n",
-    );
-    r.policy
-}
-
 // Three views of a table of three columns: one with its first two columns equal, one with the last two hidden and equal, and one
 // with these hidden. Partition n grants view n.
 pub fn equal_columns() -> Policy {
@@ -104,9 +87,4 @@ pub fn with_term(p: Policy, i: usize, column: usize, mark: u64, number: u64) -> 
     v.terms[column] = Term { mark, number };
     q.views[i] = v;
     q
-}
-
-// A value that no text gives: partition 2, which grants views 1 and 4, is behind the last.
-pub fn altered() -> Policy {
-    with_partition_count(example(), 1)
 }

@@ -26,7 +26,8 @@ use Rattle.theory.proofs.Determine.Marked.{constants-match, equals-matc
 use Rattle.theory.proofs.Determine.Thaw.{thaw, thaw-freeze}
 use Rattle.theory.proofs.Determine.Archives.{others, all-rows, agree, frozen-answer, rows-fit}
 use Rattle.theory.proofs.Determine.Necessary.{covering-view}
-use Rattle.theory.proofs.Determine.Block.{variables, columns, Spared, frozenRow, ExtraRows, frozen-shown, block, block-freezes, block-extra}
+use Rattle.theory.proofs.Determine.Block.{variables, columns, Spared, frozenRow, ExtraRows}
+use Rattle.theory.proofs.Determine.Block.{frozen-shown, block, block-freezes, block-extra}
 
 -- ---- no row stands twice
 

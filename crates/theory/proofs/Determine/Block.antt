@@ -1,4 +1,4 @@
--- Values of 64 bits: a block of numbers that holds no constant, the first of them for the variables and those behind for the columns' marks.
+-- Values of 64 bits: a block of numbers that holds no constant, one for each variable and behind these one for each column, its mark.
 use mathlib.Core.Path.{_≡_, refl, sym, ap, _∙_, subst}
 use mathlib.Core.Logic.{_⊎_, ⊎-elim}
 use mathlib.Core.List.{List}
