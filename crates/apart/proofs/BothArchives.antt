@@ -16,7 +16,8 @@ use Rattle.freezing.specs.Blocks.{SpareFound}
 use Rattle.freezing.specs.Rows.{HasLine, LineFrozen}
 use Rattle.apart.specs.Buffer.{PutAt, Holds}
 use Rattle.apart.specs.Marking.{Roomy, SomeMarking, MarkedPut}
-use Rattle.apart.specs.Writing.{Wide, LinesPut, OddLine, RowsTell}
+use Rattle.apart.specs.Archives.{ToldApart}
+use Rattle.apart.specs.Writing.{Wide, LinesPut, OddLine}
 use Rattle.apart.proofs.Rows.{holds-none, holds-more, holds-length}
 use Rattle.apart.proofs.FrozenLines.{frozen-narrow}
 use Rattle.apart.proofs.ShownLines.{line-fits}
@@ -60,14 +61,14 @@ module _ {d : Declared} {t : Tables} {ns : List ℕ} {Q : Query} {r : List ℕ} 
         wide = rw (holds-length (behind .1) (omega (arith, others-few o spare))) (wide .room);
       }
 
-      pub rows-tell : {after : List ℕ} {count : ℕ} → MarkedPut base r i cells from next after count → RowsTell d i Q start after count
+      pub rows-tell : {after : List ℕ} {count : ℕ} → MarkedPut base r i cells from next after count → ToldApart d i Q count start after
       rows-tell marked =
           let m = marked d t ns (odd o spare) (o .ready) (o .partition) fits are start _ (sym (behind .0)) (behind .1) in
           let many = length-append (others o spare) (m .extra) in
           record {
             odd = odd o spare;
             others = others o spare ++ m .extra;
-            few = omega (arith, many, others-few o spare, m .few);
+            few = omega (arith, m .count, many, others-few o spare, m .few);
             many = m .count;
             buffer = m .holds .are;
             apart = rows-apart o spare (m .extra) (m .rows) (m .once);

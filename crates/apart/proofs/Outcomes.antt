@@ -82,13 +82,13 @@ module _ (d : Declared) (i : ℕ) (r : Telling) (before after : List ℕ) where
   unfolding caseOf caseOwed number-of
   given-case (refusal number line) g = ap caseOf (g .reply)
   given-case settlement g = ap caseOf (g .reply)
-  given-case (archives Q) g = ap caseOf (g .reply)
+  given-case (archives Q) g = ap caseOf (g .1)
 
   nothing-written : (o : Owed) → Gives d i r before after o → saidTelling r .word ≢ says-apart
       → (saidTelling r .count ≡ 0) × (after ≡ before)
   nothing-written (refusal number line) g ne = (ap (λ (s : SaidTelling). s .count) (g .reply), g .buffer)
   nothing-written settlement g ne = (ap (λ (s : SaidTelling). s .count) (g .reply), g .buffer)
-  nothing-written (archives Q) g ne = absurd (ne (ap (λ (s : SaidTelling). s .word) (g .reply)))
+  nothing-written (archives Q) g ne = absurd (ne (ap (λ (s : SaidTelling). s .word) (g .1)))
 
 -- a refusal's number is one of the operation's
 abbrev TellingNumber : SaidTelling → Type 0
@@ -109,7 +109,7 @@ module _ (d : Declared) (n : ℕ) (text : List ℕ) (r : Telling) (before after 
       either Numbered (ltb (length before) mostCells) (refused-by 10 0 (found-in explainingNumbers 10 tt))
       (either Numbered (settled (viewsWord (getD (d .partitions) (n - 1) [])) (labels (d .views) Q))
       (λ g e. absurd (refused≢settled (sym e ∙ ap (λ (s : SaidTelling). s .word) (g .reply))))
-      (λ g e. absurd (refused≢apart (sym e ∙ ap (λ (s : SaidTelling). s .word) (g .reply)))))
+      (λ g e. absurd (refused≢apart (sym e ∙ ap (λ (s : SaidTelling). s .word) (g .1)))))
 
   owed-numbered : Numbered (owed d n text (length before))
   unfolding owed any
@@ -147,7 +147,7 @@ module _ {p : Policy} {l : Loadable p} {n : ℕ} {text before : List ℕ} {Q : Q
       go : (b : Bool) → Gives d (n - 1) r before after (cond b settlement (archives Q))
           → saidTelling r .word ≡ cond b says-settled says-apart
       go true h = ap (λ (s : SaidTelling). s .word) (h .reply)
-      go false h = ap (λ (s : SaidTelling). s .word) (h .reply)
+      go false h = ap (λ (s : SaidTelling). s .word) (h .1)
 
 -- one of two words, by a test
 says-first : (b : Bool) {w : Word} → w ≡ cond b says-settled says-apart → (w ≡ says-settled) ↔ T b

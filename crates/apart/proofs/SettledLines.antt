@@ -25,10 +25,10 @@ use Rattle.reduce.proofs.Left.{in-lines, lines-in}
 use Rattle.labelling.specs.Posed.{ShownIn}
 use Rattle.labelling.specs.Settled.{settled, granted, answers}
 use Rattle.labelling.proofs.Partitions.{settled-settles}
-use Rattle.apart.specs.Archives.{settlement, archives, saidTelling, Gives}
+use Rattle.apart.specs.Archives.{settlement, archives, saidTelling, ToldApart, Gives}
 use Rattle.apart.specs.declared.telling.Telling.the-variants.{Settled, Apart}
 use Rattle.apart.specs.Unsettled.{AnswersLine, Unsettled, UnsettledFound}
-use Rattle.apart.specs.Writing.{OddLine, RowsTell}
+use Rattle.apart.specs.Writing.{OddLine}
 use Rattle.apart.specs.Telling.{AskedRows}
 use Rattle.apart.proofs.TableViews.{partition-known}
 
@@ -90,17 +90,9 @@ module _ {d : Declared} {t : Tables} {ns : List ℕ} {Q : Query} {r : List ℕ} 
       unsettled = one-unanswered ne;
     }
 
-    pub says-apart : (k ≡ n → ⊥) → (count : ℕ) (before after : List ℕ) → RowsTell d i Q before after count
+    pub says-apart : (k ≡ n → ⊥) → (count : ℕ) (before after : List ℕ) → ToldApart d i Q count before after
         → Gives d i (Apart count) before after (cond is-settled settlement (archives Q))
     unfolding saidTelling
     says-apart ne count before after g =
         let not-settled = is-settles ∙ sym (fails-false _ (unanswered (one-unanswered ne))) in
-        rw not-settled
-        (record {
-          odd = g .odd;
-          others = g .others;
-          few = g .few;
-          reply = ap (λ (m : ℕ). saidTelling (Apart m)) (g .many);
-          buffer = g .buffer;
-          apart = g .apart;
-        })
+        rw not-settled (count, refl, g)

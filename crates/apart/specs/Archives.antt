@@ -35,10 +35,19 @@ pub record SaidTelling : Type 0 where
   pub number : ℕ
   pub line : ℕ
 
+abbrev pub saidSettled : SaidTelling
+saidSettled = record { word = says-settled; count = 0; number = 0; line = 0 }
+
+abbrev pub saidRows : ℕ → SaidTelling
+saidRows n = record { word = says-apart; count = n; number = 0; line = 0 }
+
+abbrev pub saidRefused : (number line : ℕ) → SaidTelling
+saidRefused n k = record { word = says-refused; count = 0; number = n; line = k }
+
 unfoldable pub saidTelling : Telling → SaidTelling
-saidTelling Settled = record { word = says-settled; count = 0; number = 0; line = 0 }
-saidTelling (Apart n) = record { word = says-apart; count = n; number = 0; line = 0 }
-saidTelling (Refused n k) = record { word = says-refused; count = 0; number = n; line = k }
+saidTelling Settled = saidSettled
+saidTelling (Apart n) = saidRows n
+saidTelling (Refused n k) = saidRefused n k
 
 -- ---- what a call owes
 
@@ -76,23 +85,22 @@ pub record Stays (r : Telling) (said : SaidTelling) (before after : List ℕ) : 
   pub reply : saidTelling r ≡ said
   pub buffer : after ≡ before
 
--- "The odd row comes first, no row stands twice, the reply carries the number of rows … and cells past the last row stay": rows on which
--- the views of the partition at place i, counted from 0, agree whether the odd row is there or not, and the query does not
-pub record Rows (d : Declared) (i : ℕ) (Q : Query) (r : Telling) (before after : List ℕ) : Type 0 where
+-- "The odd row comes first … the number of rows, and at most 40 rows are given", "cells past the last row stay": rows on which the views of
+-- the partition at place i, counted from 0, agree whether the odd row is there or not, and the query does not
+pub record ToldApart (d : Declared) (i : ℕ) (Q : Query) (count : ℕ) (before after : List ℕ) : Type 0 where
   pub odd : Row
   pub others : List Row
-  pub few : length (odd ∷ others) ≤ mostRows
-  pub reply : saidTelling r ≡ record { word = says-apart; count = length (odd ∷ others); number = 0; line = 0 }
+  pub many : count ≡ length (odd ∷ others)
+  pub few : count ≤ mostRows
   pub buffer : after ≡ headed (allCells (odd ∷ others)) before
   pub apart : TellsApart (d .widths) (Grants d i) Q odd others
 
 abbrev pub Gives : Declared → ℕ → Telling → (before after : List ℕ) → Owed → Type 0
-Gives d i r before after (refusal number line) =
-    Stays r (record { word = says-refused; count = 0; number = number; line = line }) before after
-Gives d i r before after settlement = Stays r (record { word = says-settled; count = 0; number = 0; line = 0 }) before after
-Gives d i r before after (archives Q) = Rows d i Q r before after
+Gives d i r before after (refusal number line) = Stays r (saidRefused number line) before after
+Gives d i r before after settlement = Stays r saidSettled before after
+Gives d i r before after (archives Q) = (count : ℕ) × (saidTelling r ≡ saidRows count) × ToldApart d i Q count before after
 
 -- a call for partition n, counted from 1, with a buffer as it was before and is after
 pub record ArchivesGiven (p : Policy) (n : ℕ) (text before : List ℕ) (r : Telling) (after : List ℕ) : Type 0 where
-  pub unloaded : (Loadable p → ⊥) → Stays r (record { word = says-refused; count = 0; number = 8; line = 0 }) before after
+  pub unloaded : (Loadable p → ⊥) → Stays r (saidRefused 8 0) before after
   pub loaded : (l : Loadable p) → Gives (l .declared) (n - 1) r before after (owed (l .declared) n text (length before))

@@ -6,19 +6,16 @@ use Prim.Native.Nat.{ℕ, _≤_, _<_}
 use lib.ListN.{length, getElem?}
 use Rattle.theory.specs.Query.{Query}
 use Rattle.theory.specs.Archive.{Row}
-use Rattle.theory.specs.Apart.{TellsApart}
 use Rattle.theory.proofs.Determine.Block.{frozenRow}
 use Rattle.model.specs.Limits.{mostLines}
 use Rattle.model.specs.declared.Tables.{Tables}
 use Rattle.query_text.specs.WellRead.{WellRead}
-use Rattle.policy_text.specs.Declared.{Declared, Grants}
+use Rattle.policy_text.specs.Declared.{Declared}
 use Rattle.reduce.specs.Agree.{lineAt}
 use Rattle.reduce.specs.Left.{linesAt}
 use Rattle.labelling.specs.Posed.{Ready, ShownIn}
 use Rattle.freezing.specs.Rows.{HasLine}
-use Rattle.desk.specs.Buffer.{headed}
-use Rattle.freezing.specs.Cells.{allCells}
-use Rattle.apart.specs.Archives.{mostRows, mostCells}
+use Rattle.apart.specs.Archives.{mostCells, ToldApart}
 use Rattle.apart.specs.Buffer.{Holds}
 use Rattle.apart.specs.Unsettled.{Unsettled}
 
@@ -58,15 +55,7 @@ pub record OddLine (d : Declared) (t : Tables) (ns : List ℕ) (Q : Query) (r : 
 abbrev pub SomeOdd : List ℕ → ℕ → ℕ → List ℕ → ℕ → ℕ → Type 0
 SomeOdd r i n lines left k = (d : Declared) × (t : Tables) × (ns : List ℕ) × (Q : Query) × OddLine d t ns Q r i n lines left k
 
--- rows that tell the query apart, at the head of the buffer
-pub record RowsTell (d : Declared) (i : ℕ) (Q : Query) (before after : List ℕ) (count : ℕ) : Type 0 where
-  pub odd : Row
-  pub others : List Row
-  pub few : length (odd ∷ others) ≤ mostRows
-  pub many : count ≡ length (odd ∷ others)
-  pub buffer : after ≡ headed (allCells (odd ∷ others)) before
-  pub apart : TellsApart (d .widths) (Grants d i) Q odd others
-
+-- rows that tell the query apart
 abbrev pub ArchivesPut : List ℕ → ℕ → ℕ → List ℕ → ℕ → ℕ → List ℕ → List ℕ → ℕ → Type 0
 ArchivesPut r i n lines left k before after count =
-    (d : Declared) (t : Tables) (ns : List ℕ) (Q : Query) → OddLine d t ns Q r i n lines left k → RowsTell d i Q before after count
+    (d : Declared) (t : Tables) (ns : List ℕ) (Q : Query) → OddLine d t ns Q r i n lines left k → ToldApart d i Q count before after

@@ -30,7 +30,8 @@ unfolding saidTelling gives
 few-given d i k before after (refusal number line) g = absurd (omega (arith, ap gives (g .reply)))
 few-given d i k before after settlement g = absurd (omega (arith, ap gives (g .reply)))
 few-given d i k before after (archives Q) g =
-    let e = ap (λ (s : SaidTelling). s .count) (g .reply) in (omega (arith, e), omega (arith, e, g .few))
+    let (m, e, told) = g in
+    let same = ap (λ (s : SaidTelling). s .count) e in (omega (arith, same, told .many), omega (arith, same, told .few))
 
 module _ {p : Policy} {n : ℕ} {text before after : List ℕ} where
   -- rows are given under a loaded policy alone

@@ -14,7 +14,7 @@ use model::Policy;
 use text::Numeral;
 
 // A refusal, and the end of the line that it stands in.
-fn print_pair(number: u64, line: u64) {
+fn print_refusal(number: u64, line: u64) {
     io::write_all(1, b"refused ");
     io::print_decimal(1, number);
     io::write_all(1, b" ");
@@ -55,7 +55,7 @@ fn print_partition(p: Policy, n: u64, text: &[u8]) {
             let end = count as usize * valuations::ROW;
             print_apart(p, n, text, &rows[..end])
         }
-        Telling::Refused { number, line } => print_pair(number, line),
+        Telling::Refused { number, line } => print_refusal(number, line),
     }
 }
 
@@ -92,7 +92,7 @@ fn main() {
         Outcome::Accepted => print_partitions(r.policy, &query[..query_bytes]),
         Outcome::Refused { number, line } => {
             io::write_all(1, b"policy ");
-            print_pair(number, line);
+            print_refusal(number, line);
         }
     }
 }

@@ -57,8 +57,8 @@ print-apart-requires c κs = simp length-take (omega (arith, few (c .before)))
 enum-known-number : tie.Need-enum-known-number
 enum-known-number c = search needs
 
-print-pair-requires : tie.Need-print-pair-requires
-print-pair-requires c κs = search needs
+print-refusal-requires : tie.Need-print-refusal-requires
+print-refusal-requires c κs = search needs
 
 returns : tie.Need-returns
 returns c = search needs
@@ -89,7 +89,7 @@ print-partition-spec =
     slice-aggregate-print-apart
     print-apart-requires
     enum-known-number
-    print-pair-requires
+    print-refusal-requires
     returns
     returns-2
     returns-3)
