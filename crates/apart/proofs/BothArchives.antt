@@ -28,12 +28,12 @@ module _ {d : Declared} {t : Tables} {ns : List ℕ} {Q : Query} {r : List ℕ} 
   pub odd-row : length lines ≡ queryRowsLong → HasRow lines k
   odd-row long = omega (arith, low o, held o .count, held o .few, long)
 
-  pub odd-line : HasLine lines k (A o)
-  odd-line = held o .line k (omega (arith, low o, held o .count))
+  pub odd-held : HasLine lines k (A o)
+  odd-held = held o .line k (omega (arith, low o, held o .count))
 
   module _ {base : ℕ} (spare : SpareFound r lines base) {cells : List ℕ} (frozen : LineFrozen base lines k cells) where
     are : cells ≡ cellsOf (odd o spare)
-    are = frozen (A o) odd-line
+    are = frozen (A o) odd-held
 
     fits : Fits (d .widths) (odd o spare)
     fits = fits-over (value _ _) (A o) (line-fits (o .shown) k (o .unsettled .there))
@@ -43,7 +43,7 @@ module _ {d : Declared} {t : Tables} {ns : List ℕ} {Q : Query} {r : List ℕ} 
 
     first : (start : List ℕ) → Wide start → {out : List ℕ} → PutAt 0 cells start out → Holds start (odd o spare ∷ []) out
     first start wide {out} put =
-        holds-more (holds-none start (wide .room)) (odd o spare) (frozen-narrow base odd-line)
+        holds-more (holds-none start (wide .room)) (odd o spare) (frozen-narrow base odd-held)
         (subst (λ (l : List ℕ). PutAt 0 l start out) are put)
 
     pub first-wide : (start : List ℕ) → Wide start → {out : List ℕ} → PutAt 0 cells start out → Wide out

@@ -20,7 +20,7 @@ use Rattle.policy_text.proofs.Grants.{grants-bit}
 use Rattle.covering.specs.Prepared.{grantWord}
 use Rattle.labelling.specs.Posed.{Ready}
 use Rattle.labelling.specs.Settled.{granted, Known}
-use Rattle.labelling.proofs.Partitions.{good-known, granted-iff}
+use Rattle.labelling.proofs.Partitions.{granted-iff, known}
 use Rattle.freezing.specs.Cells.{cellsOf}
 use Rattle.freezing.specs.Rows.{Beside}
 
@@ -50,7 +50,7 @@ module _ {d : Declared} {t : Tables} {r : List ℕ} (ready : Ready d t r) where
     partition-low = omega (arith, place-below (d .partitions) i at, ready .good .partitions .few)
 
     pub partition-known : Known (d .views) ns
-    partition-known = good-known (d .views) ns (ready .good .partitions .each ns (at-place (d .partitions) i at))
+    partition-known = known d (ready .good) i ns at
 
     -- bit i of a view's word says whether the partition at place i lists its number
     pub listed-iff : (k : ℕ) → k < mostViews → (bit (grantWord r k) i ≡ 1) ↔ (k + 1 ∈ ns)

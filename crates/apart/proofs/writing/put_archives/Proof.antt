@@ -1,6 +1,6 @@
 -- `put_archives`: the odd row, the other lines and the marked rows, one behind the other, tell the query apart.
 use borrow.Author.Needs.{needs}
-use Rattle.apart.proofs.BothArchives.{odd-row, odd-line, first-wide, room, marking, rows-tell}
+use Rattle.apart.proofs.BothArchives.{odd-row, odd-held, first-wide, room, marking, rows-tell}
 use Rattle.apart.proofs.TableViews.{partition-low}
 use Rattle.apart.proofs.Told.{held}
 use Rattle.apart.proofs.writing.put_archives.Statement.{statement}
@@ -13,7 +13,7 @@ frozen-row-requires : tie.Need-frozen-row-requires
 frozen-row-requires c κs =
     let b = c .before in
     let ((d, t, ns, Q, o), long, wide) = b .before .before .before .before .pre in
-    (b .spare-block .ensures .low, odd-row o long, (_, odd-line o))
+    (b .spare-block .ensures .low, odd-row o long, (_, odd-held o))
 
 put-row-requires : tie.Need-put-row-requires
 put-row-requires c κs = search needs
