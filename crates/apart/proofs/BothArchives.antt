@@ -1,23 +1,24 @@
 -- The rows of both archives as they are written: the odd row, the other lines, and the marked rows.
 use mathlib.Core.Path.{_≡_, sym, subst}
 use mathlib.Core.List.{List, [], _∷_, _++_}
-use Prim.Native.Nat.{ℕ}
+use Prim.Native.Nat.{ℕ, _≤_}
 use native.Mathlib.Omega.{arith}
 use lib.ListN.{length, length-append}
 use Rattle.theory.specs.Query.{Query, Fits}
 use Rattle.theory.specs.Archive.{value}
 use Rattle.theory.proofs.Tuples.{fits-over}
 use Rattle.words.specs.Sets.{clearBit}
+use Rattle.model.specs.Limits.{mostLines}
 use Rattle.model.specs.Rows.{HasRow, queryRowsLong}
 use Rattle.model.specs.declared.Tables.{Tables}
 use Rattle.policy_text.specs.Declared.{Declared}
 use Rattle.freezing.specs.Cells.{cellsOf}
 use Rattle.freezing.specs.Blocks.{SpareFound}
 use Rattle.freezing.specs.Rows.{HasLine, LineFrozen}
-use Rattle.apart.specs.Buffer.{PutAt, Holds}
-use Rattle.apart.specs.Marking.{Roomy, SomeMarking, MarkedPut}
+use Rattle.apart.specs.Buffer.{Wide, PutAt, Holds}
+use Rattle.apart.specs.Marking.{SomeMarking, MarkedPut}
 use Rattle.apart.specs.Archives.{ToldApart}
-use Rattle.apart.specs.Writing.{Wide, LinesPut, OddLine}
+use Rattle.apart.specs.Writing.{LinesPut, OddLine}
 use Rattle.apart.proofs.Rows.{holds-none, holds-more, holds-length}
 use Rattle.apart.proofs.FrozenLines.{frozen-narrow}
 use Rattle.apart.proofs.ShownLines.{line-fits}
@@ -55,11 +56,11 @@ module _ {d : Declared} {t : Tables} {ns : List ℕ} {Q : Query} {r : List ℕ} 
       behind =
           subst (λ (v : ℕ). LinesPut base n lines v out next from) clear lines-put (S o) (held o) start (odd o spare) (first start wide put)
 
-      pub room : Roomy from next
-      room = record {
-        few = omega (arith, behind .0, others-few o spare);
-        wide = rw (holds-length (behind .1) (omega (arith, others-few o spare))) (wide .room);
-      }
+      pub room : (from ≤ mostLines) × Wide next
+      room = (
+        omega (arith, behind .0, others-few o spare),
+        record { room = rw (holds-length (behind .1) (omega (arith, others-few o spare))) (wide .room) },
+      )
 
       pub rows-tell : {after : List ℕ} {count : ℕ} → MarkedPut base r i cells from next after count → ToldApart d i Q count start after
       rows-tell marked =

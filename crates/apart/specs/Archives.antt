@@ -23,6 +23,7 @@ use Rattle.apart.specs.declared.telling.Telling.the-variants.{Settled, A
 
 -- ---- the reply
 
+-- "the reply `settled`", rows, or a refusal
 pub data Word : Type 0 where
   says-settled : Word
   says-apart : Word
@@ -35,15 +36,19 @@ pub record SaidTelling : Type 0 where
   pub number : ℕ
   pub line : ℕ
 
+-- "`settled` and no row"
 abbrev pub saidSettled : SaidTelling
 saidSettled = record { word = says-settled; count = 0; number = 0; line = 0 }
 
+-- "the reply carries the number of rows"
 abbrev pub saidRows : ℕ → SaidTelling
 saidRows n = record { word = says-apart; count = n; number = 0; line = 0 }
 
+-- document 01, "a count in the reply is 0"
 abbrev pub saidRefused : (number line : ℕ) → SaidTelling
 saidRefused n k = record { word = says-refused; count = 0; number = n; line = k }
 
+-- of each case of the reply
 unfoldable pub saidTelling : Telling → SaidTelling
 saidTelling Settled = saidSettled
 saidTelling (Apart n) = saidRows n
@@ -65,7 +70,8 @@ mostRows = mostLines + 32
 abbrev pub mostCells : ℕ
 mostCells = mostRows * rowCells
 
--- "10 is met by a buffer of under 360 numbers, settled or not"; "A partition that settles the query gives the reply `settled`"
+-- "10 is met by a buffer of under 360 numbers, settled or not"; "A partition that settles the query gives the reply `settled`", where
+-- settling is document 01's, by labels; `settled-exactly` (Outcomes) says what it is over archives
 unfoldable pub owedFor : Declared → ℕ → ℕ → Reading → Owed
 unfolding settled labels viewsWord
 owedFor d n room (refused k line) = refusal k line
@@ -80,7 +86,7 @@ owed d n text room = cond (upTo (length (d .partitions)) n) (owedFor d n room (r
 
 -- ---- what the reply says and the buffer holds then
 
--- nothing is written
+-- "On any refusal … lent buffers stay", and "no row": nothing is written
 pub record Stays (r : Telling) (said : SaidTelling) (before after : List ℕ) : Type 0 where
   pub reply : saidTelling r ≡ said
   pub buffer : after ≡ before
@@ -95,6 +101,7 @@ pub record ToldApart (d : Declared) (i : ℕ) (Q : Query) (count : ℕ) (before 
   pub buffer : after ≡ headed (allCells (odd ∷ others)) before
   pub apart : TellsApart (d .widths) (Grants d i) Q odd others
 
+-- for each of the three: what the reply says, and the buffer before and after the call
 abbrev pub Gives : Declared → ℕ → Telling → (before after : List ℕ) → Owed → Type 0
 Gives d i r before after (refusal number line) = Stays r (saidRefused number line) before after
 Gives d i r before after settlement = Stays r saidSettled before after

@@ -11,6 +11,10 @@ use Rattle.freezing.specs.Cells.{rowCells, allCells}
 use Rattle.desk.specs.Buffer.{headed}
 use Rattle.apart.specs.Archives.{mostCells}
 
+-- room for every row
+pub record Wide (out : List ℕ) : Type 0 where
+  pub room : mostCells ≤ length out
+
 -- the cells of the row at place k are there
 abbrev pub HasCells : List ℕ → ℕ → Type 0
 HasCells out k = k * rowCells + rowCells ≤ length out

@@ -9,20 +9,13 @@ use Rattle.theory.specs.Query.{Line, Fits, _∈_}
 use Rattle.theory.specs.Archive.{Row, row}
 use Rattle.theory.specs.Apart.{NoRepeats}
 use Rattle.theory.proofs.Determine.Block.{markBy, ExtraRows}
-use Rattle.model.specs.Limits.{mostLines}
 use Rattle.model.specs.declared.Tables.{Tables}
 use Rattle.policy_text.specs.Declared.{Declared}
 use Rattle.labelling.specs.Posed.{Ready}
 use Rattle.labelling.specs.Settled.{granted}
 use Rattle.freezing.specs.Cells.{cellsOf}
 use Rattle.freezing.specs.Rows.{Beside}
-use Rattle.apart.specs.Archives.{mostCells}
 use Rattle.apart.specs.Buffer.{Holds}
-
--- room for every row, behind as many rows as a query has lines
-pub record Roomy (from : ℕ) (out : List ℕ) : Type 0 where
-  pub few : from ≤ mostLines
-  pub wide : mostCells ≤ length out
 
 -- ---- one view
 

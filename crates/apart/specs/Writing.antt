@@ -15,13 +15,9 @@ use Rattle.reduce.specs.Agree.{lineAt}
 use Rattle.reduce.specs.Left.{linesAt}
 use Rattle.labelling.specs.Posed.{Ready, ShownIn}
 use Rattle.freezing.specs.Rows.{HasLine}
-use Rattle.apart.specs.Archives.{mostCells, ToldApart}
+use Rattle.apart.specs.Archives.{ToldApart}
 use Rattle.apart.specs.Buffer.{Holds}
 use Rattle.apart.specs.Unsettled.{Unsettled}
-
--- room for every row
-pub record Wide (out : List ℕ) : Type 0 where
-  pub room : mostCells ≤ length out
 
 -- ---- the lines of a word
 

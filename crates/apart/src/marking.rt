@@ -3,11 +3,11 @@
 ghost use mathlib.Core.Path.{_≡_};
 ghost use Prim.Native.Nat.{_<_, _≤_};
 ghost use lib.ListN.{length};
-ghost use Rattle.model.specs.Limits.{mostViews, mostPartitions};
+ghost use Rattle.model.specs.Limits.{mostLines, mostViews, mostPartitions};
 ghost use Rattle.covering.specs.Prepared.{preparedLong};
 ghost use Rattle.freezing.specs.Blocks.{lastBase};
-ghost use Rattle.apart.specs.Buffer.{HasCells};
-ghost use Rattle.apart.specs.Marking.{Roomy, SomeMarking, ViewPut, MarkedPut};
+ghost use Rattle.apart.specs.Buffer.{Wide, HasCells};
+ghost use Rattle.apart.specs.Marking.{SomeMarking, ViewPut, MarkedPut};
 use crate::buffer::put_row;
 use crate::buffer::stands;
 use covering::Prepared;
@@ -49,7 +49,8 @@ pub fn put_marked(
     from: usize,
     out: &mut [u64],
 ) -> usize
-    requires { ⌜ (base ≤ lastBase) × SomeMarking (now ready) odd × (i < mostPartitions) × Roomy from (now out) ⌝ }
+    requires { ⌜ (base ≤ lastBase) × SomeMarking (now ready) odd × (i < mostPartitions) ⌝ }
+    requires { ⌜ (from ≤ mostLines) × Wide (now out) ⌝ }
     ensures { λ r. ⌜ MarkedPut base (now (ready .entry)) i odd from (now (out .entry)) (now (out .exit)) r ⌝ }
 {
     let mut count = from;

@@ -63,9 +63,6 @@ fn print_partition(p: Policy, n: u64, text: &[u8]) {
 fn partition_at(i: usize) -> u64 {
     let mut word = io::buffer();
     let n = os::arg(i, &mut word);
-    if word.len() < n {
-        return 0;
-    }
     match text::read_numeral(&word[..n]) {
         Numeral::Value(v) => v,
         _ => 0,

@@ -27,15 +27,15 @@ array-read-views-of c = search needs
 
 -- the first cell is one of the tables
 table : (c : tie.Start Inv-loop μ-loop) → getD (c .args .t4) 0 0 ≤ mostTables
-table c = let (d, t, odd, ready, fits, are) = c .pre .1 in rw (cells-table odd are) (fits-table (ready .good) fits)
+table c = let (d, t, odd, ready, fits, are) = c .pre .0 .1 in rw (cells-table odd are) (fits-table (ready .good) fits)
 
 views-of-requires : tie.Need-views-of-requires Inv-loop μ-loop
-views-of-requires c κs = let (d, t, odd, ready, fits, are) = c .before .pre .1 in (ready .long, table (c .before))
+views-of-requires c κs = let (d, t, odd, ready, fits, are) = c .before .pre .0 .1 in (ready .long, table (c .before))
 
 loop-holds : tie.Need-loop-holds Inv-loop μ-loop
 loop-holds c =
     let start = c .before .before in
-    let (d, t, odd, ready, fits, are) = start .pre .1 in
+    let (d, t, odd, ready, fits, are) = start .pre .0 .1 in
     let word = c .views-of .ensures in
     (room-all _ _ (rw word (ready .below _ (table start))), refl, so-far-none _ _ _ _ _ _ _ word)
 
@@ -48,19 +48,19 @@ small c = view-place (c .before .before .loop .inv .0) (c .least .ensures)
 
 granting-requires : tie.Need-granting-requires Inv-loop μ-loop
 granting-requires c κs =
-    let (d, t, odd, ready, fits, are) = c .before .before .before .before .before .pre .1 in (ready .long, small c)
+    let (d, t, odd, ready, fits, are) = c .before .before .before .before .before .pre .0 .1 in (ready .long, small c)
 
 has-bit-requires : tie.Need-has-bit-requires Inv-loop μ-loop
-has-bit-requires c κs = omega (arith, c .before .before .before .before .before .before .pre .2)
+has-bit-requires c κs = omega (arith, c .before .before .before .before .before .before .pre .0 .2)
 
 put-view-requires : tie.Need-put-view-requires Inv-loop μ-loop
 put-view-requires c κs =
     let found = c .before .before .before .before in
     let at = found .before .before .loop in
-    let (base, (d, t, odd, ready, fits, are), _, roomy) = found .before .before .before .before .before .pre in
+    let ((base, (d, t, odd, ready, fits, are), _), (few, wide)) = found .before .before .before .before .before .pre in
     let (room, long, _) = at .inv in (
       (base, ready .long, small found),
-      (room .least, omega (arith, room .each _ (found .least .ensures .set), small found, roomy .few, roomy .wide, long)),
+      (room .least, omega (arith, room .each _ (found .least .ensures .set), small found, few, wide .room, long)),
     )
 
 drop-least-requires : tie.Need-drop-least-requires Inv-loop μ-loop

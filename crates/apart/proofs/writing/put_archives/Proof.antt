@@ -40,9 +40,7 @@ put-marked-requires c κs =
     let ((d, t, ns, Q, o), long, wide) = spare .before .before .before .before .pre in
     let s = spare .spare-block .ensures in
     let f = frozen .frozen-row .ensures in (
-      s .low,
-      marking o s f,
-      partition-low (o .ready) _ ns (o .partition),
+      (s .low, marking o s f, partition-low (o .ready) _ ns (o .partition)),
       room o s f _ wide _ _ (put .put-row .ensures) (clear .clear-bit .ensures) (behind .put-lines .ensures),
     )
 
