@@ -22,11 +22,12 @@ use Rattle.query_text.proofs.Accepted.{accepted-well-read}
 use Rattle.policy_text.specs.Declared.{Declared}
 use Rattle.policy_text.specs.WellFormed.{WellFormed}
 use Rattle.validity.specs.Loadable.{Loadable}
-use Rattle.labelling.specs.Posed.{wordsValue, labelsValue}
+use Rattle.labelling.specs.Posed.{labelsValue}
+use Rattle.word_list.specs.Value.{wordsValue}
 use Rattle.labelling.specs.Settled.{settling}
 use Rattle.labelling.specs.Text.{LoadedTo, askedValue}
 use Rattle.labelling.specs.declared.Asked.{Asked}
-use Rattle.labelling.specs.declared.Words.{Words}
+use Rattle.word_list.specs.declared.Words.{Words}
 use Rattle.labelling.specs.declared.Labels.{Labels}
 use Rattle.labelling.proofs.Lines.{shown-fits}
 use Rattle.labelling.proofs.Posing.{few-labels}

@@ -4,7 +4,7 @@ use mathlib.Core.List.{[]}
 use native.Mathlib.Omega.{arith}
 use lib.ListN.{length}
 use Rattle.theory.specs.Executable.Label.{labels}
-use Rattle.query_text.specs.Text.{Reading}
+use Rattle.word_list.specs.Order.{ascending}
 use Rattle.query_text.proofs.Accepted.{accepted-well-read}
 use Rattle.query_text.proofs.Printed.{reads-exactly}
 use Rattle.policy_text.specs.Text.{load}
@@ -14,7 +14,6 @@ use Rattle.validity.specs.Loadable.{Loadable}
 use Rattle.desk.specs.declared.opening.Session.{Session}
 use Rattle.desk.specs.declared.opening.Opening.{Opening}
 use Rattle.desk.specs.Opening.{allOpen}
-use Rattle.desk.specs.Listing.{listReading, Lists}
 use Rattle.desk.specs.Demands.{Demand1, Demand2, Demand3}
 use Rattle.desk.proofs.Loaded.{loaded-to}
 use Rattle.desk.proofs.Masks.{open-count}
@@ -23,6 +22,7 @@ use Rattle.desk.proofs.Calls.{chain, loaded}
 use Rattle.desk.proofs.Unique.{opened-unique, decided-unique, labels-unique, explanation-unique}
 use Rattle.desk.proofs.Stays.{yes-or-no, session-stays, labels-buffer-stays, explaining-buffer-stays}
 use Rattle.desk.proofs.Numbers.{loading-numbers, opening-numbers, deciding-numbers, labels-numbers, explaining-numbers}
+use Rattle.desk.proofs.Listed.{labels-listed}
 use Rattle.desk.proofs.Rewriting.{labels-rewrite}
 
 pub demand-1 : Demand1
@@ -46,14 +46,10 @@ demand-1 = record {
 }
 
 pub demand-2 : Demand2
-unfolding listReading
 demand-2 p l text before r after g Q e =
     let d = l .declared in
-    let w = accepted-well-read (d .widths) text Q e in (
-      labels (d .views) Q,
-      labels-rewrite d (loaded-to l .good) Q (w .clear) (w .fits),
-      subst (λ (v : Reading). Lists r after (listReading d before v)) e (g .loaded l),
-    )
+    let w = accepted-well-read (d .widths) text Q e in
+    (ascending (labels (d .views) Q), labels-rewrite d (loaded-to l .good) Q (w .clear) (w .fits), labels-listed l g Q e)
 
 pub demand-3 : Demand3
 demand-3 text r e a o opened cs s calls =

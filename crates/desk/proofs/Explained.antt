@@ -5,7 +5,7 @@ use mathlib.Core.List.{List, [], _++_}
 use Prim.Native.Nat.{ℕ, _-_, _^_, _≤_, _<_}
 use native.Mathlib.Omega.{arith}
 use borrow.Author.Tests.{lt-ltb, le-ltb}
-use lib.ListN.{length, getD, take, drop}
+use lib.ListN.{length, getD, drop}
 use Rattle.theory.specs.Query.{Query}
 use Rattle.theory.specs.Executable.Label.{labels, settles}
 use Rattle.theory.proofs.Lists.{at-place, below-place, there}
@@ -15,7 +15,6 @@ use Rattle.words.proofs.TestBits.{tests-say}
 use Rattle.words.proofs.Answers.{true-holds}
 use Rattle.model.specs.Limits.{mostViews, mostPartitions, mostLines, upTo}
 use Rattle.model.specs.declared.Policy.{Policy}
-use Rattle.model.proofs.Pad.{pad-get, pad-take}
 use Rattle.query_text.specs.Text.{refused, accepted, read}
 use Rattle.query_text.proofs.Accepted.{accepted-well-read}
 use Rattle.policy_text.specs.Declared.{Declared}
@@ -23,10 +22,11 @@ use Rattle.policy_text.specs.Policy.{viewsWord}
 use Rattle.policy_text.specs.Abstract.{grantedAt}
 use Rattle.model.proofs.Limits.{up-to-iff}
 use Rattle.validity.specs.Loadable.{Loadable}
-use Rattle.labelling.specs.Posed.{wordsValue}
+use Rattle.word_list.specs.Value.{wordsValue}
 use Rattle.labelling.specs.Settled.{settled, granted, settling}
 use Rattle.labelling.specs.declared.Asked.{Asked}
-use Rattle.labelling.specs.declared.Words.{Words}
+use Rattle.word_list.specs.declared.Words.{Words}
+use Rattle.word_list.proofs.Value.{count-is, word-is, words-are}
 use Rattle.labelling.proofs.Partitions.{settled-settles, good-known}
 use Rattle.explain.specs.Explanation.{explained}
 use Rattle.desk.specs.HoldsLabels.{HoldsLabels}
@@ -48,28 +48,21 @@ module _ {l : Words} (granted : ℕ) (ws : List ℕ) (h : HoldsLabels l ws) {w :
   few-words : AtMost Narrow mostLines (explained granted ws)
   few-words = explained-most granted (each-most mostLines ws (h .few) (h .narrow))
 
-  count-is : w .count ≡ length (explained granted ws)
-  unfolding wordsValue
-  count-is = ap (λ (x : Words). x .count) value
-
-  words-are : take (w .count) (w .words) ≡ explained granted ws
-  unfolding wordsValue
-  words-are = ap (λ (x : Words). take (x .count) (x .words)) value ∙ pad-take mostLines 0 (explained granted ws)
+  as-many : w .count ≡ length (explained granted ws)
+  as-many = count-is w (explained granted ws) value
 
   pub words-count : w .count ≤ mostLines
-  words-count = omega (arith, count-is, most-length few-words)
+  words-count = omega (arith, as-many, most-length few-words)
 
   pub words-narrow : (i : ℕ) → getD (w .words) i 0 < 2 ^ halfBits
-  unfolding wordsValue
   words-narrow i =
-      subst (λ (x : ℕ). x < 2 ^ halfBits)
-      (sym (ap (λ (x : Words). getD (x .words) i 0) value ∙ pad-get mostLines 0 (explained granted ws) i)) (most-get few-words i)
+      subst (λ (x : ℕ). x < 2 ^ halfBits) (sym (word-is w (explained granted ws) value i)) (most-get few-words i)
 
   pub explains-short : {before : List ℕ} → length before < w .count
       → Explains (Refused 10 0) before (explainedBy before (settled granted ws) (explained granted ws))
   unfolding explainedBy
   explains-short {before} g =
-      rw (lt-ltb (length before) (length (explained granted ws)) (omega (arith, count-is))) (not-explains before 10 0)
+      rw (lt-ltb (length before) (length (explained granted ws)) (omega (arith, as-many))) (not-explains before 10 0)
 
   pub explains-given : (before : List ℕ) {after : List ℕ} {r : Explaining} {b : Bool}
       → saidExplaining r ≡ record { given = true; settles = b; count = w .count; number = 0; line = 0 } → b ≡ settled granted ws
@@ -77,12 +70,12 @@ module _ {l : Words} (granted : ℕ) (ws : List ℕ) (h : HoldsLabels l ws) {w :
       → Explains r after (explainedBy before (settled granted ws) (explained granted ws))
   unfolding explainedBy
   explains-given before t s g c =
-      rw (le-ltb (length before) (length (explained granted ws)) (omega (arith, count-is)))
+      rw (le-ltb (length before) (length (explained granted ws)) (omega (arith, as-many)))
       (record {
-        reply = t ∙ (λ i. record { given = true; settles = s i; count = count-is i; number = 0; line = 0 });
+        reply = t ∙ (λ i. record { given = true; settles = s i; count = as-many i; number = 0; line = 0 });
         buffer =
-            c ∙ ap (λ (v : List ℕ). v ++ drop (w .count) before) words-are
-            ∙ ap (λ (k : ℕ). explained granted ws ++ drop k before) count-is;
+            c ∙ ap (λ (v : List ℕ). v ++ drop (w .count) before) (words-are w (explained granted ws) value)
+            ∙ ap (λ (k : ℕ). explained granted ws ++ drop k before) as-many;
       })
 
 -- ---- the partition

@@ -21,6 +21,7 @@ pub mod Copied
 -- Labels.
 pub mod Listed
 pub mod Rewriting
+pub mod OneOrder
 -- Explanations.
 pub mod Narrow
 pub mod Explained

@@ -1,20 +1,21 @@
 -- The reply of a listing and the buffer after it, case by case.
-use mathlib.Core.Path.{_≡_, refl, ap, _∙_}
+use mathlib.Core.Path.{_≡_, refl, ap, _∙_, subst}
 use mathlib.Core.Bool.{true}
 use mathlib.Core.List.{List, _++_}
 use Prim.Native.Nat.{ℕ, _≤_, _<_}
 use native.Mathlib.Omega.{arith}
 use borrow.Author.Tests.{lt-ltb, le-ltb}
-use lib.ListN.{length, take, drop}
+use lib.ListN.{length, drop}
+use Rattle.theory.specs.Query.{Query}
 use Rattle.theory.specs.Executable.Label.{labels}
-use Rattle.model.specs.Limits.{mostLines}
 use Rattle.model.specs.declared.Policy.{Policy}
-use Rattle.model.proofs.Pad.{pad-take}
-use Rattle.query_text.specs.Text.{refused, read}
+use Rattle.query_text.specs.Text.{Reading, refused, accepted, read}
 use Rattle.validity.specs.Loadable.{Loadable}
-use Rattle.labelling.specs.Posed.{wordsValue}
+use Rattle.word_list.specs.Value.{wordsValue}
 use Rattle.labelling.specs.declared.Asked.{Asked}
-use Rattle.labelling.specs.declared.Words.{Words}
+use Rattle.word_list.specs.declared.Words.{Words}
+use Rattle.word_list.specs.Order.{ascending}
+use Rattle.word_list.proofs.Value.{count-is, words-are}
 use Rattle.desk.specs.Listing.{saidListing, notListed, given, listed, listReading, Lists, LabelsGiven}
 use Rattle.desk.specs.declared.listing.Listing.{Listing}
 use Rattle.desk.specs.declared.listing.Listing.the-variants.{Given, Refused}
@@ -28,29 +29,29 @@ not-lists before n k = record { reply = refl; buffer = refl }
 -- ---- the labels and the buffer
 
 module _ (l : Words) (ws : List ℕ) (e : l ≡ wordsValue ws) where
-  count-is : l .count ≡ length ws
-  unfolding wordsValue
-  count-is = ap (λ (x : Words). x .count) e
-
-  words-are : take (l .count) (l .words) ≡ ws
-  unfolding wordsValue
-  words-are = ap (λ (x : Words). take (x .count) (x .words)) e ∙ pad-take mostLines 0 ws
-
   pub lists-short : {before : List ℕ} → length before < l .count → Lists (Refused 10 0) before (listed before ws)
   unfolding listed
-  lists-short {before} h = rw (lt-ltb (length before) (length ws) (omega (arith, count-is))) (not-lists before 10 0)
+  lists-short {before} h = rw (lt-ltb (length before) (length ws) (omega (arith, count-is l ws e))) (not-lists before 10 0)
 
   pub lists-given : (before : List ℕ) {after : List ℕ} → l .count ≤ length before → after ≡ Copied (l .words) (l .count) before
       → Lists (Given (l .count)) after (listed before ws)
   unfolding saidListing listed given
   lists-given before h c =
-      rw (le-ltb (length before) (length ws) (omega (arith, count-is)))
+      rw (le-ltb (length before) (length ws) (omega (arith, count-is l ws e)))
       (record {
-        reply = λ i. record { given = true; count = count-is i; number = 0; line = 0 };
-        buffer = c ∙ ap (λ (v : List ℕ). v ++ drop (l .count) before) words-are ∙ ap (λ (k : ℕ). ws ++ drop k before) count-is;
+        reply = λ i. record { given = true; count = count-is l ws e i; number = 0; line = 0 };
+        buffer = c ∙ ap (λ (v : List ℕ). v ++ drop (l .count) before) (words-are l ws e) ∙ ap (λ (k : ℕ). ws ++ drop k before) (count-is l ws e);
       })
 
 -- ---- the policy value and the text
+
+-- under a loaded policy a well-formed text gets the labels of its query, or 10
+pub labels-listed : {p : Policy} (l : Loadable p) {text before : List ℕ} {r : Listing} {after : List ℕ}
+    → LabelsGiven p text before r after → (Q : Query) → read (l .declared .widths) text ≡ accepted Q
+    → Lists r after (listed before (ascending (labels (l .declared .views) Q)))
+unfolding listReading
+labels-listed l {before = before} {r} {after} g Q e =
+    subst (λ (v : Reading). Lists r after (listReading (l .declared) before v)) e (g .loaded l)
 
 module _ {p : Policy} {text before : List ℕ} where
   pub unlisted : (Loadable p → ⊥) → LabelsGiven p text before (Refused 8 0) before
@@ -62,7 +63,8 @@ module _ {p : Policy} {text before : List ℕ} where
   text-refused {n} {k} is h = record { unloaded = λ m. absurd (m is); loaded = λ l. rw (h l) (not-lists before n k) }
 
   pub text-listed : {r : Listing} {after : List ℕ} (v : Asked) → Loadable p → ((l : Loadable p) → Labelled (l .declared) text v)
-      → ((ws : List ℕ) → v .labels .words ≡ wordsValue ws → Lists r after (listed before ws)) → LabelsGiven p text before r after
+      → ((ws : List ℕ) → v .labels .words ≡ wordsValue ws → Lists r after (listed before (ascending ws)))
+      → LabelsGiven p text before r after
   unfolding listReading
   text-listed v is h lists =
       record {

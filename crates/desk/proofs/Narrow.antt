@@ -12,7 +12,8 @@ use Rattle.words.specs.Bits.{halfBits}
 use Rattle.theory.specs.Query.{_∈_}
 use Rattle.theory.specs.Executable.Test.{any}
 use Rattle.labelling.specs.Settled.{settled}
-use Rattle.explain.specs.Explanation.{viewsOf, keep, insert, ascending, distinct, least, lacking, explained}
+use Rattle.word_list.specs.Order.{insert, ascending}
+use Rattle.explain.specs.Explanation.{viewsOf, keep, distinct, least, lacking, explained}
 
 -- at most n words, each with the property
 pub data AtMost (P : ℕ → Type 0) : ℕ → List ℕ → Type 0 where

@@ -8,6 +8,7 @@ use lib.Dec.{eqb}
 use lib.ListN.{length, getD}
 use Rattle.theory.specs.Query.{_∈_}
 use Rattle.theory.specs.Executable.Label.{labels}
+use Rattle.word_list.specs.Order.{ascending}
 use Rattle.theory.specs.Executable.Test.{any}
 use Rattle.theory.proofs.Pigeonhole.{member}
 use Rattle.words.proofs.Answers.{either}
@@ -101,7 +102,7 @@ unfolding listReading listed notListed given any
 reading-labels d text before (refused n k) q =
     λ e. List·Memᴰ·tail (Memᴰ·append-left (10 ∷ []) (read-refuses (d .widths) text n k q))
 reading-labels d text before (accepted Q) q =
-    either (λ (o : Listed). LabelsNumber (o .says)) (tooShort before (labels (d .views) Q)) (λ e. found-in labelsNumbers 10 tt)
+    either (λ (o : Listed). LabelsNumber (o .says)) (tooShort before (ascending (labels (d .views) Q))) (λ e. found-in labelsNumbers 10 tt)
     (λ e. absurd (false≢true (sym e)))
 
 pub labels-numbers : (p : Policy) (text before : List ℕ) (r : Listing) (after : List ℕ) → LabelsGiven p text before r after

@@ -1,7 +1,7 @@
--- The labels of a query, as the definition gives them, mean rewriting, and are those of every reduced form.
+-- The labels of a query, as the definition gives them, mean rewriting, and are those of every reduced form, in ascending order.
 use mathlib.Core.Path.{subst}
-use mathlib.Core.List.{map, Memᴰ·of-map}
-use Prim.Native.Nat.{_^_, _<_}
+use mathlib.Core.List.{List, map, Memᴰ·of-map, List·Permᴰ·trans}
+use Prim.Native.Nat.{ℕ, _^_, _<_}
 use native.Mathlib.Omega.{arith}
 use Rattle.words.specs.Bits.{halfBits}
 use Rattle.theory.specs.Query.{over, Line, Query, NoClash, Fits}
@@ -18,9 +18,15 @@ use Rattle.theory.proofs.Reduce.{reduced-answers, reduced-reduced, reduced-subs
 use Rattle.theory.proofs.Label.{label-says-rewriting}
 use Rattle.theory.proofs.Executable.Reduce.{reduce-reduces}
 use Rattle.theory.proofs.Executable.Label.{label-table, label-below}
+use Rattle.word_list.specs.Order.{ascending}
+use Rattle.word_list.proofs.Sorted.{ascending-permutes, ascending-ascends}
 use Rattle.policy_text.specs.Declared.{Declared}
 use Rattle.policy_text.specs.WellFormed.{WellFormed}
 use Rattle.desk.specs.Rewriting.{LabelOf, LabelsOfForm, LabelsOf}
+
+-- the lines left fit where the query's do
+pub reduced-fits : {widths : List ℕ} {Q R : Query} → ReducesTo Q R → AllFit widths Q → AllFit widths R
+reduced-fits r fits A m = fits A (reduced-subset r A m)
 
 module _ (d : Declared) (good : WellFormed d) where
   label-of : (A : Line) → Fits (d .widths) A → LabelOf d A (label (d .views) A)
@@ -33,7 +39,7 @@ module _ (d : Declared) (good : WellFormed d) where
       }
 
   -- the labels of a query that fits, its shared variables shown
-  labels-of-form : (R : Query) → AllFit (d .widths) R → LabelsOfForm d R (map (label (d .views)) (show R))
+  pub labels-of-form : (R : Query) → AllFit (d .widths) R → LabelsOfForm d R (map (label (d .views)) (show R))
   unfolding show
   labels-of-form R fits = record {
     shown = show R;
@@ -43,15 +49,18 @@ module _ (d : Declared) (good : WellFormed d) where
         label-of A (subst (Fits (d .widths)) e (fits-over (showTerm R) B (fits B i))));
   }
 
-  pub labels-rewrite : (Q : Query) → NoClash Q → AllFit (d .widths) Q → LabelsOf d Q (labels (d .views) Q)
-  unfolding labels
+  pub labels-rewrite : (Q : Query) → NoClash Q → AllFit (d .widths) Q → LabelsOf d Q (ascending (labels (d .views) Q))
   labels-rewrite Q clear fits =
-      let inside : (R : Query) → ReducesTo Q R → AllFit (d .widths) R = λ R r A m. fits A (reduced-subset r A m) in
+      let ws = labels (d .views) Q in
       record {
         form = reduce Q;
         reduces = reduce-reduces Q;
-        labels-it = labels-of-form (reduce Q) (inside (reduce Q) (reduce-reduces Q));
-        any-form = λ R r. (map (label (d .views)) (show R), labels-of-any-form (d .views) clear r, labels-of-form R (inside R r));
+        any-form = λ R r. (
+          map (label (d .views)) (show R),
+          labels-of-form R (reduced-fits r fits),
+          List·Permᴰ·trans (ascending-permutes ws) (labels-of-any-form (d .views) clear r),
+        );
+        ascends = ascending-ascends ws;
         answers = λ R r. reduced-answers r;
         none-goes = λ R r. reduced-reduced r;
       }

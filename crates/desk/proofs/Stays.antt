@@ -9,6 +9,7 @@ use lib.Dec.{eqb}
 use lib.ListN.{length, getD}
 use Rattle.theory.specs.Query.{Query}
 use Rattle.theory.specs.Executable.Label.{labels}
+use Rattle.word_list.specs.Order.{ascending}
 use Rattle.words.proofs.Answers.{either}
 use Rattle.model.specs.Limits.{upTo}
 use Rattle.model.specs.declared.Policy.{Policy}
@@ -73,7 +74,7 @@ reading-kept : (d : Declared) (before : List ℕ) (v : Reading) → Kept before 
 unfolding listReading listed notListed given
 reading-kept d before (refused n k) = λ e. refl
 reading-kept d before (accepted Q) =
-    either (Kept before) (tooShort before (labels (d .views) Q)) (λ e. refl) (λ e. absurd (false≢true (sym e)))
+    either (Kept before) (tooShort before (ascending (labels (d .views) Q))) (λ e. refl) (λ e. absurd (false≢true (sym e)))
 
 pub labels-buffer-stays : (p : Policy) (text before : List ℕ) (r : Listing) (after : List ℕ) → LabelsGiven p text before r after
     → saidListing r .given ≡ false → after ≡ before

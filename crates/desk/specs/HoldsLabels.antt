@@ -7,9 +7,9 @@ use lib.ListN.{length}
 use Rattle.words.specs.Bits.{halfBits}
 use Rattle.theory.specs.Query.{_∈_}
 use Rattle.model.specs.Limits.{mostLines}
-use Rattle.labelling.specs.Posed.{wordsValue}
+use Rattle.word_list.specs.Value.{wordsValue}
 use Rattle.labelling.specs.Settled.{settled}
-use Rattle.labelling.specs.declared.Words.{Words}
+use Rattle.word_list.specs.declared.Words.{Words}
 use Rattle.explain.specs.Explanation.{explained}
 use Rattle.desk.specs.Explaining.{explainedBy, Explains}
 use Rattle.desk.specs.declared.explaining.Explaining.{Explaining}

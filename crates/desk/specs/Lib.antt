@@ -6,6 +6,7 @@ pub mod Calls
 pub mod Buffer
 pub mod Listing
 pub mod Rewriting
+pub mod OneOrder
 pub mod Explaining
 pub mod HoldsLabels
 pub mod Outcomes

@@ -5,6 +5,7 @@ use mathlib.Core.List.{List}
 use Prim.Native.Nat.{ℕ}
 use lib.ListN.{length}
 use Rattle.theory.specs.Executable.Label.{labels}
+use Rattle.word_list.specs.Order.{ascending}
 use Rattle.model.specs.declared.Policy.{Policy}
 use Rattle.query_text.specs.Text.{Reading, refused, accepted, read}
 use Rattle.policy_text.specs.Declared.{Declared}
@@ -43,11 +44,11 @@ unfoldable pub listed : List ℕ → List ℕ → Listed
 unfolding notListed given
 listed buffer ws = cond (tooShort buffer ws) (notListed buffer 10 0) (given ws buffer)
 
--- the labels of the text's query; which of the open orders they stand in is the definition's choice
+-- the labels of the text's query, "ascending as 64-bit numbers, equal ones repeated" (document 02, request 2)
 unfoldable pub listReading : Declared → List ℕ → Reading → Listed
-unfolding notListed listed labels
+unfolding notListed listed labels ascending
 listReading d buffer (refused n k) = notListed buffer n k
-listReading d buffer (accepted Q) = listed buffer (labels (d .views) Q)
+listReading d buffer (accepted Q) = listed buffer (ascending (labels (d .views) Q))
 
 -- a reply and the buffer after the call
 pub record Lists (r : Listing) (after : List ℕ) (o : Listed) : Type 0 where

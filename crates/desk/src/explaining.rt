@@ -10,11 +10,11 @@ ghost use Rattle.model.specs.Limits.{mostViews, mostPartitions, mostLines};
 ghost use Rattle.policy_text.specs.Abstract.{grantedAt};
 ghost use Rattle.desk.specs.HoldsLabels.{SomeExplained, WordsGiven};
 ghost use Rattle.desk.specs.Explaining.{ExplanationGiven};
-use labelling::Words;
 use model::MOST_LINES;
 use model::MOST_VIEWS;
 use model::Outcome;
 use model::Policy;
+use word_list::Words;
 
 // Whether the partition settles the query and how many words explain it, or what turns the call back.
 pub enum Explaining {

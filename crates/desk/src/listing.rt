@@ -5,12 +5,12 @@ ghost use mathlib.Core.List.{List, _++_};
 ghost use Prim.Native.Nat.{ℕ, _≤_};
 ghost use lib.ListN.{length, take, drop};
 ghost use Rattle.model.specs.Limits.{mostLines};
-ghost use Rattle.labelling.specs.Posed.{wordsValue};
+ghost use Rattle.word_list.specs.Value.{wordsValue};
 ghost use Rattle.desk.specs.Listing.{LabelsGiven, Lists, listed};
-use labelling::Words;
 use model::MOST_LINES;
 use model::Outcome;
 use model::Policy;
+use word_list::Words;
 
 // How many labels there are, or what turns the call back.
 pub enum Listing {
@@ -18,7 +18,7 @@ pub enum Listing {
     Refused { number: u64, line: u64 },
 }
 
-// The labels of a query text; numbers past them stay.
+// The labels of a query text, ascending; numbers past them stay.
 pub fn labels(p: Policy, text: &[u8], out: &mut [u64]) -> Listing
     ensures { λ r. ⌜ LabelsGiven p (now (text .entry)) (now (out .entry)) r (now (out .exit)) ⌝ }
 {
@@ -30,7 +30,7 @@ pub fn labels(p: Policy, text: &[u8], out: &mut [u64]) -> Listing
     match outcome {
         Outcome::Accepted => {
             let l = a.labels;
-            let w = l.words;
+            let w = word_list::ascending(l.words);
             give_labels(w, out)
         }
         Outcome::Refused { number, line } => Listing::Refused { number, line },

@@ -1,35 +1,30 @@
--- Words inserted once: which words the ascending words are.
+-- Words gathered once, from the last to the first.
 use mathlib.Core.Path.{_≡_, refl, sym, ap, _∙_}
 use mathlib.Core.Bool.{Bool, true, false, cond, _||_}
-use mathlib.Core.List.{List, [], _∷_}
+use mathlib.Core.List.{List, [], _∷_, _++_, reverse, reverse-cons}
 use Prim.Native.Nat.{ℕ}
 use borrow.Author.Tests.{eqb-true}
-use lib.Dec.{eqb, ltb}
+use lib.Dec.{eqb}
 use Rattle.theory.specs.Executable.Test.{any}
-use Rattle.explain.specs.Explanation.{insert, ascending, distinct}
+use Rattle.explain.specs.Explanation.{distinct}
 
 or-swap : (a b c : Bool) → (a || (b || c)) ≡ (b || (a || c))
 or-swap true true c = refl
 or-swap true false c = refl
 or-swap false b c = refl
 
--- ---- inserting adds the word and no other
+-- ---- the order of words plays no part in a search
 
-inserted : (f : ℕ → Bool) (w x : ℕ) (l m : List ℕ) (b : Bool) → any f m ≡ (f w || any f l)
-    → any f (cond b (x ∷ m) (w ∷ x ∷ l)) ≡ (f w || (f x || any f l))
+any-snoc : (f : ℕ → Bool) (l : List ℕ) (w : ℕ) → any f (l ++ w ∷ []) ≡ (f w || any f l)
 unfolding any
-inserted f w x l m true e = ap (λ (b : Bool). f x || b) e ∙ or-swap (f x) (f w) (any f l)
-inserted f w x l m false e = refl
+any-snoc f [] w = refl
+any-snoc f (x ∷ l) w = ap (λ (b : Bool). f x || b) (any-snoc f l w) ∙ or-swap (f x) (f w) (any f l)
 
-any-insert : (f : ℕ → Bool) (w : ℕ) (l : List ℕ) → any f (insert w l) ≡ (f w || any f l)
-unfolding any insert
-any-insert f w [] = refl
-any-insert f w (x ∷ l) = inserted f w x l (insert w l) (ltb x w) (any-insert f w l)
-
-any-ascending : (f : ℕ → Bool) (l : List ℕ) → any f (ascending l) ≡ any f l
-unfolding any ascending
-any-ascending f [] = refl
-any-ascending f (w ∷ l) = any-insert f w (ascending l) ∙ ap (λ (b : Bool). f w || b) (any-ascending f l)
+any-reverse : (f : ℕ → Bool) (l : List ℕ) → any f (reverse l) ≡ any f l
+unfolding any
+any-reverse f [] = refl
+any-reverse f (w ∷ l) =
+    ap (any f) (reverse-cons w l) ∙ any-snoc f (reverse l) w ∙ ap (λ (b : Bool). f w || b) (any-reverse f l)
 
 -- ---- dropping repeats drops no word
 
@@ -50,16 +45,16 @@ any-distinct v (w ∷ l) = kept-once v w l (distinct l) (any (eqb w) l) refl (an
 
 -- ---- one more word in front
 
-ascending-cond : (b : Bool) (l m : List ℕ) → ascending (cond b l m) ≡ cond b (ascending l) (ascending m)
-ascending-cond true l m = refl
-ascending-cond false l m = refl
+reverse-cond : (b : Bool) (v : ℕ) (l : List ℕ) → reverse (cond b l (v ∷ l)) ≡ cond b (reverse l) (reverse l ++ v ∷ [])
+reverse-cond true v l = refl
+reverse-cond false v l = reverse-cons v l
 
--- a word is inserted unless it is there
+-- a word is put behind the others unless it is there
 pub distinct-more : (v : ℕ) (l : List ℕ) →
-    let r = ascending (distinct l) in
-    ascending (distinct (v ∷ l)) ≡ cond (any (eqb v) r) r (insert v r)
-unfolding distinct ascending
+    let r = reverse (distinct l) in
+    reverse (distinct (v ∷ l)) ≡ cond (any (eqb v) r) r (r ++ v ∷ [])
+unfolding distinct
 distinct-more v l =
-    ascending-cond (any (eqb v) l) (distinct l) (v ∷ distinct l)
-    ∙ ap (λ (b : Bool). cond b (ascending (distinct l)) (insert v (ascending (distinct l))))
-    (sym (any-ascending (eqb v) (distinct l) ∙ any-distinct v l))
+    let r = reverse (distinct l) in
+    reverse-cond (any (eqb v) l) v (distinct l)
+    ∙ ap (λ (b : Bool). cond b r (r ++ v ∷ [])) (sym (any-reverse (eqb v) (distinct l) ∙ any-distinct v l))

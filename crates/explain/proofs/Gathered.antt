@@ -1,24 +1,24 @@
 -- The words of an explanation, gathered from the last label to the first.
 use mathlib.Core.Path.{_≡_, sym, ap, _∙_}
 use mathlib.Core.Bool.{Bool, true, false, cond, not, _&&_}
-use mathlib.Core.List.{List, [], _∷_, map}
+use mathlib.Core.List.{List, [], _∷_, _++_, map, reverse, reverse-cons}
 use Prim.Native.Nat.{ℕ, _+_, _-_, _/_, _^_, _≤_, _<_}
 use native.Mathlib.Omega.{arith}
 use lib.Bits.{bitAnd}
 use lib.Dec.{eqb}
-use lib.ListN.{length, getD, drop, drop-of-length-le}
+use lib.ListN.{getD, drop, drop-of-length-le}
 use Rattle.words.specs.Bits.{halfBits}
 use Rattle.theory.specs.Executable.Test.{any}
 use Rattle.words.specs.Sets.{meet}
-use Rattle.labelling.specs.Posed.{wordsValue}
-use Rattle.labelling.specs.declared.Words.{Words}
+use Rattle.word_list.specs.Value.{wordsValue}
+use Rattle.word_list.specs.declared.Words.{Words}
+use Rattle.word_list.proofs.Places.{before-place}
+use Rattle.word_list.proofs.Value.{count-is, word-is}
 use Rattle.labelling.specs.Settled.{holdsOne}
-use Rattle.explain.specs.Explanation.{viewsOf, keep, insert, ascending, distinct, least, lacking}
+use Rattle.explain.specs.Explanation.{viewsOf, keep, distinct, least, lacking}
 use Rattle.explain.specs.Telling.{isLeast, isTold}
 use Rattle.explain.proofs.Distinct.{distinct-more}
 use Rattle.explain.proofs.Lacking.{passes, keep-lacking}
-use Rattle.explain.proofs.Search.{from-place}
-use Rattle.explain.proofs.Value.{count-is, word-is}
 
 -- ---- the words so far
 
@@ -39,31 +39,25 @@ gathered-none none empty =
 module _ (granted : ℕ) (ws : List ℕ) where
   -- of the labels from place i on, the granted views
   unfoldable pub grantedFrom : ℕ → List ℕ
-  unfolding ascending viewsOf
-  grantedFrom i = ascending (map (λ w. bitAnd (viewsOf w) granted) (drop i ws))
+  unfolding viewsOf
+  grantedFrom i = reverse (map (λ w. bitAnd (viewsOf w) granted) (drop i ws))
 
   -- of the labels from place i on, the least views of those that hold no granted view
   abbrev pub leastFrom : ℕ → List ℕ
   leastFrom i = keep (isLeast granted ws) (lacking granted (drop i ws))
 
   unfoldable pub lackingFrom : ℕ → List ℕ
-  unfolding ascending distinct
-  lackingFrom i = ascending (distinct (leastFrom i))
+  unfolding distinct
+  lackingFrom i = reverse (distinct (leastFrom i))
 
   -- from the first label on
-  pub granted-all : (i : ℕ) → i ≤ 0 → grantedFrom i ≡ ascending (map (λ w. bitAnd (viewsOf w) granted) ws)
+  pub granted-all : (i : ℕ) → i ≤ 0 → grantedFrom i ≡ reverse (map (λ w. bitAnd (viewsOf w) granted) ws)
   unfolding grantedFrom
   granted-all i h = let first : i ≡ 0 = omega arith in ap grantedFrom first
 
-  pub lacking-all : (i : ℕ) → i ≤ 0 → lackingFrom i ≡ ascending (distinct (least (lacking granted ws)))
+  pub lacking-all : (i : ℕ) → i ≤ 0 → lackingFrom i ≡ reverse (distinct (least (lacking granted ws)))
   unfolding lackingFrom least
   lacking-all i h = let first : i ≡ 0 = omega arith in ap lackingFrom first
-
--- a label before the labels from place i on
-before-place : (ws : List ℕ) (i : ℕ) → 0 < i → i ≤ length ws → drop (i - 1) ws ≡ getD ws (i - 1) 0 ∷ drop i ws
-before-place ws i some h =
-    let back : i - 1 + 1 ≡ i = omega arith in
-    from-place ws (i - 1) 0 (omega arith) ∙ ap (λ (k : ℕ). getD ws (i - 1) 0 ∷ drop k ws) back
 
 module _ (granted : ℕ) (l : Words) (ws : List ℕ) (e : l ≡ wordsValue ws) where
   -- ---- past the last label
@@ -73,11 +67,11 @@ module _ (granted : ℕ) (l : Words) (ws : List ℕ) (e : l ≡ wordsValue ws) w
 
   pub granted-none : grantedFrom granted ws (l .count) ≡ []
   unfolding grantedFrom
-  granted-none = ap (λ (t : List ℕ). ascending (map (λ w. bitAnd (viewsOf w) granted) t)) none-left
+  granted-none = ap (λ (t : List ℕ). reverse (map (λ w. bitAnd (viewsOf w) granted) t)) none-left
 
   pub lacking-none : lackingFrom granted ws (l .count) ≡ []
   unfolding lackingFrom lacking
-  lacking-none = ap (λ (t : List ℕ). ascending (distinct (keep (isLeast granted ws) (lacking granted t)))) none-left
+  lacking-none = ap (λ (t : List ℕ). reverse (distinct (keep (isLeast granted ws) (lacking granted t)))) none-left
 
   -- ---- a label
 
@@ -93,13 +87,14 @@ module _ (granted : ℕ) (l : Words) (ws : List ℕ) (e : l ≡ wordsValue ws) w
     views-are = sym (v ∙ ap (λ (w : ℕ). w / 2 ^ halfBits) (word-is l ws e (i - 1)))
 
     one-more : drop (i - 1) ws ≡ getD ws (i - 1) 0 ∷ drop i ws
-    one-more = before-place ws i some (omega (arith, count-is l ws e))
+    one-more = before-place ws i 0 some (omega (arith, count-is l ws e))
 
-    pub granted-more : grantedFrom granted ws (i - 1) ≡ insert (bitAnd views granted) (grantedFrom granted ws i)
+    pub granted-more : grantedFrom granted ws (i - 1) ≡ grantedFrom granted ws i ++ bitAnd views granted ∷ []
     unfolding grantedFrom
     granted-more =
-        ap (λ (t : List ℕ). ascending (map (λ w. bitAnd (viewsOf w) granted) t)) one-more
-        ∙ ap (λ (x : ℕ). insert (bitAnd x granted) (grantedFrom granted ws i)) views-are
+        ap (λ (t : List ℕ). reverse (map (λ w. bitAnd (viewsOf w) granted) t)) one-more
+        ∙ reverse-cons (bitAnd (viewsOf (getD ws (i - 1) 0)) granted) (map (λ w. bitAnd (viewsOf w) granted) (drop i ws))
+        ∙ ap (λ (x : ℕ). grantedFrom granted ws i ++ bitAnd x granted ∷ []) views-are
 
     next : leastFrom granted ws (i - 1)
         ≡ cond (isTold granted ws views) (views ∷ leastFrom granted ws i) (leastFrom granted ws i)
@@ -113,11 +108,11 @@ module _ (granted : ℕ) (l : Words) (ws : List ℕ) (e : l ≡ wordsValue ws) w
 
     pub lacking-told : isTold granted ws views ≡ true →
         let r = lackingFrom granted ws i in
-        lackingFrom granted ws (i - 1) ≡ cond (any (eqb views) r) r (insert views r)
+        lackingFrom granted ws (i - 1) ≡ cond (any (eqb views) r) r (r ++ views ∷ [])
     unfolding lackingFrom
-    lacking-told t = ap (λ (x : List ℕ). ascending (distinct x)) (rw t at next) ∙ distinct-more views (leastFrom granted ws i)
+    lacking-told t = ap (λ (x : List ℕ). reverse (distinct x)) (rw t at next) ∙ distinct-more views (leastFrom granted ws i)
 
     pub lacking-untold : isTold granted ws views ≡ false
         → lackingFrom granted ws (i - 1) ≡ lackingFrom granted ws i
     unfolding lackingFrom
-    lacking-untold t = ap (λ (x : List ℕ). ascending (distinct x)) (rw t at next)
+    lacking-untold t = ap (λ (x : List ℕ). reverse (distinct x)) (rw t at next)

@@ -1,11 +1,11 @@
--- The words of a value and of a list, one by one.
-pub mod Value
+-- Searching a list.
 pub mod Search
--- Insertion, and what it keeps.
-pub mod Insert
+-- Words gathered once.
 pub mod Distinct
 -- The labels, one by one.
 pub mod Lacking
 pub mod Gathered
+-- Their order.
+pub mod Order
 -- Examples.
 pub mod Worked

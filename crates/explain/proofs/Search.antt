@@ -1,18 +1,11 @@
 -- Searching a list from its first element on: an answer for the list is one for the elements from place i on.
 use mathlib.Core.Path.{_≡_, sym, ap, _∙_}
 use mathlib.Core.Bool.{Bool, true, false, _||_}
-use mathlib.Core.List.{List, _∷_}
-use Prim.Native.Nat.{ℕ, suc, _+_, _≤_, _<_}
-use native.Mathlib.Omega.{arith}
+use mathlib.Core.List.{List}
+use Prim.Native.Nat.{ℕ, _+_, _≤_, _<_}
 use lib.ListN.{length, getD, drop, drop-of-length-le}
-use lib.Seq.{drop-cons}
 use Rattle.theory.specs.Executable.Test.{any}
-
--- the elements from place i on, the first of them apart
-pub from-place : {X : Type 0} (l : List X) (i : ℕ) (d : X) → i < length l → drop i l ≡ getD l i d ∷ drop (i + 1) l
-from-place l i d h =
-    let one : suc i ≡ i + 1 = omega arith in
-    drop-cons l i d h ∙ ap (λ (k : ℕ). getD l i d ∷ drop k l) one
+use Rattle.word_list.proofs.Places.{from-place}
 
 module _ {X : Type 0} (f : X → Bool) (l : List X) where
   -- no element before place i passes

@@ -3,10 +3,11 @@ use mathlib.Core.Bool.{Bool, cond, not, _&&_}
 use mathlib.Core.List.{List, [], _∷_, map}
 use Prim.Native.Nat.{ℕ, _/_, _^_}
 use lib.Bits.{bitAnd}
-use lib.Dec.{eqb, ltb}
+use lib.Dec.{eqb}
 use Rattle.words.specs.Bits.{halfBits}
 use Rattle.theory.specs.Executable.Test.{any}
 use Rattle.words.specs.Sets.{include}
+use Rattle.word_list.specs.Order.{ascending}
 use Rattle.labelling.specs.Settled.{holdsOne, settled}
 
 -- the views of a label, "view n at bit n − 1"
@@ -17,16 +18,6 @@ viewsOf w = w / 2 ^ halfBits
 unfoldable pub keep : (ℕ → Bool) → List ℕ → List ℕ
 keep f [] = []
 keep f (x ∷ l) = cond (f x) (x ∷ keep f l) (keep f l)
-
--- "Words ascend as numbers": a word before the first that is not below it
-unfoldable pub insert : ℕ → List ℕ → List ℕ
-insert w [] = w ∷ []
-insert w (x ∷ l) = cond (ltb x w) (x ∷ insert w l) (w ∷ x ∷ l)
-
-unfoldable pub ascending : List ℕ → List ℕ
-unfolding insert
-ascending [] = []
-ascending (w ∷ l) = insert w (ascending l)
 
 -- "without repeats": the last of equal words is kept
 unfoldable pub distinct : List ℕ → List ℕ

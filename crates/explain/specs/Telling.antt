@@ -7,9 +7,9 @@ use lib.ListN.{length}
 use Rattle.theory.specs.Executable.Test.{any}
 use Rattle.words.specs.Sets.{meet}
 use Rattle.model.specs.Limits.{mostLines}
-use Rattle.labelling.specs.Posed.{wordsValue}
+use Rattle.word_list.specs.Value.{wordsValue}
 use Rattle.labelling.specs.Settled.{settled}
-use Rattle.labelling.specs.declared.Words.{Words}
+use Rattle.word_list.specs.declared.Words.{Words}
 use Rattle.explain.specs.Explanation.{exceeds, lacking, explained}
 
 -- a word strictly includes the views of no label that holds no granted view

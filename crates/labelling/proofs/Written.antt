@@ -25,7 +25,8 @@ use Rattle.covering.specs.declared.LineLabel.{LineLabel}
 use Rattle.reduce.specs.Agree.{lineAt}
 use Rattle.reduce.specs.Left.{pick, linesAt}
 use Rattle.reduce.proofs.Lines.{left-more}
-use Rattle.labelling.specs.Posed.{Ready, wordsValue, labelsValue}
+use Rattle.word_list.specs.Value.{wordsValue}
+use Rattle.labelling.specs.Posed.{Ready, labelsValue}
 use Rattle.labelling.specs.Settled.{answers, settlingLines}
 use Rattle.labelling.proofs.Granted.{Answering}
 use Rattle.labelling.specs.declared.Labels.{Labels}

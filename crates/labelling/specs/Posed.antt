@@ -11,7 +11,7 @@ use Rattle.theory.specs.Executable.Reduce.{reduce}
 use Rattle.theory.specs.Executable.Show.{show}
 use Rattle.model.specs.Limits.{mostTables, mostColumns, mostViews, mostLines}
 use Rattle.model.specs.Rows.{LaidAt}
-use Rattle.model.specs.Value.{pad, lineValue, tablesValue}
+use Rattle.model.specs.Value.{lineValue, tablesValue}
 use Rattle.model.specs.declared.Query.{Query}
 use Rattle.model.specs.declared.Tables.{Tables}
 use Rattle.policy_text.specs.Declared.{Declared}
@@ -24,8 +24,8 @@ use Rattle.reduce.specs.Agree.{lineAt}
 use Rattle.reduce.specs.Left.{linesAt}
 use Rattle.reduce.specs.Laid.{HoldsQuery, Laid}
 use Rattle.reduce.specs.Showing.{Small, SharedWord, showLine}
+use Rattle.word_list.specs.Value.{wordsValue}
 use Rattle.labelling.specs.Settled.{settling, settlingLines}
-use Rattle.labelling.specs.declared.Words.{Words}
 use Rattle.labelling.specs.declared.Labels.{Labels}
 
 -- ---- what is made of a policy once
@@ -82,11 +82,6 @@ pub record ShownIn (d : Declared) (Q : TheQuery) (left : ℕ) (rows : List ℕ) 
   pub reduced : linesAt left Q ≡ reduce Q
 
 -- ---- the labels
-
--- unused words are 0
-unfoldable pub wordsValue : List ℕ → Words
-unfolding pad
-wordsValue ws = record { count = length ws; words = pad mostLines 0 ws }
 
 -- the labels, and the partitions that settle the query
 unfoldable pub labelsValue : List ℕ → ℕ → Labels

@@ -7,7 +7,7 @@ ghost use lib.ListN.{length};
 ghost use Rattle.model.specs.Rows.{queryRowsLong};
 ghost use Rattle.query_text.specs.Text.{read};
 ghost use Rattle.policy_text.specs.Declared.{Declared};
-ghost use Rattle.labelling.specs.Posed.{Ready, SomeReady, wordsValue, labelsValue};
+ghost use Rattle.labelling.specs.Posed.{Ready, SomeReady, labelsValue};
 ghost use Rattle.labelling.specs.Posed.{SomeQueryRows, RowsShown};
 ghost use Rattle.labelling.specs.Posed.{SomeRows, RowsGiven, SomePosedRows, PosedRowsGiven, SomePosed, QueryGiven};
 ghost use Rattle.labelling.specs.Text.{LoadedTo, SomePolicy, askedValue};
@@ -19,12 +19,7 @@ use model::Query;
 use model::QueryRows;
 use model::Tables;
 use reduce::LINE_WORDS;
-
-// Up to eight words; unused ones are 0.
-pub struct Words {
-    pub count: usize,
-    pub words: [u64; MOST_LINES],
-}
+use word_list::Words;
 
 // One word for each line of the reduced query, and the partitions that settle it, partition n at bit n - 1.
 pub struct Labels {
@@ -93,19 +88,10 @@ pub fn label_query(ready: &Prepared, q: Query) -> Labels
     label_rows(ready, q.count, &mut lines)
 }
 
-pub fn no_words() -> Words
-    ensures { λ w. ⌜ w ≡ wordsValue [] ⌝ }
-{
-    Words {
-        count: 0,
-        words: [0; MOST_LINES],
-    }
-}
-
 fn no_labels() -> Labels
     ensures { λ l. ⌜ l ≡ labelsValue [] 0 ⌝ }
 {
-    let words = no_words();
+    let words = word_list::no_words();
     Labels { words, settling: 0 }
 }
 

@@ -40,12 +40,20 @@ pub fn two(a: u64, b: u64) -> List {
     }
 }
 
-// Eight words, all of them equal but the seventh.
-pub fn eight(a: u64, seventh: u64) -> List {
+pub fn three(a: u64, b: u64, c: u64) -> List {
+    let d = BEFORE;
+    List {
+        count: 3,
+        cells: [a, b, c, d, d, d, d, d, d, d],
+    }
+}
+
+// Eight words, all of them equal but the last.
+pub fn eight(a: u64, last: u64) -> List {
     let b = BEFORE;
     List {
         count: 8,
-        cells: [a, a, a, a, a, a, seventh, a, b, b],
+        cells: [a, a, a, a, a, a, a, last, b, b],
     }
 }
 

@@ -1,8 +1,9 @@
 // Labels. The low 32 bits hold the table number, and view n stands at bit 31 + n, so view 1 is 4294967296, view 2 8589934592,
-// view 3 17179869184 and view 4 34359738368. Document 01 leaves the order of labels open; the desk's is that of the lines left.
+// view 3 17179869184 and view 4 34359738368. Labels ascend as 64-bit numbers, equal ones repeated.
 
 use crate::cells::eight;
 use crate::cells::one;
+use crate::cells::three;
 use crate::cells::two;
 use crate::compare::labels;
 use crate::compare::no_labels;
@@ -93,12 +94,81 @@ pub fn equal_terms(p: Policy, start: u64) -> u64 {
     n
 }
 
-// Two lines that stay, in either order: views 1 and 2, and views 3 and 4.
+// Two lines that stay, views 1 and 2, and views 3 and 4: the same list in either order of the lines.
 pub fn two_tables(p: Policy, start: u64) -> u64 {
     let text = b"table terms\n1 !1 #4 ?2\n2 !1 #7\n";
     let mut n = labels(start, p, text, 10, two(VIEWS_1_2, VIEWS_3_4));
     let text = b"table terms\n2 !1 #7\n1 !1 #4 ?2\n";
-    n = labels(n, p, text, 10, two(VIEWS_3_4, VIEWS_1_2));
+    n = labels(n, p, text, 10, two(VIEWS_1_2, VIEWS_3_4));
+    n
+}
+
+// Three lines that stay, view 1, view 3, and views 3 and 4: the same list in each of their six orders.
+pub fn six_orders(p: Policy, start: u64) -> u64 {
+    let list = three(VIEW_1, VIEW_3, VIEWS_3_4);
+    let text = b"table terms\n1 !1 !2 !3\n2 !1 #8\n2 !1 #7\n";
+    let mut n = labels(start, p, text, 10, list);
+    let text = b"table terms\n1 !1 !2 !3\n2 !1 #7\n2 !1 #8\n";
+    n = labels(n, p, text, 10, list);
+    let text = b"table terms\n2 !1 #8\n1 !1 !2 !3\n2 !1 #7\n";
+    n = labels(n, p, text, 10, list);
+    let text = b"table terms\n2 !1 #7\n1 !1 !2 !3\n2 !1 #8\n";
+    n = labels(n, p, text, 10, list);
+    let text = b"table terms\n2 !1 #8\n2 !1 #7\n1 !1 !2 !3\n";
+    n = labels(n, p, text, 10, list);
+    let text = b"table terms\n2 !1 #7\n2 !1 #8\n1 !1 !2 !3\n";
+    n = labels(n, p, text, 10, list);
+    n
+}
+
+// Equal labels stand side by side, each as often as lines have it, also where another line stands between these. `2 !1 #8` and
+// `2 !1 #9` have view 3, the join has view 1 twice.
+pub fn repeated(p: Policy, start: u64) -> u64 {
+    let text = b"table terms\n2 !1 #8\n1 !1 !2 !3\n2 !1 #9\n";
+    let mut n = labels(start, p, text, 10, three(VIEW_1, VIEW_3, VIEW_3));
+    let text = b"table terms\n1 !1 #4 ?2\n2 !1 #8\n1 !3 #5 ?2\n";
+    n = labels(n, p, text, 10, three(VIEW_1, VIEW_1, VIEW_3));
+    let text = b"table terms\n1 !1 #4 ?2\n1 !3 #5 ?2\n";
+    n = labels(n, p, text, 10, two(VIEW_1, VIEW_1));
+    n
+}
+
+// The same query put otherwise: a line more that may go, before or behind, and other numbers for its hidden variables.
+pub fn put_otherwise(p: Policy, start: u64) -> u64 {
+    let text = b"table terms\n2 ?4 ?5\n2 !1 #7\n1 !1 #4 ?2\n";
+    let mut n = labels(start, p, text, 10, two(VIEWS_1_2, VIEWS_3_4));
+    let text = b"table terms\n1 !1 #4 ?9\n2 !1 #7\n1 ?3 #4 ?2\n";
+    n = labels(n, p, text, 10, two(VIEWS_1_2, VIEWS_3_4));
+    n
+}
+
+// Words ascend by their views before their tables. With a view on table 1 alone, a line of table 2 has the label 2; with 32 views on
+// table 1, its label has the highest bit, and stands last.
+pub fn views_before_tables(single: Policy, widest: Policy, start: u64) -> u64 {
+    let mut n = labels(
+        start,
+        single,
+        b"table terms\n1 !1\n2 !1\n",
+        10,
+        two(2, VIEW_1),
+    );
+    n = labels(n, single, b"table terms\n2 !1\n1 !1\n", 10, two(2, VIEW_1));
+    n = labels(n, single, b"table terms\n2 !1\n1 !1\n", 2, two(2, VIEW_1));
+    n = no_labels(n, single, b"table terms\n1 !1\n2 !1\n", 1, 10, 0);
+    n = labels(
+        n,
+        widest,
+        b"table terms\n1 !1\n2 !1\n",
+        10,
+        two(2, 9223372036854775809),
+    );
+    n = labels(
+        n,
+        widest,
+        b"table terms\n2 !1\n1 !1\n",
+        10,
+        two(2, 9223372036854775809),
+    );
     n
 }
 
@@ -115,7 +185,8 @@ pub fn rooms(p: Policy, start: u64) -> u64 {
     n
 }
 
-// Eight lines without a hidden variable, no two of them equal, so all stay: view 3 covers each, view 4 the seventh.
+// Eight lines without a hidden variable, no two of them equal, so all stay: view 3 covers each, view 4 the seventh, whose label is the
+// highest.
 pub fn eight_lines(p: Policy, start: u64) -> u64 {
     let text =
         b"table terms\n2 !1 #1\n2 !1 #2\n2 !1 #3\n2 !1 #4\n2 !1 #5\n2 !1 #6\n2 !1 #7\n2 !1 #8\n";

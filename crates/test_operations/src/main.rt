@@ -21,6 +21,10 @@ fn labels(p: Policy, wider: Policy, widest: Policy, altered: Policy, start: u64)
     n = listing::reducing(p, n);
     n = listing::equal_terms(policies::equal_columns(), n);
     n = listing::two_tables(p, n);
+    n = listing::six_orders(p, n);
+    n = listing::repeated(p, n);
+    n = listing::put_otherwise(p, n);
+    n = listing::views_before_tables(policies::single(), widest, n);
     n = listing::rooms(p, n);
     n = listing::eight_lines(p, n);
     n = listing::edges(wider, widest, n);

@@ -229,7 +229,7 @@ module _ {R₁ R₂ : Query} (reduced₁ : Reduced R₁) (reduced₂ : Reduced R
         kind : (p : ℕ) → p < length (A .columns) → SameKind (showTerm R₁ (at A p)) (showTerm R₂ (image a (at A p)))
         kind p l = kinds-shown (at A p) A i (term p l)
 
-    forms-alike : {X : Type 0} (f : Line → X) → ((A B : Line) → Alike A B → f A ≡ f B)
+    pub forms-alike : {X : Type 0} (f : Line → X) → ((A B : Line) → Alike A B → f A ≡ f B)
         → List·Permᴰ (map f (show R₁)) (map f (show R₂))
     unfolding show
     forms-alike {X} f invariant =

@@ -19,6 +19,7 @@ pub mod Alike
 pub mod Fixed
 pub mod Determine
 pub mod Label
+pub mod Equivalent
 pub mod Count
 -- Document 01's example.
 pub mod Printed

@@ -176,3 +176,8 @@ pub pointwise-is-map : {X Y : Type 0} {P : X → Y → Type 0} (f : X → Y) →
     → {l : List X} {m : List Y} → Pointwise P l m → m ≡ map f l
 pointwise-is-map f h ends = refl
 pointwise-is-map f h (next {x = x} {y = y} p rest) = cc (h x y p, pointwise-is-map f h rest)
+
+pub pointwise-once : {X Y : Type 0} {P : X → Y → Type 0} → ((x : X) (y z : Y) → P x y → P x z → y ≡ z)
+    → {l : List X} {m k : List Y} → Pointwise P l m → Pointwise P l k → m ≡ k
+pointwise-once h ends ends = refl
+pointwise-once h (next {x = x} {y = y} p rest) (next {y = z} q others) = cc (h x y z p q, pointwise-once h rest others)

@@ -36,6 +36,10 @@ Answer Q D s = (h : ℕ → ℕ) × ((A : Line) → A ∈ Q → row s h A ∈ D)
 abbrev pub SameAnswers : Query → Archive → Archive → Type 0
 SameAnswers Q D E = (s : ℕ → ℕ) → Answer Q D s ↔ Answer Q E s
 
+-- two queries have the same answers on every archive of the tables
+abbrev pub Equivalent : List ℕ → Query → Query → Type 0
+Equivalent widths P Q = (D : Archive) → AllFit widths D → (s : ℕ → ℕ) → Answer P D s ↔ Answer Q D s
+
 -- "Two archives agree on a view when its answers on both are the same set."
 abbrev pub Agree : Line → Archive → Archive → Type 0
 Agree v D E = SameAnswers (v ∷ []) D E

@@ -1,4 +1,4 @@
--- `add_word`: the word is inserted unless `has_word` finds it.
+-- `add_word`: the word is pushed unless `has_word` finds it.
 use borrow.Author.Needs.{needs}
 use Rattle.explain.proofs.add_word.Statement.{statement}
 use Rattle.explain.proofs.add_word.Tie as tie
@@ -9,11 +9,11 @@ has-word-requires c κs = search needs
 returns : tie.Need-returns
 returns c = (search needs, λ l e. rw (← c .before .has-word .ensures l e, c .if1 .taken) e)
 
-insert-word-requires : tie.Need-insert-word-requires
-insert-word-requires c κs = search needs
+push-requires : tie.Need-push-requires
+push-requires c κs = search needs
 
 returns-2 : tie.Need-returns-2
-returns-2 c = (search needs, λ l e. rw (← c .before .before .has-word .ensures l e, c .before .if1 .left) (c .insert-word .ensures .1 l e))
+returns-2 c = (search needs, λ l e. rw (← c .before .before .has-word .ensures l e, c .before .if1 .left) (c .push .ensures .1 l e))
 
 pub add-word-spec : {M : Type 1} → statement M
-add-word-spec = tie.close (tie.spec has-word-requires returns insert-word-requires returns-2)
+add-word-spec = tie.close (tie.spec has-word-requires returns push-requires returns-2)

@@ -2,7 +2,7 @@
 use mathlib.Core.Path.{ap, _∙_}
 use native.Mathlib.Omega.{arith}
 use borrow.Author.Needs.{needs}
-use Rattle.labelling.specs.Posed.{wordsValue}
+use Rattle.word_list.specs.Value.{wordsValue}
 use Rattle.explain.proofs.Gathered.{Gathered, gathered-none, grantedFrom, granted-all, granted-none, granted-more}
 use Rattle.explain.proofs.granted_words.Statement.{statement}
 use Rattle.explain.proofs.granted_words.Tie as tie
@@ -31,8 +31,8 @@ element-copy-out-high-half c = omega (arith, c .loop-test .taken, c .before .loo
 high-half-requires : tie.Need-high-half-requires Inv-loop μ-loop
 high-half-requires c κs = search needs
 
-insert-word-requires : tie.Need-insert-word-requires Inv-loop μ-loop
-insert-word-requires c κs =
+push-requires : tie.Need-push-requires Inv-loop μ-loop
+push-requires c κs =
     let at = c .before .before in
     omega (arith, at .loop-test .taken, at .before .loop .inv .few, at .before .before .before .pre)
 
@@ -44,14 +44,16 @@ loop-again c =
     let at = c .before .before .before in
     let loop = at .before .loop in
     record {
-      few = omega (arith, at .loop-test .taken, loop .inv .few, c .insert-word .ensures .0);
+      few = omega (arith, at .loop-test .taken, loop .inv .few, c .push .ensures .0);
       words = λ ws e.
           rw (granted-more _ _ ws e (loop .i) _ (at .loop-test .taken) (omega (arith, loop .inv .few)) (c .before .high-half .ensures))
-          (c .insert-word .ensures .1 _ (loop .inv .words ws e));
+          (c .push .ensures .1 _ (loop .inv .words ws e));
     }
 
 returns : tie.Need-returns Inv-loop μ-loop
-returns c = λ ws e. c .before .loop .inv .words ws e ∙ ap wordsValue (granted-all _ ws (c .before .loop .i) (c .loop-test .left))
+returns c =
+    let at = c .before .loop in
+    (omega (arith, at .inv .few), λ ws e. at .inv .words ws e ∙ ap wordsValue (granted-all _ ws (at .i) (c .loop-test .left)))
 
 pub granted-words-spec : {M : Type 1} → statement M
 granted-words-spec =
@@ -65,7 +67,7 @@ granted-words-spec =
     mul-high-half
     element-copy-out-high-half
     high-half-requires
-    insert-word-requires
+    push-requires
     loop-less
     loop-again
     returns)

@@ -5,12 +5,12 @@ use Prim.Native.Nat.{ℕ, _-_}
 use native.Mathlib.Omega.{arith}
 use borrow.Author.Needs.{needs}
 use lib.ListN.{getD}
-use Rattle.labelling.specs.Posed.{wordsValue}
+use Rattle.word_list.specs.Value.{wordsValue}
 use Rattle.explain.specs.Explanation.{exceeds}
 use Rattle.explain.proofs.Gathered.{label-passes}
 use Rattle.explain.proofs.Lacking.{passes, any-lacking}
 use Rattle.explain.proofs.Search.{NoneBefore, none-more, one-there, none-there}
-use Rattle.explain.proofs.Value.{inside, past}
+use Rattle.word_list.proofs.Value.{inside, past}
 use Rattle.explain.proofs.has_smaller.Statement.{statement}
 use Rattle.explain.proofs.has_smaller.Tie as tie
 

@@ -6,9 +6,9 @@ use native.Mathlib.Omega.{arith}
 use borrow.Author.Needs.{needs}
 use borrow.Author.Tests.{eq-eqb, ne-eqb}
 use lib.Dec.{eqb}
-use Rattle.labelling.specs.Posed.{wordsValue}
+use Rattle.word_list.specs.Value.{wordsValue}
 use Rattle.explain.proofs.Search.{NoneBefore, none-more, one-there, none-there}
-use Rattle.explain.proofs.Value.{inside, past, word-is}
+use Rattle.word_list.proofs.Value.{inside, past, word-is}
 use Rattle.explain.proofs.has_word.Statement.{statement}
 use Rattle.explain.proofs.has_word.Tie as tie
 

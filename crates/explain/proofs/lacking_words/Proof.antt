@@ -2,7 +2,7 @@
 use mathlib.Core.Path.{sym, ap, _∙_}
 use native.Mathlib.Omega.{arith}
 use borrow.Author.Needs.{needs}
-use Rattle.labelling.specs.Posed.{wordsValue}
+use Rattle.word_list.specs.Value.{wordsValue}
 use Rattle.explain.proofs.Gathered.{Gathered, gathered-none, lackingFrom, lacking-all, lacking-none, lacking-told, lacking-untold}
 use Rattle.explain.proofs.lacking_words.Statement.{statement}
 use Rattle.explain.proofs.lacking_words.Tie as tie
@@ -72,7 +72,9 @@ loop-again-2 c =
     }
 
 returns : tie.Need-returns Inv-loop μ-loop
-returns c = λ ws e. c .before .loop .inv .words ws e ∙ ap wordsValue (lacking-all _ ws (c .before .loop .i) (c .loop-test .left))
+returns c =
+    let at = c .before .loop in
+    (omega (arith, at .inv .few), λ ws e. at .inv .words ws e ∙ ap wordsValue (lacking-all _ ws (at .i) (c .loop-test .left)))
 
 pub lacking-words-spec : {M : Type 1} → statement M
 lacking-words-spec =

@@ -4,7 +4,7 @@ use mathlib.Core.List.{List}
 use Prim.Native.Nat.{ℕ}
 use native.Mathlib.Omega.{arith}
 use borrow.Author.Needs.{needs}
-use Rattle.labelling.specs.Posed.{wordsValue}
+use Rattle.word_list.specs.Value.{wordsValue}
 use Rattle.labelling.specs.Settled.{settled}
 use Rattle.explain.specs.Explanation.{explained}
 use Rattle.desk.specs.HoldsLabels.{HoldsLabels}

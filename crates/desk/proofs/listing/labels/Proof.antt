@@ -1,6 +1,8 @@
--- `labels`: 8, what the text is turned back for, or what `give_labels` does with its labels.
+-- `labels`: 8, what the text is turned back for, or what `give_labels` does with its labels in ascending order.
+use native.Mathlib.Omega.{arith}
 use borrow.Author.Needs.{needs}
 use Rattle.words.proofs.Answers.{passes, fails}
+use Rattle.word_list.specs.Order.{ascending}
 use Rattle.desk.proofs.Loaded.{loaded-to}
 use Rattle.desk.proofs.Asked.{text-accepted, text-turned, labels-held}
 use Rattle.desk.proofs.Listed.{unlisted, text-refused, text-listed}
@@ -20,12 +22,15 @@ ask-requires c κs =
 enum-told : tie.Need-enum-told
 enum-told c = search needs
 
-give-labels-requires : tie.Need-give-labels-requires
-give-labels-requires c κs =
-    let m = c .before .before .before .before in
+ascending-requires : tie.Need-ascending-requires
+ascending-requires c κs =
+    let m = c .before .before in
     let a = m .before in
     let l = passes (a .before .before .valid .ensures) (a .before .if1 .left) in
     labels-held (text-accepted _ _ (a .ask .ensures) l (m .match .keys1) .held)
+
+give-labels-requires : tie.Need-give-labels-requires
+give-labels-requires c κs = omega (arith, c .before .ascending .ensures .0, ascending-requires (c .before .before) tt)
 
 enum-known-outcome : tie.Need-enum-known-outcome
 enum-known-outcome c = search needs
@@ -39,7 +44,7 @@ returns-2 c =
     let a = m .before in
     text-listed (a .ask .result) (passes (a .before .before .valid .ensures) (a .before .if1 .left))
     (λ l. text-accepted _ _ (a .ask .ensures) l (m .match .keys1))
-    (c .before .before .give-labels .ensures)
+    (λ ws e. c .before .before .give-labels .ensures (ascending ws) (c .before .before .before .before .ascending .ensures .1 ws e))
 
 returns-3 : tie.Need-returns-3
 returns-3 c =
@@ -55,6 +60,7 @@ labels-spec =
     returns
     ask-requires
     enum-told
+    ascending-requires
     give-labels-requires
     enum-known-outcome
     same-length
