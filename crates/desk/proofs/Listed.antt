@@ -40,7 +40,9 @@ module _ (l : Words) (ws : List ℕ) (e : l ≡ wordsValue ws) where
       rw (le-ltb (length before) (length ws) (omega (arith, count-is l ws e)))
       (record {
         reply = λ i. record { given = true; count = count-is l ws e i; number = 0; line = 0 };
-        buffer = c ∙ ap (λ (v : List ℕ). v ++ drop (l .count) before) (words-are l ws e) ∙ ap (λ (k : ℕ). ws ++ drop k before) (count-is l ws e);
+        buffer =
+            c ∙ ap (λ (v : List ℕ). v ++ drop (l .count) before) (words-are l ws e)
+            ∙ ap (λ (k : ℕ). ws ++ drop k before) (count-is l ws e);
       })
 
 -- ---- the policy value and the text

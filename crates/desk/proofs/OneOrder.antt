@@ -13,6 +13,7 @@ use Rattle.theory.specs.Executable.Show.{show}
 use Rattle.theory.specs.Executable.Label.{label, labels}
 use Rattle.theory.proofs.Lists.{pointwise-once}
 use Rattle.theory.proofs.Executable.Show.{shown-is-show}
+use Rattle.theory.proofs.Reduce.{reduced-fits}
 use Rattle.theory.proofs.Fixed.{labels-of-any-form}
 use Rattle.theory.proofs.Equivalent.{labels-by-answers}
 use Rattle.query_text.proofs.Accepted.{accepted-well-read}
@@ -24,7 +25,7 @@ use Rattle.desk.specs.Rewriting.{LabelOf, LabelsOfForm, LabelsOf}
 use Rattle.desk.specs.OneOrder.{InOneOrder}
 use Rattle.desk.proofs.Loaded.{loaded-to}
 use Rattle.desk.proofs.Listed.{labels-listed}
-use Rattle.desk.proofs.Rewriting.{reduced-fits, labels-of-form}
+use Rattle.desk.proofs.Rewriting.{labels-of-form}
 use Rattle.desk.proofs.Unique.{said-listing-apart}
 
 -- ---- what is said of labels leaves one list

@@ -1,20 +1,19 @@
 -- The labels of a query, as the definition gives them, mean rewriting, and are those of every reduced form, in ascending order.
 use mathlib.Core.Path.{subst}
-use mathlib.Core.List.{List, map, Memᴰ·of-map, List·Permᴰ·trans}
-use Prim.Native.Nat.{ℕ, _^_, _<_}
+use mathlib.Core.List.{map, Memᴰ·of-map, List·Permᴰ·trans}
+use Prim.Native.Nat.{_^_, _<_}
 use native.Mathlib.Omega.{arith}
 use Rattle.words.specs.Bits.{halfBits}
 use Rattle.theory.specs.Query.{over, Line, Query, NoClash, Fits}
 use Rattle.theory.specs.Archive.{AllFit}
 use Rattle.theory.specs.Executable.Reduce.{reduce}
 use Rattle.theory.specs.Executable.Show.{showTerm, show}
-use Rattle.theory.specs.Reduce.{ReducesTo}
 use Rattle.theory.specs.Executable.Label.{label, labels}
 use Rattle.theory.proofs.Lists.{pointwise-of}
 use Rattle.theory.proofs.Executable.Show.{show-is-shown}
 use Rattle.theory.proofs.Tuples.{fits-over}
 use Rattle.theory.proofs.Fixed.{labels-of-any-form}
-use Rattle.theory.proofs.Reduce.{reduced-answers, reduced-reduced, reduced-subset}
+use Rattle.theory.proofs.Reduce.{reduced-answers, reduced-reduced, reduced-fits}
 use Rattle.theory.proofs.Label.{label-says-rewriting}
 use Rattle.theory.proofs.Executable.Reduce.{reduce-reduces}
 use Rattle.theory.proofs.Executable.Label.{label-table, label-below}
@@ -23,10 +22,6 @@ use Rattle.word_list.proofs.Sorted.{ascending-permutes, ascending-ascends}
 use Rattle.policy_text.specs.Declared.{Declared}
 use Rattle.policy_text.specs.WellFormed.{WellFormed}
 use Rattle.desk.specs.Rewriting.{LabelOf, LabelsOfForm, LabelsOf}
-
--- the lines left fit where the query's do
-pub reduced-fits : {widths : List ℕ} {Q R : Query} → ReducesTo Q R → AllFit widths Q → AllFit widths R
-reduced-fits r fits A m = fits A (reduced-subset r A m)
 
 module _ (d : Declared) (good : WellFormed d) where
   label-of : (A : Line) → Fits (d .widths) A → LabelOf d A (label (d .views) A)

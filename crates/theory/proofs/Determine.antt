@@ -26,7 +26,7 @@ use Rattle.theory.specs.Executable.Show.{showTerm, show}
 use Rattle.theory.specs.Executable.Cover.{covers}
 use Rattle.theory.specs.Executable.Label.{settles}
 use Rattle.theory.proofs.Rewrite.{covers-rewrites, rewrites-determines}
-use Rattle.theory.proofs.Reduce.{reduced-answers, reduced-reduced, reduced-subset, reduced-clear, reduced-map}
+use Rattle.theory.proofs.Reduce.{reduced-answers, reduced-reduced, reduced-fits, reduced-clear, reduced-map}
 use Rattle.theory.proofs.Executable.Test.{all-iff, any-iff}
 use Rattle.theory.proofs.Executable.Reduce.{reduce-reduces}
 use Rattle.theory.proofs.Executable.Show.{show-is-shown, shown-is-show}
@@ -64,7 +64,7 @@ determines-iff-covered widths vs {Q} {R} {S} clear fits r shows = (
     to : Determines widths vs Q → (A : Line) → A ∈ show R → (v : Line) × (v ∈ vs) × Covers v A
     to d A m =
         let b = Memᴰ·of-map (over (showTerm R)) R m in
-        let c = determined-covers widths vs R (reduced-reduced r) (λ B k. fits B (reduced-subset r B k))
+        let c = determined-covers widths vs R (reduced-reduced r) (reduced-fits r fits)
         (determines-like widths vs (reduced-answers r) d) (b .0) (b .1) in
         (c .0, c .1, subst (Covers (c .0)) (b .2) (covers-shown R clear-R (c .0) (b .0) (b .1) .1 (c .2)))
 

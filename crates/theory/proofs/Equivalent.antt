@@ -8,10 +8,9 @@ use Rattle.theory.specs.Archive.{Archive, AllFit, value, Answer, Equival
 use Rattle.theory.specs.Reduce.{image, Sends}
 use Rattle.theory.specs.Executable.Label.{label, labels}
 use Rattle.theory.proofs.Tuples.{over-over, over-same, fits-over}
-use Rattle.theory.proofs.Reduce.{sends-twice, reduced-reduced, reduced-subset, reduced-clear, reduced-map}
 use Rattle.theory.proofs.Alike.{alike-label}
 use Rattle.theory.proofs.Executable.Reduce.{reduce-reduces}
-use Rattle.theory.proofs.Fixed.{forms-alike}
+use Rattle.theory.proofs.Fixed.{sent-forms-alike}
 use Rattle.theory.proofs.Determine.Freeze.{In, Frozen, freeze, large}
 use Rattle.theory.proofs.Determine.Thaw.{thaw, thaw-frozen, thaw-freeze}
 
@@ -71,13 +70,6 @@ pub labels-by-answers : (widths : List ℕ) (vs : List Line) (P Q : Query) → A
     → Equivalent widths P Q → List·Permᴰ (labels vs P) (labels vs Q)
 unfolding labels
 labels-by-answers widths vs P Q fits-P fits-Q clear-P clear-Q e =
-    let r = reduce-reduces P in
-    let q = reduce-reduces Q in
-    let (a, to) = sends widths Q P fits-Q (λ D f s. (e D f s .1, e D f s .0)) in
-    let (b, from) = sends widths P Q fits-P e in
-    let (k, back-P) = reduced-map r in
-    let (m, back-Q) = reduced-map q in
-    forms-alike (reduced-reduced r) (reduced-reduced q) _ _
-    (sends-twice a m (λ A i. to A (reduced-subset r A i)) back-Q)
-    (sends-twice b k (λ A i. from A (reduced-subset q A i)) back-P)
-    (reduced-clear r clear-P) (reduced-clear q clear-Q) (label vs) (λ A B. alike-label vs)
+    let (m, to) = sends widths Q P fits-Q (λ D f s. (e D f s .1, e D f s .0)) in
+    let (k, from) = sends widths P Q fits-P e in
+    sent-forms-alike (label vs) (λ A B. alike-label vs) clear-P clear-Q m k to from (reduce-reduces P) (reduce-reduces Q)

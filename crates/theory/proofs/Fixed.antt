@@ -16,7 +16,7 @@ use Rattle.theory.specs.Executable.Label.{label, labels}
 use Rattle.theory.proofs.Lists.{place, at-place, without-other, map-no-repeats, same-elements}
 use Rattle.theory.proofs.Tuples.{tuple-path, map-same, getD-map, getD-mem, over-over, over-same}
 use Rattle.theory.proofs.Terms.{from-hidden}
-use Rattle.theory.proofs.Reduce.{image-twice, sends-twice, reduced-reduced, reduced-subset, reduced-clear, reduced-map}
+use Rattle.theory.proofs.Reduce.{image-twice, sends-self, sends-twice, reduced-reduced, reduced-subset, reduced-clear, reduced-map}
 use Rattle.theory.proofs.Reduce.{reduced-place, reduced-no-repeats}
 use Rattle.theory.proofs.Endomorphism.{Stands, hits, hidden-stay, one-to-one}
 use Rattle.theory.proofs.Executable.Reduce.{reduce-reduces}
@@ -229,7 +229,7 @@ module _ {R₁ R₂ : Query} (reduced₁ : Reduced R₁) (reduced₂ : Reduced R
         kind : (p : ℕ) → p < length (A .columns) → SameKind (showTerm R₁ (at A p)) (showTerm R₂ (image a (at A p)))
         kind p l = kinds-shown (at A p) A i (term p l)
 
-    pub forms-alike : {X : Type 0} (f : Line → X) → ((A B : Line) → Alike A B → f A ≡ f B)
+    forms-alike : {X : Type 0} (f : Line → X) → ((A B : Line) → Alike A B → f A ≡ f B)
         → List·Permᴰ (map f (show R₁)) (map f (show R₂))
     unfolding show
     forms-alike {X} f invariant =
@@ -241,17 +241,24 @@ module _ {R₁ R₂ : Query} (reduced₁ : Reduced R₁) (reduced₂ : Reduced R
         f₂ : Line → X
         f₂ C = f (over (showTerm R₂) C)
 
--- ---- two reduced forms of one query
+-- ---- two queries, each sent into the other by some map
 
--- What does not tell lines apart that differ in the numbers of their variables alone is fixed by the query.
+-- What does not tell lines apart that differ in the numbers of their variables alone is the same for reduced forms of both.
+pub sent-forms-alike : {X : Type 0} (f : Line → X) → ((A B : Line) → Alike A B → f A ≡ f B) → {P Q R₁ R₂ : Query}
+    → NoClash P → NoClash Q → (m k : ℕ → Term) → Sends m P Q → Sends k Q P → ReducesTo P R₁ → ReducesTo Q R₂
+    → List·Permᴰ (map f (show R₁)) (map f (show R₂))
+sent-forms-alike f invariant clear-P clear-Q m k to from r₁ r₂ =
+    let (a, into₁) = reduced-map r₁ in
+    let (b, into₂) = reduced-map r₂ in
+    forms-alike (reduced-reduced r₁) (reduced-reduced r₂) _ _ (sends-twice m b (λ A i. to A (reduced-subset r₁ A i)) into₂)
+    (sends-twice k a (λ A i. from A (reduced-subset r₂ A i)) into₁) (reduced-clear r₁ clear-P) (reduced-clear r₂ clear-Q)
+    f invariant
+
+-- ---- one query
+
 pub reduced-forms-alike : {X : Type 0} (f : Line → X) → ((A B : Line) → Alike A B → f A ≡ f B) → {Q R₁ R₂ : Query}
     → NoClash Q → ReducesTo Q R₁ → ReducesTo Q R₂ → List·Permᴰ (map f (show R₁)) (map f (show R₂))
-reduced-forms-alike f invariant clear r₁ r₂ =
-    let (a, to) = reduced-map r₂ in
-    let (b, from) = reduced-map r₁ in
-    forms-alike (reduced-reduced r₁) (reduced-reduced r₂) a b (λ A i. to A (reduced-subset r₁ A i))
-    (λ A i. from A (reduced-subset r₂ A i)) (reduced-clear r₁ clear) (reduced-clear r₂ clear)
-    f invariant
+reduced-forms-alike f invariant {Q} clear = sent-forms-alike f invariant clear clear hidden hidden (sends-self Q) (sends-self Q)
 
 pub labels-fixed : (vs : List Line) {Q R₁ R₂ : Query} → NoClash Q → ReducesTo Q R₁ → ReducesTo Q R₂
     → List·Permᴰ (map (label vs) (show R₁)) (map (label vs) (show R₂))

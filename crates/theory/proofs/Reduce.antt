@@ -2,12 +2,12 @@
 use mathlib.Core.Path.{_≡_, refl, sym, _∙_}
 use mathlib.Core.Logic.{_↔_, ⊎-elim, Iff·rfl, Iff·trans}
 use mathlib.Core.Option.{some, Option·some-injective}
-use mathlib.Core.List.{Memᴰ·cast}
+use mathlib.Core.List.{List, Memᴰ·cast}
 use Prim.Native.Nat.{ℕ}
 use native.Mathlib.Decide.{ℕ-discrete}
 use lib.ListN.{getElem?}
 use Rattle.theory.specs.Query.{Term, constant, shown, hidden, over, Line, Query, _∈_, NoClash}
-use Rattle.theory.specs.Archive.{Archive, Answer, value}
+use Rattle.theory.specs.Archive.{Archive, AllFit, Answer, value}
 use Rattle.theory.specs.Reduce.{image, Sends, without, MayGo, Reduced, ReducesTo, done, take-out}
 use Rattle.theory.specs.Apart.{NoRepeats}
 use Rattle.theory.proofs.Lists.{no-repeats, place-below, without-subset, without-cases, without-other}
@@ -76,6 +76,9 @@ reduced-reduced (take-out i g r) = reduced-reduced r
 pub reduced-subset : {Q R : Query} → ReducesTo Q R → (A : Line) → A ∈ R → A ∈ Q
 reduced-subset (done r) A a = a
 reduced-subset (take-out {Q = P} i g r) A a = without-subset i P (reduced-subset r A a)
+
+pub reduced-fits : {widths : List ℕ} {Q R : Query} → ReducesTo Q R → AllFit widths Q → AllFit widths R
+reduced-fits r fits A a = fits A (reduced-subset r A a)
 
 pub reduced-clear : {Q R : Query} → ReducesTo Q R → NoClash Q → NoClash R
 reduced-clear r clear n A B i j = clear n A B (reduced-subset r A i) (reduced-subset r B j)

@@ -17,7 +17,7 @@ use Rattle.theory.proofs.Lists.{map-place, map-without}
 use Rattle.theory.proofs.Tuples.{getD-mem, map-same}
 use Rattle.theory.proofs.Terms.{is-hidden}
 use Rattle.theory.proofs.Match.{cell, row-cell}
-use Rattle.theory.proofs.Reduce.{reduced-answers, reduced-reduced, reduced-subset, reduced-clear, reduced-no-repeats}
+use Rattle.theory.proofs.Reduce.{reduced-answers, reduced-reduced, reduced-fits, reduced-clear, reduced-no-repeats}
 use Rattle.theory.proofs.Executable.Show.{show-shows}
 use Rattle.theory.proofs.Determine.Inside.{CoversIn, covers-shown}
 use Rattle.theory.proofs.Determine.Freeze.{In, Frozen, frozen, freeze}
@@ -94,7 +94,7 @@ pub told-apart : (widths : List ℕ) (vs : List Line) {Q R : Query} → NoClash 
     → (extra : Archive) → Extra F A extra → NoRepeats extra → TellsApart widths (λ v. v ∈ vs) Q (freeze F A) (others F i extra)
 told-apart widths vs {Q} {R} clear fits r F i A A-at short uncovered extra e once =
     record {
-      fit = rows-fit F i A extra e A-at (λ B m. fits B (reduced-subset r B m));
+      fit = rows-fit F i A extra e A-at (reduced-fits r fits);
       once = rows-once F (reduced-reduced r) i A A-at short bare extra e once;
       agree = agree F i A extra e;
       answer = F .s;
