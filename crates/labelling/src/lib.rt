@@ -21,7 +21,7 @@ use model::Tables;
 use reduce::LINE_WORDS;
 use word_list::Words;
 
-// One word for each line of the reduced query, and the partitions that settle it, partition n at bit n - 1.
+// One word for each line of the reduced query, in the order of its lines, and the partitions that settle it, partition n at bit n - 1.
 pub struct Labels {
     pub words: Words,
     pub settling: u64,

@@ -1,10 +1,12 @@
 // Every small query under every small partition: what the desk says, beside what all small archives say. A partition
 // determines a query when no two archives that agree on its views tell the query apart. Values, rows and archives are so few
-// that all are gone through, by document 01's definitions; the desk's labels, and what they are made with, are not used.
+// that all are gone through, by document 01's definitions; the desk's labels, and what they are made with, are not used. Then the desk's
+// labels are set beside the same answers.
 
 mod agreement;
 mod answers;
 mod family;
+mod labels;
 mod tally;
 mod texts;
 
@@ -125,4 +127,7 @@ fn main() {
     fill_answers(&codes, &mut table);
     let t = try_all(&codes, &table);
     tally::print(queries as u64, t);
+    let p = texts::every_view();
+    let l = labels::try_all(p, &codes, &table);
+    labels::print(l);
 }

@@ -31,7 +31,7 @@ pub fn zero() -> Tally {
 }
 
 // One more where a test passes; no count comes near 2^64.
-fn next_if(n: u64, passes: bool) -> u64 {
+pub fn next_if(n: u64, passes: bool) -> u64 {
     if passes {
         return wrapping_add_u64(n, 1);
     }
@@ -108,7 +108,7 @@ pub fn print_case(reply: Reply, first: u64, second: u64, q: Query) {
     io::write_all(1, b"\n");
 }
 
-fn print_count(before: &[u8], n: u64) {
+pub fn print_count(before: &[u8], n: u64) {
     io::write_all(1, before);
     io::print_decimal(1, n);
 }

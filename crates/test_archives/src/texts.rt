@@ -7,6 +7,7 @@ use crate::family::NONE;
 use crate::family::Query;
 use crate::family::TERMS;
 use apart::Telling;
+use desk::Listing;
 use desk::Reply;
 use desk::Session;
 use model::Policy;
@@ -52,6 +53,22 @@ pub fn policy(first: u64, second: u64) -> Policy {
     r.policy
 }
 
+// The policy of every view of the table, up to the numbers of its variables.
+pub fn every_view() -> Policy {
+    let r = load::load(
+        b"table columns\n1 2\nview table terms\n1 1 !1 !2\n2 1 !1 !1\n3 1 !1 ?3\n4 1 ?3 !1\n5 1 ?3 ?3\n6 1 ?3 ?4\n7 1 !1 #0
+8 1 #0 !1\n9 1 !1 #1\n10 1 #1 !1\n11 1 ?3 #0\n12 1 #0 ?3\n13 1 ?3 #1\n14 1 #1 ?3\n15 1 #0 #0\n16 1 #0 #1\n17 1 #1 #0
+18 1 #1 #1\npartition views\n1\n",
+    );
+    r.policy
+}
+
+pub fn line_count(q: Query) -> usize
+    ensures { λ r. ⌜ r ≤ 3 ⌝ }
+{
+    lines(q.first) + lines(q.second) + lines(q.third)
+}
+
 // The text of a query. How many bytes it has.
 fn put_query(text: &mut [u8], q: Query) -> usize
     requires { ⌜ length (now text) ≡ 36 ⌝ }
@@ -61,7 +78,7 @@ fn put_query(text: &mut [u8], q: Query) -> usize
     put_line(text, 14, q.first);
     put_line(text, 22, q.second);
     put_line(text, 30, q.third);
-    12 + 8 * (lines(q.first) + lines(q.second) + lines(q.third))
+    12 + 8 * line_count(q)
 }
 
 // What the desk says to a query in a session.
@@ -70,6 +87,31 @@ pub fn decide(p: Policy, s: Session, q: Query) -> Reply {
     let end = put_query(&mut text, q);
     let d = desk::decide_checked(p, s, &text[..end]);
     d.reply
+}
+
+// How many labels a query has, and the labels, 0 behind the last; none where the desk turns it back.
+pub struct List {
+    pub count: u64,
+    pub first: u64,
+    pub second: u64,
+    pub third: u64,
+}
+
+pub fn labels(p: Policy, q: Query) -> List {
+    let mut text = *b"table terms\n1 #0 #0\n1 #0 #0\n1 #0 #0\n";
+    let end = put_query(&mut text, q);
+    let mut cells = [0; 3];
+    let r = desk::labels(p, &text[..end], &mut cells);
+    let count = match r {
+        Listing::Given { count } => count,
+        Listing::Refused { .. } => 0,
+    };
+    List {
+        count,
+        first: cells[0],
+        second: cells[1],
+        third: cells[2],
+    }
 }
 
 // Whether the desk says that the partition settles the query, or gives rows that do not tell it apart.
