@@ -1,18 +1,20 @@
 -- The words of an explanation: no more than there are labels, each of 32 bits.
-use mathlib.Core.Path.{refl}
+use mathlib.Core.Path.{refl, subst}
 use mathlib.Core.Bool.{Bool, true, false, cond}
 use mathlib.Core.List.{List, [], _∷_, map, List·Memᴰ·head, List·Memᴰ·tail}
+use mathlib.Core.List.{List·Permᴰ, List·Permᴰ·nil, List·Permᴰ·cons, List·Permᴰ·swap, List·Permᴰ·trans, Permᴰ·symm}
 use Prim.Native.Nat.{ℕ, zero, suc, _/_, _^_, _≤_, _<_, zero-le, suc-le-suc}
 use native.Mathlib.Nat.{not-suc-le-zero, le-of-suc-le-suc}
 use native.Mathlib.Omega.{arith}
 use lib.Bits.{bitAnd, and-le-l}
-use lib.Dec.{eqb, ltb}
+use lib.Dec.{eqb}
 use lib.ListN.{length, getD}
 use Rattle.words.specs.Bits.{halfBits}
 use Rattle.theory.specs.Query.{_∈_}
 use Rattle.theory.specs.Executable.Test.{any}
 use Rattle.labelling.specs.Settled.{settled}
-use Rattle.word_list.specs.Order.{insert, ascending}
+use Rattle.word_list.specs.Order.{ascending}
+use Rattle.word_list.proofs.Sorted.{ascending-permutes}
 use Rattle.explain.specs.Explanation.{viewsOf, keep, distinct, least, lacking, explained}
 
 -- at most n words, each with the property
@@ -58,15 +60,14 @@ module _ {P : ℕ → Type 0} where
   distinct-most none = none
   distinct-most (one {x = x} {l = l} p a) = either (any (eqb x) l) (more (distinct-most a)) (one p (distinct-most a))
 
-  insert-most : (w : ℕ) → P w → {n : ℕ} {l : List ℕ} → AtMost P n l → AtMost P (suc n) (insert w l)
-  unfolding insert
-  insert-most w p none = one p none
-  insert-most w p (one {x = x} q a) = either (ltb x w) (one q (insert-most w p a)) (one p (one q a))
+  permuted-most : {l m : List ℕ} → List·Permᴰ l m → {n : ℕ} → AtMost P n l → AtMost P n m
+  permuted-most List·Permᴰ·nil a = a
+  permuted-most (List·Permᴰ·cons e r) (one p a) = one (subst P e p) (permuted-most r a)
+  permuted-most (List·Permᴰ·swap e g) (one p (one q a)) = one (subst P g q) (one (subst P e p) a)
+  permuted-most (List·Permᴰ·trans r s) a = permuted-most s (permuted-most r a)
 
   ascending-most : {n : ℕ} {l : List ℕ} → AtMost P n l → AtMost P n (ascending l)
-  unfolding ascending
-  ascending-most none = none
-  ascending-most (one {x = x} p a) = insert-most x p (ascending-most a)
+  ascending-most {l = l} = permuted-most (Permᴰ·symm (ascending-permutes l))
 
 pub most-get : {n : ℕ} {l : List ℕ} → AtMost Narrow n l → (i : ℕ) → getD l i 0 < 2 ^ halfBits
 most-get none i = omega arith

@@ -1,7 +1,8 @@
 -- Words gathered once, from the last to the first.
 use mathlib.Core.Path.{_≡_, refl, sym, ap, _∙_}
 use mathlib.Core.Bool.{Bool, true, false, cond, _||_}
-use mathlib.Core.List.{List, [], _∷_, _++_, reverse, reverse-cons}
+use mathlib.Core.List.{List, [], _∷_, _++_, reverse, reverse-cons, Permᴰ·reverse}
+use mathlib.Core.List.{List·Permᴰ, List·Permᴰ·nil, List·Permᴰ·cons, List·Permᴰ·swap, List·Permᴰ·trans}
 use Prim.Native.Nat.{ℕ}
 use borrow.Author.Tests.{eqb-true}
 use lib.Dec.{eqb}
@@ -15,16 +16,12 @@ or-swap false b c = refl
 
 -- ---- the order of words plays no part in a search
 
-any-snoc : (f : ℕ → Bool) (l : List ℕ) (w : ℕ) → any f (l ++ w ∷ []) ≡ (f w || any f l)
+any-permuted : (f : ℕ → Bool) {l m : List ℕ} → List·Permᴰ l m → any f l ≡ any f m
 unfolding any
-any-snoc f [] w = refl
-any-snoc f (x ∷ l) w = ap (λ (b : Bool). f x || b) (any-snoc f l w) ∙ or-swap (f x) (f w) (any f l)
-
-any-reverse : (f : ℕ → Bool) (l : List ℕ) → any f (reverse l) ≡ any f l
-unfolding any
-any-reverse f [] = refl
-any-reverse f (w ∷ l) =
-    ap (any f) (reverse-cons w l) ∙ any-snoc f (reverse l) w ∙ ap (λ (b : Bool). f w || b) (any-reverse f l)
+any-permuted f List·Permᴰ·nil = refl
+any-permuted f (List·Permᴰ·cons e p) = rw (e, any-permuted f p)
+any-permuted f (List·Permᴰ·swap {a = a} {b = b} {l = l} e g) = or-swap (f a) (f b) (any f l) ∙ rw (e, g)
+any-permuted f (List·Permᴰ·trans p q) = any-permuted f p ∙ any-permuted f q
 
 -- ---- dropping repeats drops no word
 
@@ -57,4 +54,4 @@ unfolding distinct
 distinct-more v l =
     let r = reverse (distinct l) in
     reverse-cond (any (eqb v) l) v (distinct l)
-    ∙ ap (λ (b : Bool). cond b r (r ++ v ∷ [])) (sym (any-reverse (eqb v) (distinct l) ∙ any-distinct v l))
+    ∙ ap (λ (b : Bool). cond b r (r ++ v ∷ [])) (sym (any-permuted (eqb v) (Permᴰ·reverse (distinct l)) ∙ any-distinct v l))
