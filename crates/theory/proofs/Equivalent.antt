@@ -1,18 +1,18 @@
 -- Queries with the same answers on every archive: some map sends each into the other, so that their reduced forms are one another
 -- renamed, and have the same labels.
-use mathlib.Core.Path.{_≡_, refl, sym, ap, _∙_, subst}
+use mathlib.Core.Path.{sym, ap, _∙_, subst}
 use mathlib.Core.List.{List, [], _++_, map, Memᴰ·cast, Memᴰ·map, Memᴰ·of-map, Memᴰ·append-left, Memᴰ·append-right, List·Permᴰ}
 use Prim.Native.Nat.{ℕ, zero-le}
-use Rattle.theory.specs.Query.{Term, constant, shown, hidden, over, Line, Query, NoClash, Fits}
+use Rattle.theory.specs.Query.{Term, over, Line, Query, NoClash, Fits}
 use Rattle.theory.specs.Archive.{Archive, AllFit, value, Answer, Equivalent}
-use Rattle.theory.specs.Reduce.{image, Sends}
+use Rattle.theory.specs.Reduce.{Sends}
 use Rattle.theory.specs.Executable.Label.{label, labels}
-use Rattle.theory.proofs.Tuples.{over-over, over-same, fits-over}
+use Rattle.theory.proofs.Tuples.{fits-over}
 use Rattle.theory.proofs.Alike.{alike-label}
 use Rattle.theory.proofs.Executable.Reduce.{reduce-reduces}
 use Rattle.theory.proofs.Fixed.{sent-forms-alike}
-use Rattle.theory.proofs.Determine.Freeze.{In, Frozen, freeze, large}
-use Rattle.theory.proofs.Determine.Thaw.{thaw, thaw-frozen, thaw-freeze}
+use Rattle.theory.proofs.Determine.Freeze.{Frozen, freeze, large}
+use Rattle.theory.proofs.Determine.Thaw.{thaw, thaw-freeze, thaw-row}
 
 -- ---- the rows of P, on which P has an answer
 
@@ -42,11 +42,6 @@ module _ (P Q : Query) where
   abbrev to-term : ℕ → Term
   to-term = thaw F no-columns zero-le
 
-  image-back : (h : ℕ → ℕ) (t : Term) → In Q t → image (λ n. to-term (h n)) t ≡ to-term (value (F .s) h t)
-  image-back h (constant c) (B, b, m) = sym (thaw-frozen F no-columns zero-le (constant c) (B, Memᴰ·append-right P b, m))
-  image-back h (shown n) (B, b, m) = sym (thaw-frozen F no-columns zero-le (shown n) (B, Memᴰ·append-right P b, m))
-  image-back h (hidden n) i = refl
-
   goes-into : Answer Q rows (F .s) → (m : ℕ → Term) × Sends m Q P
   unfolding rows
   goes-into (h, stands) = (
@@ -54,8 +49,7 @@ module _ (P Q : Query) where
     λ B b.
         let (C, c, e) = Memᴰ·of-map (freeze F) P (stands B b) in
         Memᴰ·cast
-        (over-same (image (λ n. to-term (h n))) (λ t. to-term (value (F .s) h t)) B (λ t m. image-back h t (B, b, m))
-        ∙ sym (over-over to-term (value (F .s) h) B) ∙ ap (over to-term) (sym e)
+        (thaw-row F no-columns zero-le h B (Memᴰ·append-right P b) ∙ ap (over to-term) (sym e)
         ∙ thaw-freeze F no-columns zero-le C (Memᴰ·append-left Q c))
         c,
   )

@@ -18,7 +18,7 @@ use Rattle.theory.specs.Reduce.{image, Sends, without, Reduced}
 use Rattle.theory.specs.Show.{Shared}
 use Rattle.theory.specs.Cover.{at}
 use Rattle.theory.proofs.Lists.{place, at-place, without-subset, without-other}
-use Rattle.theory.proofs.Tuples.{over-over, over-same, getD-map, getD-mem}
+use Rattle.theory.proofs.Tuples.{getD-map, getD-mem}
 use Rattle.theory.proofs.Terms.{from-hidden, is-hidden}
 use Rattle.theory.proofs.Reduce.{reduced-place}
 use Rattle.theory.proofs.Endomorphism.{Stands, hits, hidden-stay, one-to-one}
@@ -27,7 +27,7 @@ use Rattle.theory.proofs.Determine.Inside.{Unshared, RulesIn, CoversIn}
 use Rattle.theory.proofs.Determine.Freeze.{In, Frozen, frozen, freeze, large}
 use Rattle.theory.proofs.Determine.Marked.{firstOf, first-column, first-one, markOf, IsMarked, Extra, extra-rows, width, view-width}
 use Rattle.theory.proofs.Determine.Marked.{in-view, marked-cell, matched-cell, term-in, constants-match, equals-match}
-use Rattle.theory.proofs.Determine.Thaw.{thaw, thaw-frozen, thaw-freeze, thaw-marked}
+use Rattle.theory.proofs.Determine.Thaw.{thaw, thaw-freeze, thaw-row, thaw-marked}
 use Rattle.theory.proofs.Determine.Archives.{others, all-rows, of-others, agree, frozen-answer, rows-fit}
 
 module _ {vs : List Line} {R : Query} {w : ℕ} (F : Frozen vs R w) (reduced : Reduced R) (i : ℕ) (A : Line)
@@ -51,17 +51,10 @@ module _ {vs : List Line} {R : Query} {w : ℕ} (F : Frozen vs R w) (reduced : R
   g : ℕ → Term
   g n = to-term (h n)
 
-  image-thawed : (t : Term) → In R t → image g t ≡ to-term (value (F .s) h t)
-  unfolding g
-  image-thawed (constant c) m = sym (thaw-frozen F A short (constant c) m)
-  image-thawed (shown n) m = sym (thaw-frozen F A short (shown n) m)
-  image-thawed (hidden n) m = refl
-
   -- a line's image is its row, thawed
   thawed : (B : Line) → B ∈ R → over (image g) B ≡ over to-term (stand B)
-  thawed B m =
-      over-same (image g) (λ t. to-term (value (F .s) h t)) B (λ t k. image-thawed t (B, m, k))
-      ∙ sym (over-over to-term (value (F .s) h) B)
+  unfolding g
+  thawed = thaw-row F A short h
 
   -- a line stands on the frozen row of another line than A, which is its image, or on a marked row, and its image is A
   goes : (B : Line) → B ∈ R

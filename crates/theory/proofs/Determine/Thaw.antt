@@ -10,11 +10,12 @@ use lib.ListN.{length}
 use Rattle.words.specs.TestBits.{upFrom}
 use Rattle.words.proofs.TestBits.{made-at, at-made}
 use Rattle.theory.specs.Query.{Term, constant, shown, hidden, over, Line, Query, _∈_}
-use Rattle.theory.specs.Archive.{Row, value}
+use Rattle.theory.specs.Archive.{Row, value, row}
+use Rattle.theory.specs.Reduce.{image}
 use Rattle.theory.specs.Cover.{at}
 use Rattle.theory.proofs.Lists.{place, at-place}
 use Rattle.theory.proofs.Find.{Functional, find, found}
-use Rattle.theory.proofs.Tuples.{tuple-path, over-over, over-self, map-places}
+use Rattle.theory.proofs.Tuples.{tuple-path, over-over, over-same, over-self, map-places}
 use Rattle.theory.proofs.Determine.Freeze.{In, Frozen, frozen, freeze}
 use Rattle.theory.proofs.Determine.Marked.{firstOf, first-column, markOf, IsMarked, view-width, in-view, matched-cell}
 use Rattle.theory.proofs.Determine.Marked.{term-in, equals-match}
@@ -109,6 +110,17 @@ module _ {vs : List Line} {R : Query} {w : ℕ} (F : Frozen vs R w) where
 
     pub thaw-freeze : (C : Line) → C ∈ R → over thaw (freeze F C) ≡ C
     thaw-freeze C m = over-over thaw (frozen F) C ∙ over-self (λ t. thaw (frozen F t)) C (λ t k. thaw-frozen t (C, m, k))
+
+    -- a line under the frozen values of its shown variables and any values of its hidden ones, thawed: its image, by the hidden ones
+    image-thawed : (h : ℕ → ℕ) (t : Term) → In R t → image (λ n. thaw (h n)) t ≡ thaw (value (F .s) h t)
+    image-thawed h (constant c) i = sym (thaw-frozen (constant c) i)
+    image-thawed h (shown n) i = sym (thaw-frozen (shown n) i)
+    image-thawed h (hidden n) i = refl
+
+    pub thaw-row : (h : ℕ → ℕ) (B : Line) → B ∈ R → over (image (λ n. thaw (h n))) B ≡ over thaw (row (F .s) h B)
+    thaw-row h B m =
+        over-same (image (λ n. thaw (h n))) (λ t. thaw (value (F .s) h t)) B (λ t k. image-thawed h t (B, m, k))
+        ∙ sym (over-over thaw (value (F .s) h) B)
 
     module _ (in-R : A ∈ R) {r : Row} (k : IsMarked F A r) where
       thawed-cell : (p : ℕ) → p < length (k .v .columns) → thaw (value (k .s) (markOf F (k .v)) (at (k .v) p)) ≡ at A p
