@@ -10,9 +10,9 @@ use Rattle.theory.specs.Query.{Line, Query}
 use Rattle.theory.specs.Archive.{Row, value}
 use Rattle.theory.proofs.Determine.Block.{frozenRow}
 use Rattle.words.specs.Bits.{isSet}
-use Rattle.reduce.specs.Agree.{lineAt}
-use Rattle.reduce.specs.Left.{pick, linesAt}
-use Rattle.reduce.proofs.Left.{pick-more}
+use Rattle.entering.specs.Agree.{lineAt}
+use Rattle.entering.specs.Left.{pick, linesAt}
+use Rattle.entering.proofs.Left.{pick-more}
 use Rattle.freezing.specs.Cells.{cellsOf}
 use Rattle.freezing.specs.Rows.{HasLine}
 use Rattle.apart.specs.Buffer.{PutAt, Narrow, Holds}

@@ -13,9 +13,9 @@ use Rattle.words.specs.Bits.{isSet}
 use Rattle.words.specs.Sets.{clearBit}
 use Rattle.words.proofs.Bits.{is-clear}
 use Rattle.words.proofs.ClearBits.{clear-bit-same, clear-bit-other}
-use Rattle.reduce.specs.Agree.{lineAt}
-use Rattle.reduce.specs.Left.{pick, linesAt}
-use Rattle.reduce.proofs.Left.{pick-same}
+use Rattle.entering.specs.Agree.{lineAt}
+use Rattle.entering.specs.Left.{pick, linesAt}
+use Rattle.entering.proofs.Left.{pick-same}
 
 -- the element is at a place of the list, and the rest is the list without this place
 abbrev TakenOut : {X : Type 0} → X → (l rest : List X) → Type 0

@@ -20,8 +20,8 @@ use Rattle.words.proofs.Answers.{holds-true, fails-false}
 use Rattle.model.specs.declared.Tables.{Tables}
 use Rattle.policy_text.specs.Declared.{Declared}
 use Rattle.policy_text.specs.Policy.{viewsWord}
-use Rattle.reduce.specs.Agree.{lineAt}
-use Rattle.reduce.proofs.Left.{in-lines, lines-in}
+use Rattle.entering.specs.Agree.{lineAt}
+use Rattle.entering.proofs.Left.{in-lines, lines-in}
 use Rattle.labelling.specs.Posed.{ShownIn}
 use Rattle.labelling.specs.Settled.{settled, granted, answers}
 use Rattle.labelling.proofs.Partitions.{settled-settles}

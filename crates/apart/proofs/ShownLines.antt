@@ -15,10 +15,10 @@ use Rattle.theory.proofs.Executable.Test.{and-iff, all-iff}
 use Rattle.model.specs.Limits.{mostColumns, lastVariable, upTo, mostTables, termWithin, lineWithin}
 use Rattle.query_text.specs.WellRead.{WellRead}
 use Rattle.policy_text.specs.Declared.{Declared}
-use Rattle.reduce.specs.Agree.{lineAt}
-use Rattle.reduce.specs.Left.{pick, linesAt}
-use Rattle.reduce.proofs.Left.{pick-map, lines-subset}
-use Rattle.reduce.proofs.Shown.{shownBy, line-same}
+use Rattle.entering.specs.Agree.{lineAt}
+use Rattle.entering.specs.Left.{pick, linesAt}
+use Rattle.entering.proofs.Left.{pick-map, lines-subset}
+use Rattle.entering.proofs.Shown.{shownBy, line-same}
 use Rattle.words.specs.Bits.{isSet}
 use Rattle.labelling.specs.Posed.{ShownIn}
 use Rattle.labelling.proofs.Lines.{some-line}

@@ -31,10 +31,10 @@ use Rattle.model.specs.Value.{termValue, lineValue}
 use Rattle.model.specs.declared.Term.{Term as TermValue}
 use Rattle.model.specs.declared.Tables.{Tables}
 use Rattle.policy_text.specs.Declared.{Declared, Grants}
-use Rattle.reduce.specs.Agree.{lineAt}
-use Rattle.reduce.specs.Left.{linesAt}
-use Rattle.reduce.proofs.Left.{pick-few, lines-in, in-lines, lines-subset}
-use Rattle.reduce.proofs.Shown.{line-same}
+use Rattle.entering.specs.Agree.{lineAt}
+use Rattle.entering.specs.Left.{linesAt}
+use Rattle.entering.proofs.Left.{pick-few, lines-in, in-lines, lines-subset}
+use Rattle.entering.proofs.Shown.{line-same}
 use Rattle.labelling.specs.Settled.{granted}
 use Rattle.labelling.proofs.Partitions.{grants-iff, granted-iff}
 use Rattle.freezing.specs.Blocks.{SparedRows, SpareFound}

@@ -12,9 +12,9 @@ use Rattle.theory.specs.Executable.Show.{showTerm}
 use Rattle.words.specs.Bits.{isSet}
 use Rattle.model.specs.declared.Tables.{Tables}
 use Rattle.policy_text.specs.Declared.{Declared}
-use Rattle.reduce.specs.Agree.{lineAt}
-use Rattle.reduce.specs.Left.{linesAt}
-use Rattle.reduce.specs.Showing.{SharedWord}
+use Rattle.entering.specs.Agree.{lineAt}
+use Rattle.entering.specs.Left.{linesAt}
+use Rattle.entering.specs.Showing.{SharedWord}
 use Rattle.labelling.specs.Posed.{Ready, Rows}
 use Rattle.labelling.specs.Settled.{answers}
 

@@ -11,8 +11,8 @@ use Rattle.model.specs.Limits.{mostLines}
 use Rattle.model.specs.declared.Tables.{Tables}
 use Rattle.query_text.specs.WellRead.{WellRead}
 use Rattle.policy_text.specs.Declared.{Declared}
-use Rattle.reduce.specs.Agree.{lineAt}
-use Rattle.reduce.specs.Left.{linesAt}
+use Rattle.entering.specs.Agree.{lineAt}
+use Rattle.entering.specs.Left.{linesAt}
 use Rattle.labelling.specs.Posed.{Ready, ShownIn}
 use Rattle.freezing.specs.Rows.{HasLine}
 use Rattle.apart.specs.Archives.{ToldApart}

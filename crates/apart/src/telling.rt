@@ -64,7 +64,7 @@ pub fn tell_apart(p: Policy, n: u64, text: &[u8], out: &mut [u64]) -> Telling
             }
             let q = reading.query;
             let ready = covering::prepare(p);
-            let mut lines = reduce::query_rows(q);
+            let mut lines = entering::query_rows(q);
             tell_rows(&ready, n - 1, q.count, &mut lines, out)
         }
         Outcome::Refused { number, line } => Telling::Refused { number, line },

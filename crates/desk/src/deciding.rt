@@ -88,7 +88,7 @@ pub fn decide_loaded(tables: Tables, ready: &Prepared, s: Session, text: &[u8]) 
         Outcome::Refused { number, line } => refused(s, number, line),
         Outcome::Accepted => {
             let q = r.query;
-            let mut lines = reduce::query_rows(q);
+            let mut lines = entering::query_rows(q);
             answer_rows(ready, s, q.count, &mut lines)
         }
     }

@@ -13,7 +13,7 @@ use Rattle.theory.specs.Executable.Cover.{covers}
 use Rattle.theory.proofs.Lists.{below-place, there}
 use Rattle.theory.proofs.Executable.Test.{any-iff}
 use Rattle.theory.proofs.Executable.Cover.{covers-iff}
-use Rattle.reduce.specs.Agree.{lineAt}
+use Rattle.entering.specs.Agree.{lineAt}
 use Rattle.words.specs.Bits.{bit}
 use Rattle.policy_text.specs.Declared.{Declared}
 use Rattle.labelling.specs.Settled.{granted, answers, Known}

@@ -27,14 +27,14 @@ use Rattle.policy_text.specs.Policy.{grantsOf}
 use Rattle.policy_text.proofs.Grants.{grants-bit, good-below}
 use Rattle.covering.specs.Prepared.{grantWord, tableWidth, Tabled}
 use Rattle.covering.specs.Labelled.{Labelled, Reached}
-use Rattle.reduce.specs.Agree.{lineAt}
-use Rattle.reduce.specs.Left.{linesAt}
-use Rattle.reduce.specs.Worded.{Worded, Given}
-use Rattle.reduce.specs.Showing.{SharedWord, showValue, showLine, ShownRows}
-use Rattle.reduce.proofs.Left.{in-lines, lines-subset}
-use Rattle.reduce.proofs.Lines.{laid-few}
-use Rattle.reduce.proofs.Shown.{shownBy, line-value, line-shown}
-use Rattle.reduce.proofs.ShownTerms.{shown-term}
+use Rattle.entering.specs.Agree.{lineAt}
+use Rattle.entering.specs.Left.{linesAt}
+use Rattle.entering.specs.Worded.{Worded, Given}
+use Rattle.entering.specs.Showing.{SharedWord, showValue, showLine, ShownRows}
+use Rattle.entering.proofs.Left.{in-lines, lines-subset}
+use Rattle.entering.proofs.Lines.{laid-few}
+use Rattle.entering.proofs.Shown.{shownBy, line-value, line-shown}
+use Rattle.entering.proofs.ShownTerms.{shown-term}
 use Rattle.labelling.specs.Posed.{Ready, LineOf, PosedRows, Rows}
 use Rattle.labelling.specs.Settled.{answers}
 use Rattle.labelling.proofs.Granted.{covering-answers, answers-covering, Answering}

@@ -30,7 +30,7 @@ use Rattle.policy_text.specs.WellFormed.{WellFormed, GoodPartition}
 use Rattle.policy_text.specs.Policy.{viewsWord}
 use Rattle.policy_text.proofs.Grants.{word-bit, good-below}
 use Rattle.words.proofs.Answers.{true-holds, holds-true}
-use Rattle.reduce.specs.Agree.{lineAt}
+use Rattle.entering.specs.Agree.{lineAt}
 use Rattle.labelling.specs.Settled.{holdsOne, settled, granted, answers, Known, HasNumber}
 use Rattle.labelling.proofs.Granted.{covering-answers, answers-covering}
 use Rattle.labelling.proofs.Lines.{shown-fits}

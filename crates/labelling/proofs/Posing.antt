@@ -33,9 +33,9 @@ use Rattle.model.proofs.Limits.{up-to-iff}
 use Rattle.policy_text.proofs.Grants.{grants-at}
 use Rattle.covering.specs.Views.{Holds}
 use Rattle.covering.specs.Prepared.{Prepared}
-use Rattle.reduce.specs.Laid.{Laid}
-use Rattle.reduce.specs.Showing.{Small}
-use Rattle.reduce.proofs.Lines.{held-count}
+use Rattle.entering.specs.Laid.{Laid}
+use Rattle.entering.specs.Showing.{Small}
+use Rattle.entering.proofs.Lines.{held-count}
 use Rattle.labelling.specs.Posed.{Ready, Posed, PosedRows}
 use Rattle.labelling.specs.Text.{LoadedTo}
 

@@ -22,9 +22,9 @@ use Rattle.model.proofs.Pad.{pad-more}
 use Rattle.policy_text.specs.Declared.{Declared}
 use Rattle.covering.specs.Prepared.{everyWord}
 use Rattle.covering.specs.declared.LineLabel.{LineLabel}
-use Rattle.reduce.specs.Agree.{lineAt}
-use Rattle.reduce.specs.Left.{pick, linesAt}
-use Rattle.reduce.proofs.Lines.{left-more}
+use Rattle.entering.specs.Agree.{lineAt}
+use Rattle.entering.specs.Left.{pick, linesAt}
+use Rattle.entering.proofs.Lines.{left-more}
 use Rattle.word_list.specs.Value.{wordsValue}
 use Rattle.labelling.specs.Posed.{Ready, labelsValue}
 use Rattle.labelling.specs.Settled.{answers, settlingLines}

@@ -20,10 +20,10 @@ use Rattle.policy_text.specs.Policy.{grantsOf}
 use Rattle.covering.specs.Free.{FreeColumns}
 use Rattle.covering.specs.Views.{OfTable, LaidViews}
 use Rattle.covering.specs.Prepared.{everyWord, preparedLong, tableWord, grantWord, tableWidth, freeWord}
-use Rattle.reduce.specs.Agree.{lineAt}
-use Rattle.reduce.specs.Left.{linesAt}
-use Rattle.reduce.specs.Laid.{HoldsQuery, Laid}
-use Rattle.reduce.specs.Showing.{Small, SharedWord, showLine}
+use Rattle.entering.specs.Agree.{lineAt}
+use Rattle.entering.specs.Left.{linesAt}
+use Rattle.entering.specs.Laid.{HoldsQuery, Laid}
+use Rattle.entering.specs.Showing.{Small, SharedWord, showLine}
 use Rattle.word_list.specs.Value.{wordsValue}
 use Rattle.labelling.specs.Settled.{settling, settlingLines}
 use Rattle.labelling.specs.declared.Labels.{Labels}

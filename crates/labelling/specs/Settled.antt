@@ -13,7 +13,7 @@ use Rattle.words.specs.Bits.{halfBits}
 use Rattle.words.specs.Sets.{meet}
 use Rattle.words.specs.TestBits.{testBits}
 use Rattle.policy_text.specs.Declared.{Declared}
-use Rattle.reduce.specs.Agree.{lineAt}
+use Rattle.entering.specs.Agree.{lineAt}
 
 -- a label holds one of a partition's views
 unfoldable pub holdsOne : ℕ → ℕ → Bool

@@ -12,13 +12,13 @@ ghost use Rattle.labelling.specs.Posed.{SomeQueryRows, RowsShown};
 ghost use Rattle.labelling.specs.Posed.{SomeRows, RowsGiven, SomePosedRows, PosedRowsGiven, SomePosed, QueryGiven};
 ghost use Rattle.labelling.specs.Text.{LoadedTo, SomePolicy, askedValue};
 use covering::Prepared;
+use entering::LINE_WORDS;
 use model::MOST_LINES;
 use model::Outcome;
 use model::Policy;
 use model::Query;
 use model::QueryRows;
 use model::Tables;
-use reduce::LINE_WORDS;
 use word_list::Words;
 
 // One word for each line of the reduced query, in the order of its lines, and the partitions that settle it, partition n at bit n - 1.
@@ -62,10 +62,10 @@ pub fn shown_rows(n: usize, lines: &mut QueryRows) -> u64
     ensures { λ _. ⌜ length (now (lines .exit)) ≡ queryRowsLong ⌝ }
 {
     let mut words = [0; MOST_LINES * LINE_WORDS];
-    reduce::enter_query(n, lines, &mut words);
+    entering::enter_query(n, lines, &mut words);
     let left = reduce::lines_left(n, lines, &words);
-    let shared = reduce::shared(n, &words, left);
-    reduce::show(n, lines, shared);
+    let shared = entering::shared(n, &words, left);
+    entering::show(n, lines, shared);
     left
 }
 
@@ -84,7 +84,7 @@ pub fn label_query(ready: &Prepared, q: Query) -> Labels
     requires { ⌜ SomePosed (now ready) q ⌝ }
     ensures { λ l. ⌜ QueryGiven (now (ready .entry)) q l ⌝ }
 {
-    let mut lines = reduce::query_rows(q);
+    let mut lines = entering::query_rows(q);
     label_rows(ready, q.count, &mut lines)
 }
 

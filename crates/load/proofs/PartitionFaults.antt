@@ -1,6 +1,6 @@
 -- The checks of a partition's line in the order of the code's tests.
 use mathlib.Core.Path.{_≡_, refl, sym, ap, ap₂, _∙_}
-use mathlib.Core.Bool.{Bool, true, false, cond, not, _&&_, _||_}
+use mathlib.Core.Bool.{Bool, true, false, cond, not, _&&_, _||_, or-false}
 use mathlib.Core.Option.{Option, none, some}
 use mathlib.Core.List.{List, [], _∷_}
 use Prim.Native.Nat.{ℕ, suc, _-_, _≤_, _<_}
@@ -43,10 +43,6 @@ or-under n v m h = go (ltb n v) refl
 pub any-past : (n v : ℕ) (vs : List ℕ) → ascend (v ∷ vs) ≡ true → any (ltb n) (v ∷ vs) ≡ ltb n (lastAfter v vs)
 unfolding any ascend lastAfter
 any-past n v [] e = or-false (ltb n v)
-  where
-    or-false : (b : Bool) → (b || false) ≡ b
-    or-false true = refl
-    or-false false = refl
 any-past n v (w ∷ vs) e =
     let k = both-true (ltb v w) _ e in
     let l = at-most-last w vs (k .1) in

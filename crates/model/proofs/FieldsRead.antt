@@ -9,22 +9,22 @@ use lib.ListN.{length}
 use borrow.Author.Tests.{not-true, not-false}
 use Rattle.theory.specs.Executable.Test.{all}
 use Rattle.theory.proofs.Executable.Test.{all-more}
-use Rattle.text.specs.Lines.{fields, fieldsFrom}
-use Rattle.text.proofs.FieldsFrom.{from-first, from-none, FieldAt, field-first, others-within}
+use Rattle.text.specs.Lines.{space, fields, partsFrom}
+use Rattle.text.proofs.PartsFrom.{from-first, from-none, PartAt, part-first, others-within}
 use Rattle.model.specs.Fields.{both, every, mapped}
 
 -- ---- lists of which each element was read
 
-append-none : {X : Type 0} (o : Option (List X)) → o ≡ mapped (λ l. [] ++ l) o
+pub append-none : {X : Type 0} (o : Option (List X)) → o ≡ mapped (λ l. [] ++ l) o
 unfolding mapped
 append-none none = refl
 append-none (some l) = refl
 
-none-next : {X : Type 0} (us : List X) (f : Option X) (o : Option (List X)) → f ≡ none → mapped (λ l. us ++ l) (both _∷_ f o) ≡ none
+pub none-next : {X : Type 0} (us : List X) (f : Option X) (o : Option (List X)) → f ≡ none → mapped (λ l. us ++ l) (both _∷_ f o) ≡ none
 unfolding mapped both
 none-next us f o e = rw e
 
-some-next : {X : Type 0} (us : List X) (u : X) (f : Option X) (o : Option (List X)) → f ≡ some u
+pub some-next : {X : Type 0} (us : List X) (u : X) (f : Option X) (o : Option (List X)) → f ≡ some u
     → mapped (λ l. us ++ l) (both _∷_ f o) ≡ mapped (λ l. us ++ u ∷ [] ++ l) o
 unfolding mapped both
 some-next us u f none e = rw e
@@ -38,12 +38,12 @@ module _ {X H : Type 0} (read : List ℕ → Option X) (test : X → Bool) (valu
   pub record FieldsRead (s : List ℕ) (h : H) (past : Bool) (i : ℕ) : Type 0 where
     pub values : List X
     pub within : i ≤ length s + 1
-    pub ahead : every read (fields s) ≡ mapped (λ l. values ++ l) (every read (fieldsFrom s i))
+    pub ahead : every read (fields s) ≡ mapped (λ l. values ++ l) (every read (partsFrom space s i))
     pub limits : past ≡ not (all test values)
     pub held : past ≡ false → h ≡ value values
 
   pub read-none : (s : List ℕ) (h : H) → h ≡ value [] → FieldsRead s h false 0
-  unfolding all
+  unfolding all fields
   read-none s h e =
       record {
         values = [];
@@ -58,18 +58,18 @@ module _ {X H : Type 0} (read : List ℕ → Option X) (test : X → Bool) (valu
   -- the fields before place i are passed, and f is the next one, of n bytes
   pub record Next (s : List ℕ) (h : H) (past : Bool) (i n : ℕ) (f : List ℕ) : Type 0 where
     pub passed : FieldsRead s h past i
-    pub here : FieldAt s i n f
+    pub here : PartAt space s i n f
 
   module _ {s f : List ℕ} {h : H} {past : Bool} {i n : ℕ} (x : Next s h past i n f) where
     others : Option (List X)
-    others = every read (fieldsFrom s (i + n + 1))
+    others = every read (partsFrom space s (i + n + 1))
 
     ahead : every read (fields s) ≡ mapped (λ l. x .passed .values ++ l) (both _∷_ (read f) others)
     unfolding every others
-    ahead = x .passed .ahead ∙ rw (field-first (x .here))
+    ahead = x .passed .ahead ∙ rw (part-first (x .here))
 
     more : (u : X) → read f ≡ some u
-        → every read (fields s) ≡ mapped (λ l. x .passed .values ++ u ∷ [] ++ l) (every read (fieldsFrom s (i + n + 1)))
+        → every read (fields s) ≡ mapped (λ l. x .passed .values ++ u ∷ [] ++ l) (every read (partsFrom space s (i + n + 1)))
     unfolding others
     more u e = ahead ∙ some-next (x .passed .values) u (read f) others e
 
@@ -102,7 +102,7 @@ module _ {X H : Type 0} (read : List ℕ → Option X) (test : X → Bool) (valu
   module _ {s : List ℕ} {h : H} {past : Bool} {i : ℕ} (r : FieldsRead s h past i) (k : length s < i) where
     pub all-read : every read (fields s) ≡ some (r .values)
     unfolding every mapped
-    all-read = r .ahead ∙ rw (from-none s i k, append-nil)
+    all-read = r .ahead ∙ rw (from-none space s i k, append-nil)
 
     pub some-past : past ≡ true → all test (r .values) ≡ false
     some-past e = not-true (all test (r .values)) (sym (r .limits) ∙ e)

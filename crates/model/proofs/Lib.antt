@@ -17,4 +17,5 @@ pub mod LaidTerms
 pub mod LineValues
 -- What is printed is read back, and what is read was printed.
 pub mod Printed
+pub mod Spaced
 pub mod ReadLines

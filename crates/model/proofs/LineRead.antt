@@ -15,7 +15,7 @@ use Rattle.text.specs.Numeral.{numeral}
 use Rattle.text.specs.Value.{limited, numeralValue}
 use Rattle.text.specs.declared.Numeral.{Numeral}
 use Rattle.text.specs.declared.Numeral.the-variants.{Malformed}
-use Rattle.text.proofs.Lines.{before-le, fields-last, fields-more}
+use Rattle.text.proofs.Lines.{before-le, parts-last, parts-more}
 use Rattle.model.specs.Fields.{both, every, term, lineOfFields, queryLine}
 use Rattle.model.specs.Limits.{mostTables, upTo, termWithin, lineWithin}
 use Rattle.model.specs.Parsed.{blankValue, goodValue, parsedTerms, parsedLine, upToValue}
@@ -30,7 +30,7 @@ lineOf o q = both (λ t ts. record { table = t; columns = ts }) o q
 
 pub line-alone : (s : List ℕ) → before space s ≡ length s → blankValue false false ≡ parsedLine (queryLine s)
 unfolding queryLine lineOfFields parsedLine
-line-alone s e = rw (fields-last s e)
+line-alone s e = rw (parts-last space s e)
 
 line-others : (f : List ℕ) (gs : List (List ℕ)) (g : List ℕ)
     → lineOfFields (f ∷ (gs ++ g ∷ [])) ≡ lineOf (numeral f) (every term (gs ++ g ∷ []))
@@ -45,7 +45,7 @@ unfolding queryLine fields
 line-parted s n e f =
     let h : before space s < length s = omega (arith, before-le space s) in
     let r = split space (drop (suc (before space s)) s) in
-    ap lineOfFields (fields-more s h) ∙ line-others (take (before space s) s) (r .ended) (r .rest)
+    ap lineOfFields (parts-more space s h) ∙ line-others (take (before space s) s) (r .ended) (r .rest)
     ∙ rw (to-end (n + 1) s, add-one n, e)
 
 -- ---- the line by its table and its terms

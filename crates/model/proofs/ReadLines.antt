@@ -18,14 +18,14 @@ use Rattle.model.specs.Print.{printTerm, lineFields, printQueryLine, tab
 
 -- ---- what was read of parts
 
-both-some : {X Y Z : Type 0} (f : X → Y → Z) (o : Option X) (p : Option Y) (z : Z) → both f o p ≡ some z
+pub both-some : {X Y Z : Type 0} (f : X → Y → Z) (o : Option X) (p : Option Y) (z : Z) → both f o p ≡ some z
     → (x : X) × (y : Y) × (o ≡ some x) × (p ≡ some y) × (f x y ≡ z)
 unfolding both
 both-some f none p z e = absurd (Option·none-ne-some z e)
 both-some f (some x) none z e = absurd (Option·none-ne-some z e)
 both-some f (some x) (some y) z e = (x, y, refl, refl, Option·some-injective (f x y) z e)
 
-mapped-some : {X Y : Type 0} (f : X → Y) (o : Option X) (y : Y) → mapped f o ≡ some y → (x : X) × (o ≡ some x) × (f x ≡ y)
+pub mapped-some : {X Y : Type 0} (f : X → Y) (o : Option X) (y : Y) → mapped f o ≡ some y → (x : X) × (o ≡ some x) × (f x ≡ y)
 unfolding mapped
 mapped-some f none y e = absurd (Option·none-ne-some y e)
 mapped-some f (some x) y e = (x, refl, Option·some-injective (f x) y e)

@@ -89,8 +89,9 @@ placed-past {p} {q} {t} h e =
       terms = λ l. ap (λ (x : Parsed). x .terms) e ∙ sym (set-out (p .terms) (p .count) t (omega arith));
     }
 
-places : (ts : List TheTerm) (u : TheTerm) → set (termsValue ts) (length ts) (termValue u) ≡ termsValue (ts ++ u ∷ [])
-places ts u = go (decLt (length ts) mostColumns)
+-- a term in the place behind them, if there is one
+pub terms-placed : (ts : List TheTerm) (u : TheTerm) → set (termsValue ts) (length ts) (termValue u) ≡ termsValue (ts ++ u ∷ [])
+terms-placed ts u = go (decLt (length ts) mostColumns)
   where
     go : Dec (length ts < mostColumns) → set (termsValue ts) (length ts) (termValue u) ≡ termsValue (ts ++ u ∷ [])
     go (yes h) = terms-more ts u h
@@ -103,7 +104,7 @@ module _ (p q : Parsed) (t : Term) (a b : ℕ) (r : Placed p t q) (ea : a ≡ wi
   unfolding goodValue
   more ts u ep et =
       let long : length (p .terms) ≡ mostColumns = ap (λ (x : Parsed). length (x .terms)) ep ∙ terms-length ts in
-      let terms : q .terms ≡ termsValue (ts ++ u ∷ []) = r .terms long ∙ rw (et, ep) (places ts u) in
+      let terms : q .terms ≡ termsValue (ts ++ u ∷ []) = r .terms long ∙ rw (et, ep) (terms-placed ts u) in
       let count : p .count + 1 ≡ length (ts ++ u ∷ []) = rw (ep, length-append) in
       let ones : a ≡ bitsOf withShown 0 (ts ++ u ∷ []) = ea ∙ rw (et, ep, bits-more) (mark-shown (bitsOf withShown 0 ts) u) in
       let others : b ≡ bitsOf withHidden 0 (ts ++ u ∷ []) = eb ∙ rw (et, ep, bits-more) (mark-hidden (bitsOf withHidden 0 ts) u) in

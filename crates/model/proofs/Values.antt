@@ -12,6 +12,10 @@ use Rattle.model.specs.Limits.{mostColumns, mostLines}
 use Rattle.model.proofs.Pad.{pad-take}
 use Rattle.model.proofs.Terms.{terms-few}
 
+-- of an array of structs in a value a search finds the length of the list it is mapped from
+pub mapped-long : {X Y : Type 0} (f : X → Y) (l : List X) (n : ℕ) → length (map f l) ≡ n → length l ≡ n
+mapped-long f l n e = sym (length-map l f) ∙ e
+
 pub as-term : (t : Term) → asTerm (termValue t) ≡ t
 unfolding asTerm termValue
 as-term (constant c) = refl

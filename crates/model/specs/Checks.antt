@@ -1,6 +1,6 @@
 -- Document 01, the checks 4, 5 and 6 that turn a line back, each a test on what the line says and what earlier lines declared.
 use mathlib.Core.Bool.{Bool, false, cond, not}
-use mathlib.Core.List.{List, [], _∷_}
+use mathlib.Core.List.{List, [], _∷_, _++_}
 use Prim.Native.Nat.{ℕ, _-_}
 use lib.Dec.{leb, eqb}
 use lib.ListN.{length, getD}
@@ -35,14 +35,16 @@ unfoldable pub firstFault : List Check → ℕ
 firstFault [] = 0
 firstFault (c ∷ cs) = cond (c .broken) (c .number) (firstFault cs)
 
--- the checks of a line against the tables and the lines before it: "4: an unknown table or view. 5: terms fewer or more than the
--- columns. 6: one variable number both shown and hidden."
-abbrev pub fitting : List ℕ → List Line → Line → List Check
-fitting widths earlier A =
+-- the checks of a line against the tables: "4: an unknown table or view. 5: terms fewer or more than the columns."
+abbrev pub fittingTable : List ℕ → Line → List Check
+fittingTable widths A =
     record { broken = not (known widths A); number = 4 }
     ∷ record { broken = not (wide widths A); number = 5 }
-    ∷ record { broken = clashing earlier A; number = 6 }
     ∷ []
+
+-- and those against the line itself and the lines before it: "6: one variable number both shown and hidden."
+abbrev pub fitting : List ℕ → List Line → Line → List Check
+fitting widths earlier A = fittingTable widths A ++ record { broken = clashing earlier A; number = 6 } ∷ []
 
 -- what turns back a line within its limits that stands behind the lines `earlier`: 4, 5, 6, or nothing
 unfoldable pub misfit : List ℕ → List Line → Line → ℕ

@@ -1,7 +1,8 @@
 -- Document 01, "The texts", the other way round: the lines that `Fields` reads, as they are written.
-use mathlib.Core.List.{List, [], _∷_, map}
+use mathlib.Core.List.{List, [], _∷_, _++_, map}
 use Prim.Native.Nat.{ℕ}
 use Rattle.theory.specs.Query.{Term, constant, shown, hidden, Line}
+use Rattle.text.specs.Lines.{space}
 use Rattle.text.specs.Print.{decimal, joined}
 use Rattle.model.specs.Fields.{constantByte, shownByte, hiddenByte}
 
@@ -11,6 +12,12 @@ unfolding decimal
 printTerm (constant c) = constantByte ∷ decimal c
 printTerm (shown n) = shownByte ∷ decimal n
 printTerm (hidden n) = hiddenByte ∷ decimal n
+
+-- terms as they are written behind a line's table, each behind a space
+unfoldable pub spaced : List Term → List ℕ
+unfolding printTerm
+spaced [] = []
+spaced (t ∷ ts) = space ∷ printTerm t ++ spaced ts
 
 -- a table and its terms: the fields of a query's line, and those of a view's behind its number
 unfoldable pub lineFields : Line → List (List ℕ)

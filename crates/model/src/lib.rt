@@ -5,6 +5,7 @@ mod compare;
 mod read;
 mod rows;
 
+pub use check::check_columns;
 pub use check::check_line;
 pub use compare::is_among;
 pub use compare::same_term;

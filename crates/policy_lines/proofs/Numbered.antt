@@ -7,7 +7,7 @@ use Prim.Native.Nat.{ℕ, _+_, _-_, _≤_, zero-le}
 use native.Mathlib.Nat.{zero-add}
 use native.Mathlib.Omega.{arith}
 use lib.ListN.{length, take}
-use Rattle.text.specs.Lines.{space, fields, fieldsFrom, before}
+use Rattle.text.specs.Lines.{space, fields, partsFrom, before}
 use Rattle.text.specs.Numeral.{constantLimit, numeral}
 use Rattle.text.specs.Value.{limited, numeralValue}
 use Rattle.text.specs.declared.Numeral.{Numeral}
@@ -15,7 +15,7 @@ use Rattle.text.specs.declared.Numeral.the-variants.{Malformed}
 use Rattle.model.specs.Fields.{both, Numbered, numbered}
 use Rattle.model.specs.Limits.{upTo}
 use Rattle.model.specs.Parsed.{upToValue}
-use Rattle.text.proofs.FieldsFrom.{from-first, from-next, from-end}
+use Rattle.text.proofs.PartsFrom.{from-first, from-next, from-end}
 use Rattle.model.proofs.UpTo.{malformed-none, formed-some, number-past, number-within}
 
 -- ---- the line
@@ -24,9 +24,9 @@ abbrev pub numberedOf : {X : Type 0} → Option ℕ → Option X → Option (Num
 numberedOf o q = both (λ n x. record { number = n; value = x }) o q
 
 numbered-parted : {X : Type 0} (read : List (List ℕ) → Option X) (s : List ℕ) (n : ℕ) → n ≡ before space s
-    → numbered read (fields s) ≡ numberedOf (numeral (take n s)) (read (fieldsFrom s (n + 1)))
-unfolding numbered
-numbered-parted read s n e = ap (numbered read) (sym (from-first s) ∙ from-next s 0 zero-le) ∙ rw (zero-add, e)
+    → numbered read (fields s) ≡ numberedOf (numeral (take n s)) (read (partsFrom space s (n + 1)))
+unfolding numbered fields
+numbered-parted read s n e = ap (numbered read) (sym (from-first space s) ∙ from-next space s 0 zero-le) ∙ rw (zero-add, e)
 
 nothing-numbered : {X : Type 0} (o : Option ℕ) → numberedOf {X = X} o none ≡ none
 unfolding both
@@ -40,7 +40,7 @@ pub record NumberRead {X : Type 0} (l : Option (Numbered X)) (number : Numeral) 
   pub said : number ≡ limited first
 
 pub number-read : {X : Type 0} (read : List (List ℕ) → Option X) (s : List ℕ) {n : ℕ} {number : Numeral} {q : Option X}
-    → n ≡ before space s → number ≡ numeralValue (take n s) → read (fieldsFrom s (n + 1)) ≡ q
+    → n ≡ before space s → number ≡ numeralValue (take n s) → read (partsFrom space s (n + 1)) ≡ q
     → NumberRead (numbered read (fields s)) number q
 unfolding numeralValue
 number-read read s {n} e f g =
@@ -54,7 +54,7 @@ number-read read s {n} e f g =
 pub number-alone : {X : Type 0} (read : List (List ℕ) → Option X) (s : List ℕ) {n : ℕ} → n ≡ before space s
     → n ≡ length s → read [] ≡ none → numbered read (fields s) ≡ none
 number-alone read s {n} e f g =
-    numbered-parted read s n e ∙ ap (numberedOf (numeral (take n s))) (ap read (from-end s n (omega arith)) ∙ g)
+    numbered-parted read s n e ∙ ap (numberedOf (numeral (take n s))) (ap read (from-end space s n (omega arith)) ∙ g)
     ∙ nothing-numbered (numeral (take n s))
 
 module _ {X : Type 0} {l : Option (Numbered X)} {number : Numeral} {q : Option X} (r : NumberRead l number q) where

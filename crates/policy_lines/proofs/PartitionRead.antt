@@ -6,7 +6,7 @@ use mathlib.Core.Option.{Option, none, some}
 use Prim.Native.Nat.{ℕ, _+_}
 use lib.ListN.{take}
 use Rattle.theory.specs.Executable.Test.{all}
-use Rattle.text.specs.Lines.{space, before, fieldsFrom}
+use Rattle.text.specs.Lines.{space, before, partsFrom}
 use Rattle.text.specs.Numeral.{numeral}
 use Rattle.text.specs.Value.{numeralValue}
 use Rattle.text.specs.declared.Numeral.{Numeral}
@@ -33,7 +33,7 @@ told-listed (some vs) = go (all (upTo mostViews) vs) refl
     go false e = past vs refl e refl refl
 
 module _ (s : List ℕ) {n : ℕ} {number : Numeral} (first : n ≡ before space s) (read : number ≡ numeralValue (take n s)) where
-  pub partition-read : NumberRead (partitionLine s) number (every numeral (fieldsFrom s (n + 1)))
+  pub partition-read : NumberRead (partitionLine s) number (every numeral (partsFrom space s (n + 1)))
   unfolding partitionLine
   partition-read = number-read (every numeral) s first read refl
 

@@ -15,8 +15,8 @@ use Rattle.text.specs.Numeral.{isDigit, allDigits, isNumeral, numeral}
 use Rattle.text.specs.Value.{limited, numeralValue}
 use Rattle.text.specs.declared.Numeral.{Numeral}
 use Rattle.text.specs.declared.Numeral.the-variants.{Malformed}
-use Rattle.text.proofs.Lines.{before-le, fields-last, fields-more}
-use Rattle.text.proofs.FieldsFrom.{from-rest}
+use Rattle.text.proofs.Lines.{before-le, parts-last, parts-more}
+use Rattle.text.proofs.PartsFrom.{from-rest}
 use Rattle.model.specs.Fields.{Numbered, oneNumeral, tableLine}
 use Rattle.model.specs.Limits.{mostColumns, mostTables}
 use Rattle.model.specs.Parsed.{upToValue}
@@ -50,8 +50,8 @@ one-numeral r = go (decLt (before space r) (length r))
     go : Dec (before space r < length r) → oneNumeral (fields r) ≡ numeral r
     go (yes h) =
         let p = split space (drop (suc (before space r)) r) in
-        ap oneNumeral (fields-more r h) ∙ others (take (before space r) r) (p .ended) (p .rest) ∙ rw (space-within r h)
-    go (no h) = ap oneNumeral (fields-last r (omega (arith, before-le space r)))
+        ap oneNumeral (parts-more space r h) ∙ others (take (before space r) r) (p .ended) (p .rest) ∙ rw (space-within r h)
+    go (no h) = ap oneNumeral (parts-last space r (omega (arith, before-le space r)))
 
 -- ---- the line
 
@@ -68,7 +68,7 @@ module _ (s : List ℕ) {n : ℕ} {number : Numeral} (first : n ≡ before space
   unfolding tableLine
   table-read h =
       number-read oneNumeral s first read
-      (ap oneNumeral (from-rest s n h) ∙ one-numeral (take (length s - (n + 1)) (drop (n + 1) s)))
+      (ap oneNumeral (from-rest space s n h) ∙ one-numeral (take (length s - (n + 1)) (drop (n + 1) s)))
 
 module _ {l : Option (Numbered ℕ)} {number columns : Numeral} {q : Option ℕ} (r : NumberRead l number q) (said : columns ≡ limited q) where
   pub columns-malformed : columns ≡ Malformed → noTable false ≡ tableValue l

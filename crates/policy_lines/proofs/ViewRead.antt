@@ -10,7 +10,7 @@ use Rattle.text.specs.Lines.{space, before}
 use Rattle.text.specs.Value.{numeralValue}
 use Rattle.text.specs.declared.Numeral.{Numeral}
 use Rattle.text.specs.declared.Numeral.the-variants.{Malformed}
-use Rattle.text.proofs.FieldsFrom.{from-rest}
+use Rattle.text.proofs.PartsFrom.{from-rest}
 use Rattle.model.specs.Fields.{Numbered, lineOfFields, queryLine, viewLine}
 use Rattle.model.specs.Limits.{mostViews, lineWithin}
 use Rattle.model.specs.Parsed.{blankValue, goodValue, parsedLine, upToValue}
@@ -43,7 +43,7 @@ module _ (s : List ℕ) {n : ℕ} {number : Numeral} (first : n ≡ before space
 
   pub view-read : n < length s → NumberRead (viewLine s) number (queryLine (take (length s - (n + 1)) (drop (n + 1) s)))
   unfolding viewLine queryLine
-  view-read h = number-read lineOfFields s first read (ap lineOfFields (from-rest s n h))
+  view-read h = number-read lineOfFields s first read (ap lineOfFields (from-rest space s n h))
 
 module _ {l : Option (Numbered Line)} {number : Numeral} {p : Parsed} {q : Option Line}
     (r : NumberRead l number q) (said : p ≡ parsedLine q) where

@@ -4,7 +4,7 @@ ghost use mathlib.Core.Path.{_≡_};
 ghost use mathlib.Core.List.{List, [], _∷_, _++_};
 ghost use Prim.Native.Nat.{ℕ, _+_, _^_, _<_, _≤_};
 ghost use lib.ListN.{length};
-ghost use Rattle.text.specs.Lines.{fields, fieldsFrom};
+ghost use Rattle.text.specs.Lines.{space, fields, partsFrom};
 ghost use Rattle.text.specs.Numeral.{numeral};
 ghost use Rattle.model.specs.Limits.{mostViews};
 ghost use Rattle.model.specs.Fields.{every, tableLine, viewLine, partitionLine};
@@ -223,7 +223,7 @@ fn no_partition(ok: bool) -> PartitionLine
 // The views behind a partition's number, which ends at `n`.
 fn listed_after(line: &[u8], n: usize) -> ViewList
     requires { ⌜ length (now line) < 2 ^ 32 ⌝ }
-    ensures { λ r. ⌜ r ≡ viewListValue (every numeral (fieldsFrom (now (line .entry)) (n + 1))) ⌝ }
+    ensures { λ r. ⌜ r ≡ viewListValue (every numeral (partsFrom space (now (line .entry)) (n + 1))) ⌝ }
 {
     if n < line.len() {
         let from = n + 1;

@@ -11,7 +11,7 @@ use Rattle.theory.specs.Executable.Test.{all}
 use Rattle.theory.specs.Executable.Reduce.{keeps, agrees}
 use Rattle.theory.proofs.Executable.Test.{and-iff, all-iff}
 use Rattle.theory.proofs.Executable.Reduce.{agrees-iff}
-use Rattle.reduce.specs.Agree.{goes, agree}
+use Rattle.entering.specs.Agree.{goes, agree}
 
 -- equal terms in the columns of A and B stand over equal terms
 abbrev pub Joint : Line → Line → Line → Line → Type 0

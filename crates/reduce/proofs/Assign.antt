@@ -17,10 +17,10 @@ use Rattle.theory.proofs.Tuples.{tuple-path, map-zip, zip-map}
 use Rattle.theory.proofs.Executable.Test.{and-iff, all-iff}
 use Rattle.theory.proofs.Executable.Reduce.{agrees-iff, keeps-from, mappable-iff, sendable-iff}
 use Rattle.words.specs.Bits.{bit, isSet}
-use Rattle.reduce.specs.Agree.{agree, lineAt}
-use Rattle.reduce.specs.Left.{linesAt}
+use Rattle.entering.specs.Agree.{agree, lineAt}
+use Rattle.entering.specs.Left.{linesAt}
+use Rattle.entering.proofs.Left.{in-lines, lines-in}
 use Rattle.reduce.proofs.Agree.{Goes, agree-iff}
-use Rattle.reduce.proofs.Left.{in-lines, lines-in}
 
 -- ---- a line and what a map makes of it
 

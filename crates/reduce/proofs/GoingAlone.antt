@@ -26,21 +26,21 @@ use Rattle.model.specs.Limits.{mostLines, mostColumns}
 use Rattle.model.specs.Value.{sameTerm, lineValue}
 use Rattle.model.specs.Rows.{termAt, laidTerm}
 use Rattle.model.specs.declared.Term.{Term}
-use Rattle.reduce.specs.Agree.{agree, lineAt}
+use Rattle.entering.specs.Agree.{agree, lineAt}
+use Rattle.entering.specs.Left.{linesAt, Folds}
+use Rattle.entering.specs.Showing.{hiddenTerm}
+use Rattle.entering.specs.Worded.{hiddenWord, Given}
 use Rattle.reduce.specs.Alone.{VariablesIn, Keeps}
-use Rattle.reduce.specs.Left.{linesAt, Folds}
 use Rattle.reduce.specs.PairNumbers.{pairOf}
 use Rattle.reduce.specs.Pairs.{Candidate}
-use Rattle.reduce.specs.Showing.{hiddenTerm}
-use Rattle.reduce.specs.Worded.{hiddenWord, Given}
 use Rattle.reduce.proofs.Agree.{Goes, goes-iff, agree-iff, agree-swap}
 use Rattle.reduce.proofs.Assign.{Assigned, assigned-iff}
 use Rattle.model.proofs.Same.{same-term-iff}
 use Rattle.model.proofs.Values.{value-same}
-use Rattle.reduce.proofs.Hidden.{hidden-at}
+use Rattle.entering.proofs.Hidden.{hidden-at}
+use Rattle.entering.proofs.Left.{in-lines}
+use Rattle.entering.proofs.Lines.{laid-few, small-line}
 use Rattle.reduce.proofs.LaidColumns.{hidden-or-not, goes-same, joint-columns, laid-column}
-use Rattle.reduce.proofs.Left.{in-lines}
-use Rattle.reduce.proofs.Lines.{laid-few, small-line}
 use Rattle.reduce.proofs.PairNumbers.{line-of, target-of}
 use Rattle.reduce.proofs.Passes.{folds-on}
 use Rattle.reduce.proofs.TargetLines.{goes-self}

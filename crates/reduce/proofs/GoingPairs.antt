@@ -18,11 +18,11 @@ use Rattle.words.proofs.Marks.{upto-set, upto-all, Picked, left-before, picked-
 use Rattle.words.proofs.Parts.{bit-below, bit-above}
 use Rattle.words.proofs.SetBits.{set-bit-iff, set-bit-below}
 use Rattle.model.specs.Limits.{mostLines}
-use Rattle.reduce.specs.Agree.{goes, lineAt}
+use Rattle.entering.specs.Agree.{goes, lineAt}
+use Rattle.entering.specs.Worded.{columnsWord, Given}
 use Rattle.reduce.specs.LineTargets.{SameAt, Near, TargetWord}
 use Rattle.reduce.specs.PairNumbers.{lineOf, targetOf}
 use Rattle.reduce.specs.Pairs.{Going, Goings}
-use Rattle.reduce.specs.Worded.{columnsWord, Given}
 use Rattle.reduce.proofs.KeptColumns.{Kept}
 use Rattle.reduce.proofs.Links.{upto-below}
 use Rattle.reduce.proofs.TargetLines.{goes-near, same-goes, goes-self}

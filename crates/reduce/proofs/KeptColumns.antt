@@ -17,8 +17,8 @@ use Rattle.words.proofs.Marks.{upto-more}
 use Rattle.words.proofs.Masks.{bit-and-iff}
 use Rattle.model.specs.Limits.{mostColumns}
 use Rattle.model.specs.Rows.{laidTable}
+use Rattle.entering.specs.Worded.{columnsWord}
 use Rattle.reduce.specs.LineTargets.{Near}
-use Rattle.reduce.specs.Worded.{columnsWord}
 
 -- ---- words that have nothing in common, or all
 

@@ -18,12 +18,12 @@ use Rattle.model.specs.Limits.{mostColumns}
 use Rattle.model.specs.Value.{unusedTerm, termValue}
 use Rattle.model.specs.Rows.{laidTerm}
 use Rattle.model.proofs.Values.{value-same}
-use Rattle.reduce.specs.Agree.{lineAt}
-use Rattle.reduce.specs.Laid.{Laid}
-use Rattle.reduce.specs.Worded.{HiddenAt}
+use Rattle.entering.specs.Agree.{lineAt}
+use Rattle.entering.specs.Laid.{Laid}
+use Rattle.entering.specs.Worded.{HiddenAt}
 use Rattle.reduce.proofs.Agree.{Goes, Joint}
 use Rattle.model.proofs.Same.{same-term-iff}
-use Rattle.reduce.proofs.Lines.{laid-few}
+use Rattle.entering.proofs.Lines.{laid-few}
 use Rattle.model.proofs.LineValues.{same-unused, used, unused}
 
 -- ---- terms

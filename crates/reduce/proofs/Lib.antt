@@ -1,14 +1,8 @@
 -- Lines that one map can send to lines, column by column.
 pub mod Agree
-pub mod Hidden
-pub mod LineWords
 pub mod Looked
 pub mod KeptColumns
 pub mod FirstColumns
--- The lines of a query, and those left.
-pub mod Left
-pub mod Lines
-pub mod LaidRows
 -- The pairs of a line and a target.
 pub mod PairNumbers
 pub mod PairRows
@@ -27,7 +21,3 @@ pub mod Maps
 pub mod Passes
 pub mod GoingAlone
 pub mod Staying
--- Showing.
-pub mod Seen
-pub mod Shown
-pub mod ShownTerms

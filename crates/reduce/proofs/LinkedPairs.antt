@@ -12,17 +12,17 @@ use Rattle.words.specs.Bits.{bit}
 use Rattle.words.proofs.Masks.{bit-and-iff}
 use Rattle.model.specs.Value.{termValue}
 use Rattle.model.specs.Rows.{laidTerm}
+use Rattle.entering.specs.Agree.{lineAt}
+use Rattle.entering.specs.Worded.{hiddenWord, HiddenAt, Given}
 use Rattle.reduce.specs.PairNumbers.{lineOf, targetOf}
-use Rattle.reduce.specs.Agree.{lineAt}
 use Rattle.reduce.specs.Columns.{FirstColumn}
 use Rattle.reduce.specs.Links.{HasVariable, Linked}
 use Rattle.reduce.specs.Pairs.{Joined, Candidate}
-use Rattle.reduce.specs.Worded.{hiddenWord, HiddenAt, Given}
 use Rattle.reduce.proofs.Agree.{Goes, agree-iff}
 use Rattle.reduce.proofs.FirstColumns.{first-column}
 use Rattle.model.proofs.Values.{value-same}
+use Rattle.entering.proofs.Lines.{laid-few}
 use Rattle.reduce.proofs.LaidColumns.{hidden-or-not, goes-same, joint-columns, laid-column, hidden-laid, laid-hidden}
-use Rattle.reduce.proofs.Lines.{laid-few}
 
 module _ {Q : Query} {n : ℕ} {rows words : List ℕ} (given : Given Q n rows words) where
   -- a hidden variable of a line, and its first column

@@ -11,15 +11,15 @@ use Rattle.theory.specs.Reduce.{Sends}
 use Rattle.words.specs.Bits.{bit}
 use Rattle.words.proofs.Bits.{bit-within}
 use Rattle.model.specs.Limits.{mostLines}
+use Rattle.entering.specs.Agree.{agree, lineAt}
+use Rattle.entering.specs.Left.{linesAt}
+use Rattle.entering.proofs.Left.{in-lines, lines-in}
 use Rattle.reduce.specs.PairNumbers.{pairOf}
-use Rattle.reduce.specs.Agree.{agree, lineAt}
 use Rattle.reduce.specs.Extends.{Extends}
-use Rattle.reduce.specs.Left.{linesAt}
 use Rattle.reduce.specs.Pairs.{Candidate, PairsTabled}
 use Rattle.reduce.proofs.PairNumbers.{line-of, target-of}
 use Rattle.reduce.proofs.Agree.{agree-swap}
 use Rattle.reduce.proofs.Assign.{Assigned, assigned-iff}
-use Rattle.reduce.proofs.Left.{in-lines, lines-in}
 
 module _ {Q : Query} {rows c : ℕ} {words : List ℕ} (tabled : PairsTabled Q rows c words) (targets : ℕ) where
   -- line i with target t and line j with target u

@@ -24,20 +24,20 @@ use Rattle.model.specs.Limits.{mostColumns}
 use Rattle.model.specs.Value.{sameTerm, termValue, lineValue}
 use Rattle.model.specs.Rows.{termAt, laidTerm}
 use Rattle.model.specs.declared.Term.{Term}
-use Rattle.reduce.specs.Agree.{goes, lineAt}
+use Rattle.entering.specs.Agree.{goes, lineAt}
+use Rattle.entering.specs.Showing.{hiddenTerm}
+use Rattle.entering.specs.Worded.{twiceWord, HiddenAt, Given}
 use Rattle.reduce.specs.Columns.{FirstColumn}
 use Rattle.reduce.specs.LineTargets.{KeepsOwn}
 use Rattle.reduce.specs.PairNumbers.{lineOf, targetOf}
 use Rattle.reduce.specs.Pairs.{Going, Goings, Candidate, CandidateWord}
-use Rattle.reduce.specs.Showing.{hiddenTerm}
-use Rattle.reduce.specs.Worded.{twiceWord, HiddenAt, Given}
 use Rattle.reduce.proofs.Agree.{Goes, goes-iff, agree-iff}
 use Rattle.model.proofs.Same.{same-term-iff}
 use Rattle.model.proofs.Values.{value-same}
+use Rattle.entering.proofs.Hidden.{at-hidden, hidden-at}
+use Rattle.entering.proofs.Lines.{laid-few, small-line}
 use Rattle.reduce.proofs.FirstColumns.{first-unique}
-use Rattle.reduce.proofs.Hidden.{at-hidden, hidden-at}
 use Rattle.reduce.proofs.LaidColumns.{hidden-or-not, goes-same, joint-columns, laid-column}
-use Rattle.reduce.proofs.Lines.{laid-few, small-line}
 use Rattle.reduce.proofs.Looked.{Sieved, sieved-none, sieved-all}
 use Rattle.reduce.proofs.PairNumbers.{moving, moving-set}
 

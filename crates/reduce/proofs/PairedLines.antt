@@ -17,11 +17,11 @@ use Rattle.words.proofs.Marks.{left-before}
 use Rattle.model.specs.Limits.{mostLines}
 use Rattle.model.specs.Value.{pad}
 use Rattle.model.proofs.Pad.{pad-get}
+use Rattle.entering.specs.Worded.{hiddenWord, Given}
 use Rattle.reduce.specs.PairNumbers.{mostPairs, pairOf, lineOf, targetOf}
 use Rattle.reduce.specs.Extends.{TargetsOf}
 use Rattle.reduce.specs.Links.{Linked, LinkWord, LinksPut, RowPaired}
 use Rattle.reduce.specs.Pairs.{Joined, CandidateWord, PairsTabled}
-use Rattle.reduce.specs.Worded.{hiddenWord, Given}
 use Rattle.reduce.proofs.LinkedPairs.{have-shared, linked-iff}
 use Rattle.reduce.proofs.PairNumbers.{line-of, target-of}
 

@@ -18,11 +18,11 @@ use Rattle.words.specs.Bits.{bit}
 use Rattle.words.specs.Sets.{clearBit}
 use Rattle.words.proofs.ClearBits.{clear-bit-le, clear-bit-other, low-bits-set, low-bits-below}
 use Rattle.model.specs.Limits.{mostLines}
+use Rattle.entering.specs.Left.{linesAt, Folds}
+use Rattle.entering.proofs.Left.{lines-subset, lines-without, lines-all}
 use Rattle.reduce.specs.Extends.{Extends}
-use Rattle.reduce.specs.Left.{linesAt, Folds}
 use Rattle.reduce.specs.Pairs.{PairsTabled}
 use Rattle.reduce.proofs.Assign.{may-go-sends}
-use Rattle.reduce.proofs.Left.{lines-subset, lines-without, lines-all}
 use Rattle.reduce.proofs.Maps.{extends-sends, sends-extends}
 
 -- what is sent is sent of fewer lines too

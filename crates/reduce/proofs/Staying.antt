@@ -14,14 +14,14 @@ use Rattle.words.specs.Sets.{clearBit, meet}
 use Rattle.words.proofs.ClearBits.{clear-bit-iff, low-bits-set}
 use Rattle.words.proofs.Tests.{meet-iff}
 use Rattle.model.specs.Limits.{mostLines}
+use Rattle.entering.specs.Agree.{goes, lineAt}
+use Rattle.entering.specs.Left.{linesAt}
+use Rattle.entering.proofs.Left.{in-lines, lines-in, lines-without, lines-all}
 use Rattle.reduce.specs.PairNumbers.{pairOf}
-use Rattle.reduce.specs.Agree.{goes, lineAt}
-use Rattle.reduce.specs.Left.{linesAt}
 use Rattle.reduce.specs.Pairs.{Goings}
 use Rattle.reduce.proofs.PairNumbers.{line-of, target-of, moving, moving-set}
 use Rattle.reduce.proofs.Agree.{goes-iff}
 use Rattle.reduce.proofs.Assign.{goes-image, may-go-sends}
-use Rattle.reduce.proofs.Left.{in-lines, lines-in, lines-without, lines-all}
 
 module _ (Q : Query) (g : ℕ) (goings : Goings Q g) (few : length Q ≤ mostLines) (none : meet 64 g moving ≡ false) where
   full : ℕ

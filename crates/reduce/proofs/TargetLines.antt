@@ -19,13 +19,13 @@ use Rattle.words.proofs.Bits.{bit-cases}
 use Rattle.model.specs.Limits.{mostColumns}
 use Rattle.model.specs.Value.{termValue, lineValue}
 use Rattle.model.specs.Rows.{termAt, laidTable, laidTerm}
-use Rattle.reduce.specs.Agree.{goes, lineAt}
+use Rattle.entering.specs.Agree.{goes, lineAt}
+use Rattle.entering.specs.Worded.{columnsWord, HiddenAt, Given}
+use Rattle.entering.proofs.Lines.{laid-few}
 use Rattle.reduce.specs.LineTargets.{SameAt, Near}
-use Rattle.reduce.specs.Worded.{columnsWord, HiddenAt, Given}
 use Rattle.reduce.proofs.Agree.{Goes, goes-iff}
 use Rattle.reduce.proofs.KeptColumns.{Kept, kept-iff}
 use Rattle.reduce.proofs.LaidColumns.{goes-same}
-use Rattle.reduce.proofs.Lines.{laid-few}
 use Rattle.model.proofs.Values.{value-same}
 use Rattle.model.proofs.LineValues.{used, unused}
 

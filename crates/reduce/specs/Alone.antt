@@ -7,8 +7,8 @@ use lib.Dec.{T}
 use Rattle.words.specs.Bits.{bit, isSet}
 use Rattle.model.specs.Rows.{laidTerm}
 use Rattle.model.specs.Limits.{mostColumns}
-use Rattle.reduce.specs.Showing.{hiddenTerm}
-use Rattle.reduce.specs.Worded.{hiddenWord}
+use Rattle.entering.specs.Showing.{hiddenTerm}
+use Rattle.entering.specs.Worded.{hiddenWord}
 
 -- w has every hidden variable of the lines of `rows`
 abbrev pub VariablesIn : (words : List ℕ) (rows w : ℕ) → Type 0

@@ -9,9 +9,9 @@ use Rattle.theory.specs.Query.{Query}
 use Rattle.words.specs.Bits.{bit}
 use Rattle.model.specs.Limits.{mostColumns}
 use Rattle.model.specs.Rows.{laidTable, laidTerm}
-use Rattle.reduce.specs.Agree.{goes, lineAt}
-use Rattle.reduce.specs.Showing.{hiddenTerm}
-use Rattle.reduce.specs.Worded.{columnsWord}
+use Rattle.entering.specs.Agree.{goes, lineAt}
+use Rattle.entering.specs.Showing.{hiddenTerm}
+use Rattle.entering.specs.Worded.{columnsWord}
 
 -- rows a and s have the same terms in the columns of a word
 abbrev pub SameAt : List ℕ → ℕ → ℕ → ℕ → Type 0

@@ -8,8 +8,8 @@ use lib.ListN.{length, getD}
 use Rattle.theory.specs.Query.{Query}
 use Rattle.words.specs.Bits.{bit}
 use Rattle.model.specs.Limits.{mostLines}
+use Rattle.entering.specs.Agree.{goes, agree, lineAt}
 use Rattle.reduce.specs.PairNumbers.{mostPairs, lineOf, targetOf}
-use Rattle.reduce.specs.Agree.{goes, agree, lineAt}
 
 -- the line of pair p could go to its target
 pub record Going (Q : Query) (p : ℕ) : Type 0 where

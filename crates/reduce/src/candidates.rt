@@ -8,12 +8,12 @@ ghost use lib.ListN.{length};
 ghost use Rattle.theory.specs.Query.{Query as TheQuery};
 ghost use Rattle.model.specs.Limits.{mostLines};
 ghost use Rattle.model.specs.Rows.{queryRowsLong};
+ghost use Rattle.entering.specs.Worded.{queryWordsLong, twiceWord, Given};
 ghost use Rattle.reduce.specs.LineTargets.{KeepsOwn};
 ghost use Rattle.reduce.specs.Pairs.{Goings, CandidateWord};
-ghost use Rattle.reduce.specs.Worded.{queryWordsLong, twiceWord, Given};
 use crate::columns::column_of;
-use crate::hiding::twice_of;
-use crate::showing::is_shared;
+use entering::is_shared;
+use entering::twice_of;
 use model::MOST_COLUMNS;
 use model::MOST_LINES;
 

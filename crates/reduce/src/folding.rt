@@ -7,14 +7,14 @@ ghost use lib.ListN.{length};
 ghost use Rattle.theory.specs.Query.{Query as TheQuery};
 ghost use Rattle.model.specs.Limits.{mostLines};
 ghost use Rattle.model.specs.Rows.{queryRowsLong};
+ghost use Rattle.entering.specs.Left.{Folds};
+ghost use Rattle.entering.specs.Worded.{queryWordsLong, Given};
 ghost use Rattle.reduce.specs.Alone.{VariablesIn, Keeps, GoesAlone};
-ghost use Rattle.reduce.specs.Left.{Folds};
 ghost use Rattle.reduce.specs.Links.{LineBits};
 ghost use Rattle.reduce.specs.Pairs.{CandidateWord};
-ghost use Rattle.reduce.specs.Worded.{queryWordsLong, Given};
 use crate::assignment::row_of;
-use crate::hiding::hidden_of;
-use crate::showing::is_shared;
+use entering::hidden_of;
+use entering::is_shared;
 use model::MOST_COLUMNS;
 
 // Whether row b has each variable of `others` that row i has, where row i has it.

@@ -10,10 +10,10 @@ ghost use Rattle.theory.specs.Query.{Query as TheQuery};
 ghost use Rattle.model.specs.Limits.{mostColumns, mostLines};
 ghost use Rattle.model.specs.Rows.{queryRowsLong};
 ghost use Rattle.words.specs.Sets.{Upto};
+ghost use Rattle.entering.specs.Worded.{queryWordsLong, Given};
 ghost use Rattle.reduce.specs.LineTargets.{SameAt, Near, TargetWord};
 ghost use Rattle.reduce.specs.Pairs.{Goings};
-ghost use Rattle.reduce.specs.Worded.{queryWordsLong, Given};
-use crate::hiding::columns_of;
+use entering::columns_of;
 use model::MOST_COLUMNS;
 use model::MOST_LINES;
 

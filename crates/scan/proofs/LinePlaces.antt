@@ -20,14 +20,13 @@ use Rattle.text.proofs.Lines.{before-ended}
 use Rattle.text.proofs.Names.{same-true, same-false}
 use Rattle.text.proofs.NextLines.{front, LineAt, ends-here}
 use Rattle.text.proofs.Parts.{to-end}
-use Rattle.model.specs.Print.{lineFields, printQueryLine}
+use Rattle.model.specs.Print.{spaced, lineFields, printQueryLine}
 use Rattle.model.proofs.Printed.{line-clean}
+use Rattle.model.proofs.Spaced.{line-bytes}
 use Rattle.cutting.specs.NextCut.{NextCut}
 use Rattle.cutting.proofs.Walk.{Walked, walked-none, walked-more, cuts}
 use Rattle.scan.specs.Places.{Between}
-use Rattle.scan.specs.TermsAt.{spaced}
 use Rattle.scan.proofs.Places.{between-drop}
-use Rattle.scan.proofs.TermBytes.{joined-spaced}
 
 -- ---- a line
 
@@ -71,11 +70,6 @@ module _ {text : List ℕ} where
   names-next {at} w h p = starts tableTerms table-terms-clean p w (rw (lt-ltb 0 at h) (sym (same-true tableTerms tableTerms refl)))
 
 -- ---- lines of a query
-
--- a table and its terms
-pub line-bytes : (A : Line) → printQueryLine A ≡ decimal (A .table) ++ spaced (A .columns)
-unfolding printQueryLine lineFields
-line-bytes A = joined-spaced (decimal (A .table)) (A .columns)
 
 -- a line that begins with a digit is no names line
 not-names : (A : Line) → printQueryLine A ≡ tableTerms → ⊥

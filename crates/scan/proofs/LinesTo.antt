@@ -29,20 +29,21 @@ use Rattle.model.proofs.LaidTerms.{RowsTo, rows-none, rows-more}
 use Rattle.model.proofs.Limits.{up-to-iff}
 use Rattle.model.proofs.Pad.{pad-length}
 use Rattle.model.proofs.Variables.{marked-none, marked-more}
+use Rattle.model.proofs.Spaced.{line-bytes}
 use Rattle.query_text.specs.Print.{queryText}
 use Rattle.query_text.proofs.Printed.{well-read, text-reads}
 use Rattle.query_text.proofs.Walk.{one-more}
 use Rattle.cutting.specs.NextCut.{NextCut}
 use Rattle.cutting.proofs.Walk.{Walked}
-use Rattle.reduce.specs.Agree.{lineAt}
-use Rattle.reduce.proofs.LaidRows.{valueAt}
+use Rattle.entering.specs.Agree.{lineAt}
+use Rattle.entering.proofs.LaidRows.{valueAt}
 use Rattle.scan.specs.Places.{Between, NumeralThere}
 use Rattle.scan.specs.Scanned.{Widths, Scanned}
 use Rattle.scan.specs.TermsAt.{TermsThere}
 use Rattle.scan.specs.declared.numbers.Number.{Number}
 use Rattle.scan.specs.declared.terms.Terms.{Terms}
 use Rattle.scan.proofs.Places.{between-both}
-use Rattle.scan.proofs.LinePlaces.{names-first, line-bytes, line-next}
+use Rattle.scan.proofs.LinePlaces.{names-first, line-next}
 use Rattle.scan.proofs.LentWidths.{Suits, suits-fits}
 
 -- ---- the text of a query with a line more

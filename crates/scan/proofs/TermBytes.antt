@@ -1,6 +1,6 @@
--- Terms as they are written behind a line's table: one, one more behind others, and the fields of a line.
-use mathlib.Core.Path.{_≡_, refl, sym, ap, _∙_, subst}
-use mathlib.Core.List.{List, [], _∷_, _++_, map, append-nil, append-assoc}
+-- Terms as they are written behind a line's table: one, and one more behind others.
+use mathlib.Core.Path.{_≡_, refl, sym, _∙_, subst}
+use mathlib.Core.List.{List, [], _∷_, _++_}
 use Prim.Native.Nat.{ℕ, _+_, _≤_, _<_}
 use native.Mathlib.Decide.{ℕ-discrete}
 use native.Mathlib.Omega.{arith}
@@ -13,19 +13,20 @@ use Rattle.theory.specs.Executable.Test.{all, kind, number}
 use Rattle.theory.proofs.Executable.Test.{all-iff}
 use Rattle.text.specs.Lines.{space, newline}
 use Rattle.text.specs.Numeral.{constantLimit}
-use Rattle.text.specs.Print.{decimal, joined}
+use Rattle.text.specs.Print.{decimal}
 use Rattle.text.proofs.Each.{each-last}
 use Rattle.model.specs.Fields.{constantByte, shownByte, hiddenByte}
 use Rattle.model.specs.Limits.{mostColumns, lastVariable, termWithin}
 use Rattle.model.specs.Marks.{markOf, withMark}
 use Rattle.model.specs.Parsed.{withShown, withHidden, bitsOf}
-use Rattle.model.specs.Print.{printTerm}
+use Rattle.model.specs.Print.{printTerm, spaced}
 use Rattle.model.specs.Value.{termValue, termsValue}
 use Rattle.model.specs.declared.Term.{Term as TermValue}
+use Rattle.model.proofs.Spaced.{spaced-more}
 use Rattle.model.proofs.TermFields.{variable-small}
 use Rattle.model.proofs.Terms.{terms-more, bits-more, mark-shown, mark-hidden}
 use Rattle.scan.specs.Places.{Between, NumeralThere}
-use Rattle.scan.specs.TermsAt.{limitOf, TermThere, spaced, HoldsTerms, TermsThere}
+use Rattle.scan.specs.TermsAt.{limitOf, TermThere, HoldsTerms, TermsThere}
 use Rattle.scan.specs.declared.numbers.Number.{Number}
 use Rattle.scan.specs.declared.terms.TermEnd.{TermEnd}
 use Rattle.scan.specs.declared.terms.Terms.{Terms}
@@ -77,21 +78,6 @@ pub term-small : {text : List ℕ} {at : ℕ} {r : TermEnd} → TermThere text a
 term-small {r = r} t mark h e =
     let variable : 1 < r .term .mark = rw e h in
     rw (t .value) (variable-small (t .is) (is-true (termWithin (t .is)) (t .within)) (rw (t .value) at variable))
-
--- ---- terms behind each other
-
-spaced-more : (ts : List Term) (u : Term) → spaced (ts ++ u ∷ []) ≡ spaced ts ++ space ∷ printTerm u
-unfolding spaced
-spaced-more [] u = ap (λ (l : List ℕ). space ∷ l) (append-nil (printTerm u))
-spaced-more (t ∷ ts) u =
-    ap (λ (l : List ℕ). space ∷ printTerm t ++ l) (spaced-more ts u)
-    ∙ ap (λ (l : List ℕ). space ∷ l) (sym (append-assoc (printTerm t) (spaced ts) (space ∷ printTerm u)))
-
--- the fields of a line, joined
-pub joined-spaced : (f : List ℕ) (ts : List Term) → joined (f ∷ map printTerm ts) ≡ f ++ spaced ts
-unfolding joined spaced
-joined-spaced f [] = sym (append-nil f)
-joined-spaced f (t ∷ ts) = ap (λ (l : List ℕ). f ++ space ∷ l) (joined-spaced (printTerm t) ts)
 
 -- ---- the terms before a place
 

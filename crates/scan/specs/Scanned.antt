@@ -9,7 +9,7 @@ use Rattle.model.specs.Limits.{mostTables, mostColumns, upTo}
 use Rattle.model.specs.Value.{queryValue}
 use Rattle.query_text.specs.Text.{read, accepted}
 use Rattle.cutting.specs.NextCut.{NextCut}
-use Rattle.reduce.specs.Laid.{Laid}
+use Rattle.entering.specs.Laid.{Laid}
 use Rattle.scan.specs.declared.Piece.{Piece}
 
 -- the lent numbers have the columns of each table, of a table's number, and 0 where there is no such table

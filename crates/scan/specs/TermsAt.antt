@@ -11,7 +11,7 @@ use Rattle.text.specs.Lines.{space, newline}
 use Rattle.text.specs.Numeral.{constantLimit}
 use Rattle.model.specs.Limits.{lastVariable, termWithin}
 use Rattle.model.specs.Parsed.{withShown, withHidden, bitsOf}
-use Rattle.model.specs.Print.{printTerm}
+use Rattle.model.specs.Print.{printTerm, spaced}
 use Rattle.model.specs.Value.{termValue, termsValue}
 use Rattle.scan.specs.Places.{Between}
 use Rattle.scan.specs.declared.terms.TermEnd.{TermEnd}
@@ -32,12 +32,6 @@ pub record TermThere (text : List ℕ) (at : ℕ) (r : TermEnd) : Type 0 where
 -- such a term at the place, or none
 abbrev pub TermAt : List ℕ → ℕ → TermEnd → Type 0
 TermAt text at r = (r .end ≡ 0 → ⊥) → TermThere text at r
-
--- terms as they are written behind a line's table, each behind a space
-unfoldable pub spaced : List Term → List ℕ
-unfolding printTerm
-spaced [] = []
-spaced (t ∷ ts) = space ∷ printTerm t ++ spaced ts
 
 -- these terms are within their limits, and r has them and their variables
 pub record HoldsTerms (r : Terms) (ts : List Term) : Type 0 where

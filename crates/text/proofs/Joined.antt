@@ -13,7 +13,8 @@ use Rattle.text.specs.Lines.{newline, space, Split, push, split, lines, 
 use Rattle.text.specs.Names.{bytes, tableColumns, viewTableTerms, partitionViews, tableTerms}
 use Rattle.text.specs.Print.{decimal, joined, endEach}
 use Rattle.text.proofs.Each.{Each, each-nil, each-cons, each-append}
-use Rattle.text.proofs.Lines.{split-pieces, split-clean}
+use Rattle.text.proofs.Lines.{split-pieces}
+use Rattle.text.proofs.PartsJoined.{joined-parts, parts-joined}
 use Rattle.text.proofs.Decimals.{decimal-digits}
 
 -- ---- the bytes of what is written
@@ -83,11 +84,7 @@ table-terms-clean = printable tableTerms tt
 
 pub fields-joined : (f : List ℕ) (fs : List (List ℕ)) → Clean (f ∷ fs) → fields (joined (f ∷ fs)) ≡ f ∷ fs
 unfolding fields joined
-fields-joined f [] h =
-    rw (split-clean space f (λ x m e. let k = h f (List·Memᴰ·head refl) x m in omega arith))
-fields-joined f (g ∷ gs) h =
-    rw (split-pieces space f (joined (g ∷ gs)) (λ x m e. let k = h f (List·Memᴰ·head refl) x m in omega arith))
-    (ap (λ (l : List (List ℕ)). f ∷ l) (fields-joined g gs (λ k m. h k (List·Memᴰ·tail m))))
+fields-joined f fs h = parts-joined space f fs (λ g m x n e. let k = h g m x n in omega arith)
 
 pub lines-ended : (ls : List (List ℕ)) → Each (Each LineByte) ls → lines (endEach ls) ≡ record { ended = ls; rest = [] }
 unfolding lines endEach split
@@ -100,41 +97,9 @@ lines-ended (l ∷ ls) h =
 
 -- ---- what is read was written so
 
--- a byte in front of the first field is a byte in front of the line
-join-front : (b : ℕ) (l : List ℕ) (fs : List (List ℕ)) → joined ((b ∷ l) ∷ fs) ≡ b ∷ joined (l ∷ fs)
-unfolding joined
-join-front b l [] = refl
-join-front b l (f ∷ fs) = refl
-
--- the fields of a split line
-abbrev parts : Split → List (List ℕ)
-parts s = s .ended ++ s .rest ∷ []
-
-join-push : (b : ℕ) (s : Split) → joined (parts (push b s)) ≡ b ∷ joined (parts s)
-unfolding push
-join-push b s = go (s .ended) (s .rest)
-  where
-    go : (e : List (List ℕ)) (r : List ℕ) → joined (parts (push b (record { ended = e; rest = r }))) ≡ b ∷ joined (e ++ r ∷ [])
-    go [] r = join-front b r []
-    go (l ∷ ls) r = join-front b l (ls ++ r ∷ [])
-
 pub joined-fields : (l : List ℕ) → joined (fields l) ≡ l
-unfolding fields split joined
-joined-fields [] = refl
-joined-fields (b ∷ l) = go (eqb b space) refl (joined-fields l)
-  where
-    -- an empty field in front is a space in front
-    empty : (e : List (List ℕ)) (r : List ℕ) → joined ([] ∷ (e ++ r ∷ [])) ≡ space ∷ joined (e ++ r ∷ [])
-    empty [] r = refl
-    empty (f ∷ e) r = refl
-
-    s : Split
-    s = split space l
-
-    go : (t : Bool) → eqb b space ≡ t → joined (parts s) ≡ l
-        → joined (parts (cond t (record { ended = [] ∷ s .ended; rest = s .rest }) (push b s))) ≡ b ∷ l
-    go true e rest = empty (s .ended) (s .rest) ∙ ap₂ {C = List ℕ} _∷_ (sym (eqb-true b space e)) rest
-    go false e rest = join-push b s ∙ ap (λ (m : List ℕ). b ∷ m) rest
+unfolding fields joined
+joined-fields l = joined-parts space l
 
 -- a text is its lines, each ended, and the tail behind them
 abbrev together : Split → List ℕ

@@ -1,7 +1,7 @@
 -- Lines and fields go by the first byte that parts them: the place of that byte, and the pieces before and after it.
 use mathlib.Core.Path.{_≡_, refl, ap, _∙_}
 use mathlib.Core.Bool.{Bool, true, false, cond}
-use mathlib.Core.List.{List, [], _∷_, _++_, List·Memᴰ, List·Memᴰ·head, List·Memᴰ·tail}
+use mathlib.Core.List.{List, [], _∷_, _++_, List·Memᴰ·head, List·Memᴰ·tail}
 use Prim.Native.Nat.{ℕ, suc, _+_, _≤_, _<_, zero-le, suc-le-suc}
 use native.Mathlib.Nat.{not-suc-le-zero, le-of-suc-le-suc, suc-inj}
 use native.Mathlib.Numerals.{add-one}
@@ -10,7 +10,12 @@ use lib.Dec.{eqb}
 use lib.ListN.{length, getD, take, drop, drop-of-length-le}
 use lib.Seq.{drop-cons}
 use borrow.Author.Tests.{eq-eqb, ne-eqb}
-use Rattle.text.specs.Lines.{space, Split, push, split, fields, before}
+use Rattle.text.specs.Lines.{Split, push, split, parts, before}
+use Rattle.text.proofs.Each.{Each}
+
+-- bytes among which there is no b
+abbrev pub Free : ℕ → List ℕ → Type 0
+Free b = Each (λ x. x ≡ b → ⊥)
 
 -- ---- the first byte that equals b
 
@@ -86,34 +91,34 @@ split-found b (x ∷ l) h = go (eqb x b) h (λ r. split-found b l r)
     go true r ih = refl
     go false r ih = ap (push x) (ih (le-of-suc-le-suc r))
 
-pub split-pieces : (b : ℕ) (p r : List ℕ) → ((x : ℕ) → List·Memᴰ x p → x ≡ b → ⊥)
-    → split b (p ++ b ∷ r) ≡ parted b p r
+pub split-pieces : (b : ℕ) (p r : List ℕ) → Free b p → split b (p ++ b ∷ r) ≡ parted b p r
 unfolding split push
 split-pieces b [] r n = ap (λ (t : Bool). cond t (parted b [] r) (push b (split b r))) (eq-eqb b b refl)
 split-pieces b (x ∷ p) r n =
     ap (λ (t : Bool). cond t (parted b [] (p ++ b ∷ r)) (push x (split b (p ++ b ∷ r)))) (ne-eqb x b (n x (List·Memᴰ·head refl)))
     ∙ ap (push x) (split-pieces b p r (λ y m. n y (List·Memᴰ·tail m)))
 
-pub before-clean : (b : ℕ) (p : List ℕ) → ((x : ℕ) → List·Memᴰ x p → x ≡ b → ⊥) → before b p ≡ length p
+pub before-clean : (b : ℕ) (p : List ℕ) → Free b p → before b p ≡ length p
 unfolding before
 before-clean b [] n = refl
 before-clean b (x ∷ p) n = before-there b x p (n x (List·Memᴰ·head refl)) ∙ ap suc (before-clean b p (λ y m. n y (List·Memᴰ·tail m)))
 
 -- b stands first behind bytes that are others
-pub before-ended : (b : ℕ) (p r : List ℕ) → ((x : ℕ) → List·Memᴰ x p → x ≡ b → ⊥) → before b (p ++ b ∷ r) ≡ length p
+pub before-ended : (b : ℕ) (p r : List ℕ) → Free b p → before b (p ++ b ∷ r) ≡ length p
 before-ended b [] r n = before-here b b r refl
 before-ended b (x ∷ p) r n =
     before-there b x (p ++ b ∷ r) (n x (List·Memᴰ·head refl)) ∙ ap suc (before-ended b p r (λ y m. n y (List·Memᴰ·tail m)))
 
-pub split-clean : (b : ℕ) (p : List ℕ) → ((x : ℕ) → List·Memᴰ x p → x ≡ b → ⊥) → split b p ≡ record { ended = []; rest = p }
+pub split-clean : (b : ℕ) (p : List ℕ) → Free b p → split b p ≡ record { ended = []; rest = p }
 split-clean b p n = split-none b p (before-clean b p n)
 
--- ---- fields
+-- ---- the parts
 
-pub fields-last : (l : List ℕ) → before space l ≡ length l → fields l ≡ l ∷ []
-unfolding fields
-fields-last l e = ap (λ (s : Split). s .ended ++ s .rest ∷ []) (split-none space l e)
+pub parts-last : (sep : ℕ) (l : List ℕ) → before sep l ≡ length l → parts sep l ≡ l ∷ []
+unfolding parts
+parts-last sep l e = ap (λ (s : Split). s .ended ++ s .rest ∷ []) (split-none sep l e)
 
-pub fields-more : (l : List ℕ) → before space l < length l → fields l ≡ take (before space l) l ∷ fields (drop (suc (before space l)) l)
-unfolding fields
-fields-more l h = ap (λ (s : Split). s .ended ++ s .rest ∷ []) (split-found space l h)
+pub parts-more : (sep : ℕ) (l : List ℕ) → before sep l < length l
+    → parts sep l ≡ take (before sep l) l ∷ parts sep (drop (suc (before sep l)) l)
+unfolding parts
+parts-more sep l h = ap (λ (s : Split). s .ended ++ s .rest ∷ []) (split-found sep l h)

@@ -32,15 +32,20 @@ unfoldable pub lines : List ℕ → Split
 unfolding split
 lines text = split newline text
 
+-- what a byte parts a list into: one piece more than there are such bytes
+unfoldable pub parts : ℕ → List ℕ → List (List ℕ)
+unfolding split
+parts sep l = let s = split sep l in s .ended ++ s .rest ∷ []
+
 -- the fields of a line: what its spaces part
 unfoldable pub fields : List ℕ → List (List ℕ)
-unfolding split
-fields line = let s = split space line in s .ended ++ s .rest ∷ []
+unfolding parts
+fields line = parts space line
 
--- the fields from place i on: none past the end, where the last field was
-unfoldable pub fieldsFrom : List ℕ → ℕ → List (List ℕ)
-unfolding fields
-fieldsFrom line i = cond (leb i (length line)) (fields (drop i line)) []
+-- the parts from place i on: none past the end, where the last part was
+unfoldable pub partsFrom : ℕ → List ℕ → ℕ → List (List ℕ)
+unfolding parts
+partsFrom sep l i = cond (leb i (length l)) (parts sep (drop i l)) []
 
 -- how many bytes stand before the first that equals b, all of them where none does
 unfoldable pub before : ℕ → List ℕ → ℕ

@@ -25,11 +25,16 @@ unfoldable pub decimal : ℕ → List ℕ
 unfolding digits
 decimal n = digits (suc n) n
 
+-- parts with one byte between each and the next
+unfoldable pub joinedBy : ℕ → List (List ℕ) → List ℕ
+joinedBy sep [] = []
+joinedBy sep (p ∷ []) = p
+joinedBy sep (p ∷ q ∷ ps) = p ++ sep ∷ joinedBy sep (q ∷ ps)
+
 -- "parted by one space"
 unfoldable pub joined : List (List ℕ) → List ℕ
-joined [] = []
-joined (f ∷ []) = f
-joined (f ∷ g ∷ gs) = f ++ space ∷ joined (g ∷ gs)
+unfolding joinedBy
+joined fs = joinedBy space fs
 
 -- "each line ended by byte 10"
 unfoldable pub endEach : List (List ℕ) → List ℕ

@@ -31,7 +31,7 @@ fn print_apart(p: Policy, n: u64, text: &[u8], rows: &[u64])
     if model::MOST_LINES < q.count {
         return;
     }
-    let lines = reduce::query_rows(q);
+    let lines = entering::query_rows(q);
     let known = values::constants_of(p, lines);
     let mut names = values::no_names();
     io::write_all(1, b"not settled\n");

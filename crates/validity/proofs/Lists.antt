@@ -1,14 +1,10 @@
 -- Facts on lists that the kit's libraries lack.
 use mathlib.Core.Path.{_≡_, refl, sym, _∙_}
-use mathlib.Core.List.{List, [], _∷_, map}
+use mathlib.Core.List.{List, [], _∷_}
 use Prim.Native.Nat.{ℕ, zero, suc, _<_}
 use native.Mathlib.Nat.{not-suc-le-zero, le-of-suc-le-suc}
-use lib.ListN.{length, getD, replicate, length-map, length-replicate, getD-replicate}
+use lib.ListN.{length, getD, replicate, length-replicate, getD-replicate}
 use lib.Seq.{ext-getD}
-
--- an array whose elements are converted one by one is as long as what they make
-pub mapped-length : {X Y : Type 0} (f : X → Y) (l : List X) (n : ℕ) → length (map f l) ≡ n → length l ≡ n
-mapped-length f l n e = rw length-map at e
 
 -- whatever is said to stand behind a list's end, it is the same within the list
 pub any-default : {X : Type 0} (d e : X) (l : List X) (k : ℕ) → k < length l → getD l k d ≡ getD l k e

@@ -142,6 +142,6 @@ pub fn tells_apart(p: Policy, n: u64, text: &[u8], rows: &[u64]) -> bool
     if some_row_twice(rows) || some_view_loses(p, n, rows) {
         return false;
     }
-    let lines = reduce::query_rows(q);
+    let lines = entering::query_rows(q);
     query_loses(&lines, q.count, rows)
 }

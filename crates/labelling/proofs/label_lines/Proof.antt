@@ -12,8 +12,8 @@ use Rattle.model.specs.Limits.{mostLines}
 use Rattle.model.specs.Value.{pad}
 use Rattle.model.specs.declared.Tables.{Tables}
 use Rattle.policy_text.specs.Declared.{Declared}
-use Rattle.reduce.specs.Left.{pick, linesAt}
-use Rattle.reduce.specs.Showing.{SharedWord}
+use Rattle.entering.specs.Left.{pick, linesAt}
+use Rattle.entering.specs.Showing.{SharedWord}
 use Rattle.labelling.specs.Posed.{Ready, Rows}
 use Rattle.labelling.proofs.Lines.{line-tabled, line-labelled, answering, some-line, shown-line}
 use Rattle.labelling.proofs.Written.{Written, written-none, written-more, written-same, written-all}

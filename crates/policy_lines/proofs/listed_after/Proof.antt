@@ -3,8 +3,9 @@ use mathlib.Core.List.{List}
 use mathlib.Core.Path.{sym, ap, _∙_}
 use Prim.Native.Nat.{ℕ}
 use borrow.Author.Needs.{needs}
+use Rattle.text.specs.Lines.{space, fields}
 use Rattle.text.specs.Numeral.{numeral}
-use Rattle.text.proofs.FieldsFrom.{from-end, from-rest}
+use Rattle.text.proofs.PartsFrom.{from-end, from-rest}
 use Rattle.model.specs.Fields.{every}
 use Rattle.policy_lines.specs.Value.{viewListValue}
 use Rattle.policy_lines.proofs.ViewsRead.{none-said}
@@ -27,9 +28,10 @@ read-views-requires : tie.Need-read-views-requires
 read-views-requires c κs = search needs
 
 returns : tie.Need-returns
+unfolding fields
 returns c =
     c .read-views .ensures
-    ∙ ap (λ (fs : List (List ℕ)). viewListValue (every numeral fs)) (sym (from-rest _ _ (c .before .before .if1 .taken)))
+    ∙ ap (λ (fs : List (List ℕ)). viewListValue (every numeral fs)) (sym (from-rest space _ _ (c .before .before .if1 .taken)))
 
 none-listed-requires : tie.Need-none-listed-requires
 none-listed-requires c κs = search needs
@@ -37,7 +39,7 @@ none-listed-requires c κs = search needs
 returns-2 : tie.Need-returns-2
 returns-2 c =
     c .none-listed .ensures ∙ none-said
-    ∙ ap (λ (fs : List (List ℕ)). viewListValue (every numeral fs)) (sym (from-end _ _ (c .before .if1 .left)))
+    ∙ ap (λ (fs : List (List ℕ)). viewListValue (every numeral fs)) (sym (from-end space _ _ (c .before .if1 .left)))
 
 pub listed-after-spec : {M : Type 1} → statement M
 listed-after-spec =

@@ -6,7 +6,7 @@ use borrow.Author.Tests.{not-true, not-false}
 use Rattle.text.specs.Numeral.{numeral}
 use Rattle.text.proofs.Parts.{first-length}
 use Rattle.model.proofs.Tags.{tag-formed}
-use Rattle.text.specs.Lines.{space, fieldsFrom}
+use Rattle.text.specs.Lines.{space, partsFrom}
 use Rattle.model.specs.Fields.{every, partitionLine}
 use Rattle.policy_lines.proofs.Numbered.{NumberRead}
 use Rattle.policy_lines.proofs.PartitionRead.{partition-read, partition-unnumbered, partition-malformed, partition-outside, partition-past, partition-within}
@@ -42,7 +42,7 @@ no-partition-requires-2 c κs = search needs
 
 whole : (c : tie.After-read-numeral) →
     let s = c .before .before .before .before .args .line .now in
-    NumberRead (partitionLine s) (c .read-numeral .result) (every numeral (fieldsFrom s (c .before .before .first .result + 1)))
+    NumberRead (partitionLine s) (c .read-numeral .result) (every numeral (partsFrom space s (c .before .before .first .result + 1)))
 whole c = partition-read _ (c .before .before .first .ensures) (c .read-numeral .ensures)
 
 returns-2 : tie.Need-returns-2

@@ -7,7 +7,7 @@ use borrow.Author.Needs.{needs}
 use lib.ListN.{length, take, drop}
 use Rattle.text.specs.Lines.{space}
 use Rattle.text.proofs.Parts.{first-length}
-use Rattle.text.proofs.FieldsFrom.{field-at, field-room}
+use Rattle.text.proofs.PartsFrom.{part-at, part-room}
 use Rattle.model.proofs.Tags.{tag-formed}
 use Rattle.text.specs.Numeral.{numeral}
 use Rattle.model.specs.Limits.{mostViews, upTo}
@@ -60,7 +60,7 @@ next : (c : tie.After-first Inv-loop μ-loop) →
     NextView s (l .loop .l) (l .loop .outside) (l .loop .at) n (take n (take (length s - l .loop .at) (drop (l .loop .at) s)))
 next c =
     let t = c .before .before in
-    record { passed = t .before .loop .inv; here = field-at (omega (arith, t .loop-test .taken)) (c .first .ensures) }
+    record { passed = t .before .loop .inv; here = part-at (omega (arith, t .loop-test .taken)) (c .first .ensures) }
 
 returns : tie.Need-returns Inv-loop μ-loop
 returns c =
@@ -74,13 +74,13 @@ with-view-requires : tie.Need-with-view-requires Inv-loop μ-loop
 with-view-requires c κs = next-bounds _ (c .before .up-to .ensures) (c .if1 .left)
 
 add-at : tie.Need-add-at Inv-loop μ-loop
-add-at c = omega (arith, field-room (next (c .before .before .before .before .before) .here))
+add-at c = omega (arith, part-room (next (c .before .before .before .before .before) .here))
 
 add-at-2 : tie.Need-add-at-2 Inv-loop μ-loop
-add-at-2 c = omega (arith, field-room (next (c .before .before .before .before .before) .here))
+add-at-2 c = omega (arith, part-room (next (c .before .before .before .before .before) .here))
 
 loop-less : tie.Need-loop-less Inv-loop μ-loop
-loop-less c = omega (arith, field-room (next (c .before .before .before .before .before) .here))
+loop-less c = omega (arith, part-room (next (c .before .before .before .before .before) .here))
 
 loop-again : tie.Need-loop-again Inv-loop μ-loop
 loop-again c =

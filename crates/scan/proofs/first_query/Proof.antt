@@ -9,12 +9,13 @@ use borrow.Author.Tests.{not-false}
 use lib.ListN.{length, length-append}
 use Rattle.text.specs.Lines.{newline}
 use Rattle.model.specs.Limits.{mostColumns, mostLines}
+use Rattle.model.specs.Print.{spaced}
 use Rattle.model.specs.Rows.{queryRowsLong}
 use Rattle.model.specs.declared.Query.{Query as QueryValue}
 use Rattle.cutting.proofs.Walk.{ends}
 use Rattle.scan.specs.Places.{PlaceIn, NumeralThere}
 use Rattle.scan.specs.Scanned.{ScannedUnder}
-use Rattle.scan.specs.TermsAt.{spaced, TermsThere}
+use Rattle.scan.specs.TermsAt.{TermsThere}
 use Rattle.scan.proofs.LinePlaces.{names-next}
 use Rattle.scan.proofs.LentWidths.{few-columns}
 use Rattle.scan.proofs.LinesTo.{LinesTo, lines-none, lines-more, lines-scanned, counted-few, past-names}

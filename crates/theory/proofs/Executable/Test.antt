@@ -1,7 +1,7 @@
 -- What the tests on lists and terms say.
 use mathlib.Core.Path.{_≡_, refl, sym, ap, ap₂, subst}
 use mathlib.Core.Logic.{_↔_, _⊎_, ⊎-elim}
-use mathlib.Core.Bool.{Bool, true, false, not, _&&_, _||_, and-true, and-assoc}
+use mathlib.Core.Bool.{Bool, true, false, not, _&&_, _||_, and-true, and-assoc, or-false, or-assoc}
 use mathlib.Core.List.{List, [], _∷_, _++_, map, List·Memᴰ·head, List·Memᴰ·tail, List·Memᴰ·not-nil, List·Memᴰ·cases-cons}
 use Prim.Native.Nat.{ℕ, zero, suc, _<_}
 use native.Mathlib.Nat.{not-suc-le-zero, le-refl, le-step, le-of-suc-le-suc, eq-or-lt-of-le}
@@ -61,6 +61,11 @@ module _ {X : Type 0} (f : X → Bool) where
   unfolding all
   all-more [] x = and-true (f x)
   all-more (y ∷ l) x = rw (all-more l x) (sym (and-assoc (f y) (all f l) (f x)))
+
+  pub any-more : (l : List X) (x : X) → any f (l ++ x ∷ []) ≡ (any f l || f x)
+  unfolding any
+  any-more [] x = or-false (f x)
+  any-more (y ∷ l) x = rw (any-more l x) (sym (or-assoc (f y) (any f l) (f x)))
 
   any-to : (l : List X) → T (any f l) → (x : X) × (x ∈ l) × T (f x)
   unfolding any

@@ -2,7 +2,7 @@
 use mathlib.Core.Logic.{Iff·trans}
 use borrow.Author.Needs.{needs}
 use Rattle.words.proofs.Answers.{no-iff}
-use Rattle.validity.proofs.Lists.{mapped-length}
+use Rattle.model.proofs.Values.{mapped-long}
 use Rattle.validity.proofs.Views.{too-wide, width-iff-place}
 use Rattle.validity.proofs.valid_view.Statement.{statement}
 use Rattle.validity.proofs.valid_view.Tie as tie
@@ -22,7 +22,7 @@ returns-2 c widths tables =
     let known = c .before in
     Iff·trans (c .valid-terms .ensures)
     (width-iff-place widths _ tables (known .before .before .args .l) (known .before .width-for .ensures) (known .if1 .left)
-    (search (needs, mapped-length)))
+    (search (needs, mapped-long)))
 
 pub valid-view-spec : {M : Type 1} → statement M
 valid-view-spec = tie.close (tie.spec width-for-requires returns valid-terms-requires returns-2)

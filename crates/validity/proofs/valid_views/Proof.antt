@@ -10,7 +10,7 @@ use Rattle.model.specs.Limits.{mostViews}
 use Rattle.validity.specs.Parts.{TablesOf, ViewPlace}
 use Rattle.validity.specs.Entries.{markLimits}
 use Rattle.words.proofs.Answers.{yes-iff, no-iff, passes, fails}
-use Rattle.validity.proofs.Lists.{mapped-length}
+use Rattle.model.proofs.Values.{mapped-long}
 use Rattle.validity.proofs.Views.{noLine, views-checked, checked-views}
 use Rattle.validity.proofs.valid_views.Statement.{statement}
 use Rattle.validity.proofs.valid_views.Tie as tie
@@ -63,7 +63,7 @@ loop-again c widths tables =
 returns-3 : tie.Need-returns-3 Inv-loop μ-loop
 returns-3 c widths tables =
     yes-iff
-    (checked-views widths _ _ (search (needs, mapped-length))
+    (checked-views widths _ _ (search (needs, mapped-long))
     (record {
       counted = passes (c .before .before .before .before .before .counted .ensures) (c .before .before .before .before .if1 .left);
       places = λ k h. c .before .loop .inv widths tables k (omega arith);

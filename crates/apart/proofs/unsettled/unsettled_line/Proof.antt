@@ -15,8 +15,8 @@ use Rattle.words.proofs.Answers.{passing, failing}
 use Rattle.model.specs.Limits.{mostLines}
 use Rattle.model.specs.declared.Tables.{Tables}
 use Rattle.policy_text.specs.Declared.{Declared}
-use Rattle.reduce.specs.Left.{linesAt}
-use Rattle.reduce.specs.Showing.{SharedWord}
+use Rattle.entering.specs.Left.{linesAt}
+use Rattle.entering.specs.Showing.{SharedWord}
 use Rattle.labelling.specs.Posed.{Ready, Rows}
 use Rattle.labelling.proofs.Lines.{line-tabled, line-labelled, answering, some-line, shown-line}
 use Rattle.apart.specs.Unsettled.{AnswersLine}

@@ -7,7 +7,7 @@ use borrow.Author.Needs.{needs}
 use lib.ListN.{length, take, drop}
 use Rattle.text.specs.Lines.{space}
 use Rattle.text.proofs.Parts.{first-length}
-use Rattle.text.proofs.FieldsFrom.{field-at, field-room}
+use Rattle.text.proofs.PartsFrom.{part-at, part-room}
 use Rattle.model.proofs.TermsRead.{TermsRead, NextTerm, no-terms, next-malformed, next-outside, next-small, next-within, all-outside, all-within}
 use Rattle.model.proofs.read.read_terms.Statement.{statement}
 use Rattle.model.proofs.read.read_terms.Tie as tie
@@ -55,7 +55,7 @@ next : (c : tie.After-first Inv-loop μ-loop) →
     NextTerm s (l .loop .p) (l .loop .outside) (l .loop .at) n (take n (take (length s - l .loop .at) (drop (l .loop .at) s)))
 next c =
     let t = c .before .before in
-    record { passed = t .before .loop .inv .terms; here = field-at (omega (arith, t .loop-test .taken)) (c .first .ensures) }
+    record { passed = t .before .loop .inv .terms; here = part-at (omega (arith, t .loop-test .taken)) (c .first .ensures) }
 
 returns : tie.Need-returns Inv-loop μ-loop
 returns c =
@@ -78,10 +78,10 @@ with-term-requires c κs =
     )
 
 add-at : tie.Need-add-at Inv-loop μ-loop
-add-at c = omega (arith, field-room (next (c .before .before .before) .here))
+add-at c = omega (arith, part-room (next (c .before .before .before) .here))
 
 add-at-2 : tie.Need-add-at-2 Inv-loop μ-loop
-add-at-2 c = omega (arith, field-room (next (c .before .before .before) .here))
+add-at-2 c = omega (arith, part-room (next (c .before .before .before) .here))
 
 loop-less : tie.Need-loop-less Inv-loop μ-loop
 loop-less c = omega (arith, c .before .before .before .before .before .loop-test .taken)

@@ -4,8 +4,8 @@ use Prim.Native.Nat.{ℕ}
 use native.Mathlib.Omega.{arith}
 use Rattle.theory.specs.Query.{Query}
 use Rattle.words.proofs.Answers.{passes, fails}
+use Rattle.entering.specs.Worded.{Given}
 use Rattle.reduce.specs.Pairs.{Goings, Candidate}
-use Rattle.reduce.specs.Worded.{Given}
 use Rattle.reduce.proofs.Looked.{Sieved, sieved-kept, sieved-out}
 use Rattle.reduce.proofs.OwnTerms.{candidate-test, candidates-first, candidates-all}
 use Rattle.reduce.proofs.candidates.candidates.Statement.{statement}

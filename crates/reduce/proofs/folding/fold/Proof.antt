@@ -5,10 +5,10 @@ use Rattle.theory.specs.Query.{Query}
 use Rattle.words.proofs.Bits.{bit-within}
 use Rattle.words.proofs.ClearBits.{low-bits-below}
 use Rattle.model.specs.Limits.{mostLines}
-use Rattle.reduce.specs.Left.{Folds}
+use Rattle.entering.specs.Left.{Folds}
+use Rattle.entering.specs.Worded.{Given}
 use Rattle.reduce.specs.Links.{LineBits}
 use Rattle.reduce.specs.Pairs.{CandidateWord}
-use Rattle.reduce.specs.Worded.{Given}
 use Rattle.reduce.proofs.Passes.{folds-all, lines-below, cleared}
 use Rattle.reduce.proofs.GoingAlone.{folds-alone}
 use Rattle.reduce.proofs.folding.fold.Statement.{statement}

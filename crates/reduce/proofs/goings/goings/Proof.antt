@@ -7,8 +7,8 @@ use Rattle.words.specs.Sets.{Upto}
 use Rattle.words.proofs.Marks.{upto-none}
 use Rattle.words.proofs.Parts.{parts-below, or-parts}
 use Rattle.model.specs.Limits.{mostLines}
+use Rattle.entering.specs.Worded.{Given}
 use Rattle.reduce.specs.Pairs.{Going}
-use Rattle.reduce.specs.Worded.{Given}
 use Rattle.reduce.proofs.GoingPairs.{pairs-more, pairs-all}
 use Rattle.reduce.proofs.goings.goings.Statement.{statement}
 use Rattle.reduce.proofs.goings.goings.Tie as tie

@@ -2,7 +2,7 @@
 use native.Mathlib.Nat.{lt-of-lt-of-le}
 use native.Mathlib.Omega.{arith}
 use Rattle.words.proofs.Answers.{true-iff}
-use Rattle.reduce.specs.Worded.{columnsWord}
+use Rattle.entering.specs.Worded.{columnsWord}
 use Rattle.reduce.proofs.KeptColumns.{Kept, kept-small}
 use Rattle.reduce.proofs.GoingPairs.{Targets, targets-first, targets-more, targets-all}
 use Rattle.reduce.proofs.goings.goings_of.Statement.{statement}

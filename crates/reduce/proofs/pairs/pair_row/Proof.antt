@@ -8,10 +8,10 @@ use Rattle.words.specs.Bits.{bit}
 use Rattle.words.proofs.Bits.{bit-within}
 use Rattle.words.proofs.Marks.{left-before}
 use Rattle.model.specs.Limits.{mostLines}
+use Rattle.entering.specs.Worded.{Given}
 use Rattle.reduce.specs.PairNumbers.{mostPairs}
 use Rattle.reduce.specs.Links.{LineBits}
 use Rattle.reduce.specs.Pairs.{CandidateWord}
-use Rattle.reduce.specs.Worded.{Given}
 use Rattle.reduce.proofs.PairedLines.{RowSome, row-none, row-more, row-all}
 use Rattle.reduce.proofs.pairs.pair_row.Statement.{statement}
 use Rattle.reduce.proofs.pairs.pair_row.Tie as tie

@@ -9,7 +9,7 @@ use Rattle.words.specs.Bits.{bit}
 use Rattle.words.proofs.Bits.{bit-within}
 use Rattle.words.proofs.ClearBits.{low-bits-below}
 use Rattle.model.specs.Limits.{mostLines}
-use Rattle.reduce.specs.Left.{Folds}
+use Rattle.entering.specs.Left.{Folds}
 use Rattle.reduce.specs.Pairs.{PairsTabled}
 use Rattle.reduce.proofs.Passes.{lines-below, cleared, Taking, taking-none, taking-out, taking-kept, taking-all}
 use Rattle.reduce.proofs.taking.taken.Statement.{statement}
