@@ -18,4 +18,5 @@ pub use said::refused;
 pub use said::same;
 pub use said::settled;
 pub use said::unsettled;
+pub use said::written;
 pub use said::yes;

@@ -15,6 +15,8 @@ const UNSETTLED: u64 = 6;
 
 const APART: u64 = 7;
 
+const WRITTEN: u64 = 8;
+
 // The word, count, number and line of a reply.
 pub struct Said {
     pub word: u64,
@@ -61,6 +63,11 @@ pub fn apart(count: u64) -> Said {
     answered(APART, count)
 }
 
+// Importing a rule: the number of bytes.
+pub fn written(count: u64) -> Said {
+    answered(WRITTEN, count)
+}
+
 // Any operation: "a count in the reply is 0".
 pub fn refused(number: u64, line: u64) -> Said {
     Said {
@@ -104,8 +111,11 @@ fn print_word(word: u64) {
         6 => {
             io::write_all(1, b"not settled");
         }
-        _ => {
+        7 => {
             io::write_all(1, b"apart");
+        }
+        _ => {
+            io::write_all(1, b"written");
         }
     }
 }

@@ -1,0 +1,3 @@
+-- From the keys of variables to numbers.
+pub mod Names
+pub mod Lines

@@ -1,0 +1,2 @@
+-- Terms and lines as their bytes are written.
+pub mod Put

@@ -1,0 +1,2 @@
+-- A query's line written to a buffer.
+pub mod Printing

@@ -1,0 +1,3 @@
+-- What reading the body and the head of a rule gives.
+pub mod Body
+pub mod Head

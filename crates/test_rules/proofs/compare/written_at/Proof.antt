@@ -1,0 +1,51 @@
+-- `written_at`: as many bytes are lent as there is room.
+use native.Mathlib.Omega.{arith}
+use lib.ListN.{length-take}
+use borrow.Author.Needs.{needs}
+use Rattle.test_rules.proofs.compare.written_at.Statement.{statement}
+use Rattle.test_rules.proofs.compare.written_at.Tie as tie
+
+untouched-requires : tie.Need-untouched-requires
+untouched-requires c κs = search needs
+
+array-borrow-prefix-out : tie.Need-array-borrow-prefix-out
+array-borrow-prefix-out c = search needs
+
+slice-aggregate-import-rule : tie.Need-slice-aggregate-import-rule
+slice-aggregate-import-rule c = simp length-take (omega arith)
+
+import-rule-requires : tie.Need-import-rule-requires
+import-rule-requires c κs = search needs
+
+told-requires : tie.Need-told-requires
+told-requires c κs = search needs
+
+written-requires : tie.Need-written-requires
+written-requires c κs = search needs
+
+same-requires : tie.Need-same-requires
+same-requires c κs = search needs
+
+stands-requires : tie.Need-stands-requires
+stands-requires c κs = search needs
+
+counted-requires : tie.Need-counted-requires
+counted-requires c κs = search needs
+
+returns : tie.Need-returns
+returns c = search needs
+
+pub written-at-spec : {M : Type 1} → statement M
+written-at-spec =
+    tie.close
+    (tie.spec
+    untouched-requires
+    array-borrow-prefix-out
+    slice-aggregate-import-rule
+    import-rule-requires
+    told-requires
+    written-requires
+    same-requires
+    stands-requires
+    counted-requires
+    returns)
