@@ -29,7 +29,7 @@ use Rattle.labelling.specs.Settled.{settled}
 use Rattle.labelling.proofs.Partitions.{settled-iff-partition}
 use Rattle.desk.specs.Outcomes.{explainingNumbers}
 use Rattle.desk.proofs.Loaded.{loaded-to}
-use Rattle.desk.proofs.Unique.{either-way}
+use Rattle.desk.proofs.Unique.{either-way, both?}
 use Rattle.apart.specs.declared.telling.Telling.{Telling}
 use Rattle.apart.specs.Archives.{Word, says-settled, says-apart, says-refused, SaidTelling, saidTelling}
 use Rattle.apart.specs.Archives.{Owed, refusal, settlement, archives, mostCells, owedFor, owed, Gives, ArchivesGiven}
@@ -189,8 +189,3 @@ outcomes = record {
     cases-same : (s t : SaidTelling) → caseOf s ≡ caseOf t → (s .word ≡ t .word) × (s .number ≡ t .number) × (s .line ≡ t .line)
     cases-same s t e =
         let word : number-of (s .word) ≡ number-of (t .word) = cc in (same-word (s .word) (t .word) word, cc, cc)
-
-    both? : {A B : Type 0} → Dec A → Dec B → Dec (A × B)
-    both? (yes a) (yes b) = yes (a, b)
-    both? (yes a) (no n) = no (λ x. n (x .1))
-    both? (no n) b = no (λ x. n (x .0))

@@ -40,6 +40,11 @@ pub either-way : {L A : Type 0} → Dec A → (L → A) → ((L → ⊥) → A) 
 either-way (yes a) f g = a
 either-way (no n) f g = g (λ l. n (f l))
 
+pub both? : {A B : Type 0} → Dec A → Dec B → Dec (A × B)
+both? (yes a) (yes b) = yes (a, b)
+both? (yes a) (no n) = no (λ x. n (x .1))
+both? (no n) b = no (λ x. n (x .0))
+
 -- ---- what a reply says tells it from every other
 
 word-code : Word → ℕ

@@ -34,8 +34,8 @@ abbrev pub ArgsFormed : List Atom → Type 0
 ArgsFormed atoms = (a : Atom) → a ∈ atoms → (t : Arg) → t ∈ a .args → ArgFormed t
 
 -- no atom has more terms than a line has places
-abbrev pub Narrow : List Atom → Type 0
-Narrow atoms = (a : Atom) → a ∈ atoms → length (a .args) ≤ mostColumns
+abbrev pub FewTerms : List Atom → Type 0
+FewTerms atoms = (a : Atom) → a ∈ atoms → length (a .args) ≤ mostColumns
 
 -- ---- one name among others
 
@@ -136,7 +136,7 @@ keys-atom a seen hs few h =
 -- ---- the names of a body
 
 -- behind names that were seen before
-keys-after : (atoms : List Atom) (seen : List Name) → ArgsFormed atoms → Narrow atoms → AreNames seen
+keys-after : (atoms : List Atom) (seen : List Name) → ArgsFormed atoms → FewTerms atoms → AreNames seen
     → keysOf (map key seen) (map lineValue (keyedLines atoms)) ≡ map key (firsts seen (bodyArgs atoms))
 unfolding keysOf keyedLines bodyArgs firsts
 keys-after [] seen hs few h = refl
@@ -147,7 +147,7 @@ keys-after (a ∷ l) seen hs few h =
     (first-names (a .args) seen args h)
     ∙ ap (map key) (sym (firsts-append (a .args) (bodyArgs l) seen))
 
-pub keys-are : (atoms : List Atom) → ArgsFormed atoms → Narrow atoms
+pub keys-are : (atoms : List Atom) → ArgsFormed atoms → FewTerms atoms
     → keysOf [] (map lineValue (keyedLines atoms)) ≡ map key (firsts [] (bodyArgs atoms))
 keys-are atoms hs few = keys-after atoms [] hs few (each-nil (λ x. T (isName lower x)))
 

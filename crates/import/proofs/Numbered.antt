@@ -28,7 +28,7 @@ use Rattle.rule_text.specs.Keys.{key, keyed}
 use Rattle.rule_body.specs.Body.{keyedLines}
 use Rattle.rule_body.specs.Head.{placedAt}
 use Rattle.numbering.specs.Lines.{numberedTerm, numberedLine}
-use Rattle.import.proofs.Named.{Narrow, key-place, names-formed}
+use Rattle.import.proofs.Named.{FewTerms, key-place, names-formed}
 
 -- a name with a place before the end stands in the list
 placed-stands : (l : List Name) (x : Name) → placeOf x l < length l → x ∈ l
@@ -46,7 +46,7 @@ unfolding termValue kind numberIn
 marked-value true n = refl
 marked-value false n = refl
 
-module _ (r : Rule) (formed : Formed r) (few : Narrow (r .body)) where
+module _ (r : Rule) (formed : Formed r) (few : FewTerms (r .body)) where
   -- ---- places
 
   -- the keys of the names of the body

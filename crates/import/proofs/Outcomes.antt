@@ -27,7 +27,7 @@ use Rattle.rules.proofs.Answers.{imported-answers}
 use Rattle.rules.proofs.Printed.{rule-reads-exactly}
 use Rattle.rules.proofs.Shown.{numbers-apart, head-shown}
 use Rattle.rules.proofs.WellRead.{rule-well-read, rule-text-reads}
-use Rattle.desk.proofs.Unique.{either-way}
+use Rattle.desk.proofs.Unique.{either-way, both?}
 use Rattle.import.specs.declared.importing.Imported.{Imported}
 use Rattle.import.specs.declared.importing.Imported.the-variants.{Written, Refused}
 use Rattle.import.specs.Translating.{Narrow}
@@ -233,11 +233,6 @@ outcomes = record {
       (turned-stays p rule place before r after) (λ l. done-stays p rule place before r after) g;
 }
   where
-    both? : {A B : Type 0} → Dec A → Dec B → Dec (A × B)
-    both? (yes a) (yes b) = yes (a, b)
-    both? (yes a) (no n) = no (λ x. n (x .1))
-    both? (no n) b = no (λ x. n (x .0))
-
     three? : {A B C : Type 0} → Dec A → Dec B → Dec C → Dec (A × B × C)
     three? (yes a) (yes b) (yes c) = yes (a, b, c)
     three? (yes a) (yes b) (no n) = no (λ x. n (x .2))

@@ -4,17 +4,18 @@ use mathlib.Core.Bool.{not, cond}
 use mathlib.Core.List.{List, _∷_, map}
 use mathlib.Core.Option.{Option, none, some}
 use Prim.Native.Nat.{ℕ, _≤_}
-use lib.Dec.{T, eqb}
+use lib.Dec.{eqb}
 use lib.ListN.{length, take}
 use Rattle.theory.specs.Query.{Query, _∈_}
 use Rattle.theory.specs.Query.{Line as TheLine}
 use Rattle.text.specs.Lines.{parts}
-use Rattle.model.specs.Limits.{mostLines, mostColumns, upTo}
+use Rattle.model.specs.Limits.{mostLines, mostColumns}
 use Rattle.model.specs.Value.{lineValue, tablesValue}
 use Rattle.model.specs.declared.Tables.{Tables}
 use Rattle.model.specs.declared.Line.{Line}
 use Rattle.model.specs.declared.Query.{Query as QueryValue}
 use Rattle.query_text.specs.Print.{queryText}
+use Rattle.policy_text.specs.WellFormed.{GoodWidth}
 use Rattle.rules.specs.Rule.{Rule}
 use Rattle.rules.specs.Text.{closing, ruleOfPieces, ruleOf}
 use Rattle.rules.specs.Numbering.{queryOf}
@@ -60,8 +61,9 @@ TranslatedAs widths (some x) out r =
     (r .fault ≡ ruleFault widths x)
     × (r .fault ≡ 0 → (take (r .bytes) out ≡ queryText (queryOf x)) × (r .bytes ≡ length (queryText (queryOf x))))
 
+-- "columns 1 to 8", of each table
 abbrev pub Narrow : List ℕ → Type 0
-Narrow widths = (n : ℕ) → n ∈ widths → T (upTo mostColumns n)
+Narrow widths = (n : ℕ) → n ∈ widths → GoodWidth n
 
 -- a rule's head and its body, each up to the bracket that closes it
 abbrev pub PartsTranslated : Tables → List ℕ → List ℕ → List ℕ → Translated → Type 0

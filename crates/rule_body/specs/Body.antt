@@ -1,6 +1,6 @@
 -- What reading the body of a rule gives.
 use mathlib.Core.Path.{_≡_}
-use mathlib.Core.Bool.{true, false, not, cond}
+use mathlib.Core.Bool.{true, false, cond}
 use mathlib.Core.List.{List, [], _∷_, _++_, map}
 use mathlib.Core.Option.{none, some}
 use Prim.Native.Nat.{ℕ, _+_, _≤_}
@@ -10,13 +10,13 @@ use Rattle.theory.specs.Query.{Query}
 use Rattle.theory.specs.Executable.Test.{all}
 use Rattle.text.specs.Lines.{parts}
 use Rattle.model.specs.Limits.{mostLines, mostTables}
-use Rattle.model.specs.Checks.{known, wide, Check, firstFault}
+use Rattle.model.specs.Checks.{known, wide, firstFault}
 use Rattle.model.specs.Value.{queryValue, tablesValue}
 use Rattle.model.specs.declared.Tables.{Tables}
 use Rattle.rules.specs.Rule.{Atom as TheAtom}
 use Rattle.rules.specs.Text.{closing, bodyOf}
 use Rattle.rules.specs.Numbering.{lineOf}
-use Rattle.rules.specs.Checks.{atomWithin, bodyChecks}
+use Rattle.rules.specs.Checks.{atomWithin, atomChecks, bodyChecks}
 use Rattle.rule_text.specs.Keys.{keyed}
 use Rattle.rule_text.specs.Atoms.{atomValue}
 use Rattle.rule_text.specs.declared.args.Atom.{Atom}
@@ -34,17 +34,10 @@ keyedLines atoms = map (lineOf keyed) atoms
 abbrev pub AtomTabled : Atom → Type 0
 AtomTabled a = (a .outside ≡ false) → (1 ≤ a .table) × (a .table ≤ mostTables)
 
--- the checks of atoms behind 7: 2, 4 and 5
-abbrev pub atomChecks : List ℕ → List TheAtom → List Check
-atomChecks widths atoms =
-    record { broken = not (all atomWithin atoms); number = 2 }
-    ∷ record { broken = not (all (known widths) (keyedLines atoms)); number = 4 }
-    ∷ record { broken = not (all (wide widths) (keyedLines atoms)); number = 5 }
-    ∷ []
-
+-- what turns atoms back behind 7: 2, 4, 5, or nothing
 unfoldable pub atomsFault : List ℕ → List TheAtom → ℕ
 unfolding firstFault atomWithin all known wide keyedLines
-atomsFault widths atoms = firstFault (atomChecks widths atoms)
+atomsFault widths atoms = firstFault (atomChecks widths atoms (keyedLines atoms))
 
 abbrev pub AtomChecked : Tables → Atom → ℕ → Type 0
 AtomChecked tables a r =
@@ -62,6 +55,7 @@ pub record AtomsHeld (widths : List ℕ) (atoms : List TheAtom) (b : Atoms) : Ty
   pub fault : b .fault ≡ atomsFault widths atoms
   pub query : b .fault ≡ 0 → length atoms ≤ mostLines → b .query ≡ queryValue (keyedLines atoms)
 
+-- no atom yet
 unfoldable pub noAtoms : Atoms
 unfolding queryValue
 noAtoms = record { count = 0; fault = 0; query = queryValue [] }
@@ -74,10 +68,12 @@ pub record AtomsBehind (tables : Tables) (b : Atoms) (a : Atom) (r : Atoms) : Ty
 
 -- ---- the body
 
+-- beside a malformed body stands the query without a line
 unfoldable pub noBody : Body
 unfolding queryValue
 noBody = record { ok = false; fault = 0; query = queryValue [] }
 
+-- what turns the body back: 7, 2, 4, 5, or nothing
 unfoldable pub bodyFault : List ℕ → List TheAtom → ℕ
 unfolding firstFault atomWithin all known wide keyedLines
 bodyFault widths atoms = firstFault (bodyChecks widths atoms (keyedLines atoms))

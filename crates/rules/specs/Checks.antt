@@ -24,14 +24,17 @@ unfoldable pub atomWithin : Atom → Bool
 unfolding upTo all argWithin
 atomWithin a = upTo mostTables (a .table) && all argWithin (a .args)
 
--- "a ninth body atom is 7"; 2; then document 01's 4 and 5, of the lines that the atoms become
-abbrev pub bodyChecks : List ℕ → List Atom → Query → List Check
-bodyChecks widths atoms lines =
-    record { broken = ltb mostLines (length atoms); number = 7 }
-    ∷ record { broken = not (all atomWithin atoms); number = 2 }
+-- 2; then document 01's 4 and 5, of the lines that the atoms become
+abbrev pub atomChecks : List ℕ → List Atom → Query → List Check
+atomChecks widths atoms lines =
+    record { broken = not (all atomWithin atoms); number = 2 }
     ∷ record { broken = not (all (known widths) lines); number = 4 }
     ∷ record { broken = not (all (wide widths) lines); number = 5 }
     ∷ []
+
+-- "a ninth body atom is 7", before these
+abbrev pub bodyChecks : List ℕ → List Atom → Query → List Check
+bodyChecks widths atoms lines = record { broken = ltb mostLines (length atoms); number = 7 } ∷ atomChecks widths atoms lines
 
 -- a name stands twice
 unfoldable pub repeats : List Name → Bool
