@@ -30,7 +30,7 @@ impl<'a> Reader<'a> {
 }
 
 fn read_table(r: &Reader, p: &mut Policy) -> Result<(), Refusal> {
-    let numbers: Option<Vec<u64>> = fields(r.line()?).map(read_numeral).collect();
+    let numbers: Option<Vec<u128>> = fields(r.line()?).map(read_numeral).collect();
     let (number, columns) = match numbers.as_deref() {
         Some(&[number, columns]) => (number, columns),
         _ => return r.refuse(1),
@@ -74,7 +74,7 @@ fn read_view(r: &Reader, p: &mut Policy) -> Result<(), Refusal> {
 }
 
 fn read_partition(r: &Reader, p: &mut Policy) -> Result<(), Refusal> {
-    let numbers: Option<Vec<u64>> = fields(r.line()?).map(read_numeral).collect();
+    let numbers: Option<Vec<u128>> = fields(r.line()?).map(read_numeral).collect();
     let Some(numbers) = numbers else {
         return r.refuse(1);
     };

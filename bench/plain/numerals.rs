@@ -12,9 +12,9 @@ pub fn fields(line: &[u8]) -> impl Iterator<Item = &[u8]> {
     line.split(|&b| b == b' ')
 }
 
-// None where the field is malformed.
-pub fn read_numeral(field: &[u8]) -> Option<u64> {
-    if field.is_empty() || 10 < field.len() || (1 < field.len() && field[0] == b'0') {
+// None where the field is malformed. Twenty digits may stand for more than 64 bits hold.
+pub fn read_numeral(field: &[u8]) -> Option<u128> {
+    if field.is_empty() || 20 < field.len() || (1 < field.len() && field[0] == b'0') {
         return None;
     }
     let mut value = 0;
@@ -22,28 +22,23 @@ pub fn read_numeral(field: &[u8]) -> Option<u64> {
         if !b.is_ascii_digit() {
             return None;
         }
-        value = value * 10 + u64::from(b - b'0');
+        value = value * 10 + u128::from(b - b'0');
     }
     Some(value)
 }
 
-fn read_term(field: &[u8]) -> Option<Term> {
+// The term, and whether its number is within the limit of its mark.
+fn read_term(field: &[u8]) -> Option<(Term, bool)> {
     let mark = match field.first()? {
         b'#' => Mark::Constant,
         b'!' => Mark::Shown,
         b'?' => Mark::Hidden,
         _ => return None,
     };
-    let number = read_numeral(&field[1..])?;
-    Some(Term { mark, number })
-}
-
-fn within(t: Term) -> bool {
-    if t.mark == Mark::Constant {
-        t.number <= 4_294_967_295
-    } else {
-        t.number <= 63
-    }
+    let limit = if mark == Mark::Constant { u64::MAX } else { 63 };
+    let value = read_numeral(&field[1..])?;
+    let number = value as u64;
+    Some((Term { mark, number }, value <= u128::from(limit)))
 }
 
 // The terms of a line, of which more than eight are counted but not kept.
@@ -56,12 +51,12 @@ pub struct Row {
     pub hidden: u64,
 }
 
-fn add_term(r: &mut Row, t: Term) {
+fn add_term(r: &mut Row, t: Term, within: bool) {
     if r.count < 8 {
         r.line.terms[r.count] = t;
     }
     r.count += 1;
-    if !within(t) {
+    if !within {
         r.outside = true;
     } else if t.mark == Mark::Shown {
         r.shown |= 1 << t.number;
@@ -77,7 +72,8 @@ pub fn read_row<'a>(mut fields: impl Iterator<Item = &'a [u8]>) -> Option<Row> {
     r.line.table = table as usize;
     r.outside = table < 1 || 16 < table;
     for field in fields {
-        add_term(&mut r, read_term(field)?);
+        let (term, within) = read_term(field)?;
+        add_term(&mut r, term, within);
     }
     if r.count == 0 {
         return None;

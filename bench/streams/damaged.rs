@@ -17,6 +17,9 @@ fn choice(g: &mut Random) -> Choice {
     }
 }
 
+// Constants of which some differ by whole halves of a word.
+const CONSTANTS: [u64; 4] = [0, 1, 1 << 32, u64::MAX];
+
 // Low variables are shown and high ones hidden.
 fn term(g: &mut Random, how: &Choice) -> Term {
     let number = g.below(how.variables) as u64;
@@ -25,7 +28,7 @@ fn term(g: &mut Random, how: &Choice) -> Term {
     } else if g.percent(60) {
         shown(number)
     } else {
-        constant(number & 1)
+        constant(CONSTANTS[number as usize % 4])
     }
 }
 
@@ -86,10 +89,20 @@ const NUMBERS: [u64; 8] = [
     10,
     63,
     64,
-    4_294_967_295,
     4_294_967_296,
-    9_999_999_999,
     10_000_000_000,
+    u64::MAX - 1,
+    u64::MAX,
+];
+
+// Around the largest number of 64 bits, and around twenty digits.
+const NUMERALS: [&[u8]; 6] = [
+    b"9999999999999999999",
+    b"18446744073709551615",
+    b"18446744073709551616",
+    b"18446744073709551617",
+    b"99999999999999999999",
+    b"100000000000000000000",
 ];
 
 // A query with one thing wrong in its lines, or at a limit.
@@ -123,7 +136,7 @@ fn spoil_lines(g: &mut Random, columns: &[usize], q: &mut Vec<Line>) {
 fn spoil_bytes(g: &mut Random, text: &mut Vec<u8>) {
     let at = g.below(text.len());
     let byte = g.one_of(b"0019 #!?\n\n\rt\0\xff");
-    match g.below(7) {
+    match g.below(8) {
         0 => text[at] = byte,
         1 => text.insert(at, byte),
         2 => drop(text.remove(at)),
@@ -131,6 +144,8 @@ fn spoil_bytes(g: &mut Random, text: &mut Vec<u8>) {
         4 => drop(text.pop()),
         // Without the names line.
         5 => drop(text.drain(..12.min(text.len()))),
+        // A numeral in place of a byte.
+        6 => drop(text.splice(at..=at, g.one_of(&NUMERALS).iter().copied())),
         // Too long for a query or a policy, or just not.
         _ => {
             let end = g.one_of(&[4095, 4096, 16_383, 16_384]);

@@ -28,17 +28,17 @@ impl<'a> Fields<'a> {
         (self.byte()? == b' ').then_some(())
     }
 
-    // A numeral, up to the byte that is no digit.
-    pub fn numeral(&mut self) -> Option<u64> {
+    // A numeral, up to the byte that is no digit. Twenty digits may stand for more than 64 bits hold.
+    pub fn numeral(&mut self) -> Option<u128> {
         let (mut value, mut n) = (0, 0);
         while let Some(d) = self.rest.get(n).map(|b| b.wrapping_sub(b'0')) {
             if 9 < d {
                 break;
             }
-            if n == 10 {
+            if n == 20 {
                 return None;
             }
-            value = value * 10 + u64::from(d);
+            value = value * 10 + u128::from(d);
             n += 1;
         }
         if n == 0 || (1 < n && self.rest[0] == b'0') {
@@ -71,7 +71,7 @@ pub struct Row {
     pub table: usize,
     pub count: usize,
     pub marks: [u8; 8],
-    pub numbers: [u32; 8],
+    pub numbers: [u64; 8],
     // some number is outside its limits
     pub outside: bool,
     pub shown: u64,
@@ -79,14 +79,14 @@ pub struct Row {
 }
 
 impl Row {
-    fn add(&mut self, mark: u8, number: u64) -> Option<()> {
+    fn add(&mut self, mark: u8, number: u128) -> Option<()> {
         if self.count < 8 {
             self.marks[self.count] = mark;
-            self.numbers[self.count] = number as u32;
+            self.numbers[self.count] = number as u64;
         }
         self.count += 1;
         match mark {
-            CONSTANT_MARK => self.outside |= u32::try_from(number).is_err(),
+            CONSTANT_MARK => self.outside |= u64::try_from(number).is_err(),
             SHOWN_MARK | HIDDEN_MARK if 63 < number => self.outside = true,
             SHOWN_MARK => self.shown |= 1 << number,
             HIDDEN_MARK => self.hidden |= 1 << number,

@@ -19,7 +19,7 @@ fn shared(q: &Query, left: u8) -> u64 {
 
 // The views that take this constant in a column.
 #[inline(always)]
-fn constant_views(p: &Policy, t: &Table, c: usize, value: u32) -> u32 {
+fn constant_views(p: &Policy, t: &Table, c: usize, value: u64) -> u32 {
     let mut views = t.shown[c];
     for &(known, those) in &p.constants[t.first[c] as usize..t.first[c + 1] as usize] {
         if known == value {

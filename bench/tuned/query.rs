@@ -17,7 +17,7 @@ pub struct Query {
     // bit i: some term stands twice in line i
     pub repeats: u8,
     pub constant_count: usize,
-    pub constants: [u32; 64],
+    pub constants: [u64; 64],
 }
 
 impl Query {
@@ -36,7 +36,7 @@ impl Query {
 
     // The place of a constant among those of the query.
     #[inline(always)]
-    pub fn place(&mut self, value: u32) -> u64 {
+    pub fn place(&mut self, value: u64) -> u64 {
         let n = self.constant_count & 63;
         for k in 0..n {
             if self.constants[k] == value {

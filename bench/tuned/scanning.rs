@@ -36,19 +36,24 @@ fn table_at(text: &[u8], at: usize) -> Option<(usize, usize)> {
     Some((a as usize * 10 + b as usize, at + 2))
 }
 
-// A constant from its first digit on, and the place behind it.
+// A constant from its first digit on, and the place behind it. Nineteen digits fit 64 bits, and the twentieth may not.
 #[inline(always)]
-fn constant_at(text: &[u8], at: usize) -> Option<(u32, usize)> {
+fn constant_at(text: &[u8], at: usize) -> Option<(u64, usize)> {
     let first = digit(text[at]);
     let (mut value, mut end) = (u64::from(first), at + 1);
-    while end < text.len() && digit(text[end]) <= 9 && end < at + 11 {
+    while end < text.len() && digit(text[end]) <= 9 && end < at + 19 {
         value = value * 10 + u64::from(digit(text[end]));
+        end += 1;
+    }
+    if end == at + 19 && end < text.len() && digit(text[end]) <= 9 {
+        let last = u64::from(digit(text[end]));
+        value = value.checked_mul(10)?.checked_add(last)?;
         end += 1;
     }
     if first == 0 && at + 1 < end {
         return None;
     }
-    Some((u32::try_from(value).ok()?, end))
+    Some((value, end))
 }
 
 impl Line {

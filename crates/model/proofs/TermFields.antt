@@ -6,12 +6,13 @@ use mathlib.Core.Option.{Option, none, some}
 use Prim.Native.Nat.{ℕ, _≤_, _<_}
 use native.Mathlib.Nat.{not-suc-le-zero}
 use native.Mathlib.Omega.{arith}
-use lib.Dec.{leb, eqb}
+use lib.Dec.{leb, eqb, lit<}
 use lib.ListN.{length, getD, drop}
 use borrow.Author.Tests.{leb-true, leb-false, lt-leb}
 use Rattle.theory.specs.Query.{Term, constant, shown, hidden}
 use Rattle.text.specs.Numeral.{numeral, constantLimit}
 use Rattle.text.specs.Value.{limited, numeralValue}
+use Rattle.text.proofs.Numerals.{low-within}
 use Rattle.text.specs.declared.Numeral.{Numeral}
 use Rattle.text.specs.declared.Numeral.the-variants.{Malformed, Large, Value}
 use Rattle.model.specs.declared.Field.{Field}
@@ -36,8 +37,7 @@ value-outside mark n e = rw e
 
 -- a number past every limit is past that of variables
 large : (n : ℕ) → leb n constantLimit ≡ false → leb n lastVariable ≡ false
-unfolding constantLimit
-large n e = let h = leb-false n constantLimit e in lt-leb n lastVariable (omega arith)
+large n e = lt-leb n lastVariable (omega (arith, leb-false n constantLimit e, low-within lastVariable (lit< tt)))
 
 constant-read : (o : Option ℕ) → fieldValue (mapped constant o) ≡ marked 1 (limited o)
 unfolding fieldValue mapped limited termWithin termValue numberWithin

@@ -7,10 +7,11 @@ use Prim.Native.Nat.{ℕ, _≤_, zero-le}
 use native.Mathlib.Nat.{eq-zero-or-pos}
 use native.Mathlib.Decide.{decLe}
 use native.Mathlib.Omega.{arith}
-use lib.Dec.{leb, lit≤}
+use lib.Dec.{leb, lit<}
 use borrow.Author.Tests.{le-leb, lt-leb, leb-true, leb-false}
 use Rattle.text.specs.Numeral.{constantLimit}
 use Rattle.text.specs.Value.{limited}
+use Rattle.text.proofs.Numerals.{low-within}
 use Rattle.text.specs.declared.Numeral.the-variants.{Malformed, Large, Value}
 use Rattle.text.specs.declared.Numeral.{Numeral}
 use Rattle.model.specs.Limits.{mostTables, mostColumns, mostViews, mostPartitions, upTo}
@@ -36,20 +37,16 @@ formed-some (some n) f = (n, refl)
 
 -- a most that is below the limit of constants
 pub tables-small : mostTables ≤ constantLimit
-unfolding constantLimit
-tables-small = lit≤ tt
+tables-small = low-within mostTables (lit< tt)
 
 pub columns-small : mostColumns ≤ constantLimit
-unfolding constantLimit
-columns-small = lit≤ tt
+columns-small = low-within mostColumns (lit< tt)
 
 pub views-small : mostViews ≤ constantLimit
-unfolding constantLimit
-views-small = lit≤ tt
+views-small = low-within mostViews (lit< tt)
 
 pub partitions-small : mostPartitions ≤ constantLimit
-unfolding constantLimit
-partitions-small = lit≤ tt
+partitions-small = low-within mostPartitions (lit< tt)
 
 module _ (most : ℕ) (small : most ≤ constantLimit) (n : ℕ) where
   -- a large number is past the most

@@ -17,7 +17,7 @@ use Rattle.model.specs.declared.Parsed.{Parsed}
 unfoldable pub markOf : ℕ → ℕ
 markOf b = cond (eqb b constantByte) 1 (cond (eqb b shownByte) 2 (cond (eqb b hiddenByte) 3 0))
 
--- a numeral that is not large is within the limit of constants
+-- whether a term may have a number that is not past every limit: a constant any, a variable none past the last
 unfoldable pub numberWithin : ℕ → ℕ → Bool
 numberWithin mark n = eqb mark 1 || leb n lastVariable
 

@@ -16,6 +16,7 @@ pub use read::read_term;
 pub use read::read_terms;
 pub use read::up_to;
 pub use read::with_mark;
+pub use read::within;
 pub use rows::ROW;
 pub use rows::lay_line;
 pub use rows::set_mark;

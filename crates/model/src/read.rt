@@ -27,13 +27,11 @@ pub fn mark_of(b: u8) -> u64
     constant | shown | hidden
 }
 
-fn within(mark: u64, number: u64) -> bool
+// Whether a term may have this number: a constant any of 64 bits, a variable none past the last. As above, without a branch.
+pub fn within(mark: u64, number: u64) -> bool
     ensures { λ r. ⌜ r ≡ numberWithin mark number ⌝ }
 {
-    if mark == CONSTANT {
-        return true;
-    }
-    number <= LAST_VARIABLE
+    (mark == CONSTANT) | (number <= LAST_VARIABLE)
 }
 
 pub fn read_term(field: &[u8]) -> Field

@@ -22,9 +22,9 @@ use Rattle.policy_text.proofs.Blocks.{block-line, length-block}
 use Rattle.policy_text.proofs.Sizes.{view-size, PartitionSize, partition-size}
 use Rattle.model.proofs.Limits.{up-to-iff}
 
--- no limit of tables, columns, views or partitions has more digits
+-- no number of a table, view or partition has more digits: three serve every limit below 1,000
 abbrev numberDigits : ℕ
-numberDigits = 2
+numberDigits = 3
 
 number-short : (n : ℕ) → n < 10 ^ numberDigits → Within numberDigits (decimal n)
 number-short n h = length-iff (numberDigits - 1) n .0 h

@@ -11,10 +11,10 @@ use lib.Ieee.Bits.{is-true}
 use lib.ListN.{length, getD, length-append}
 use mir.Facts.{and-yes, yes-and}
 use Rattle.words.proofs.Answers.{true-holds}
-use Rattle.text.specs.Numeral.{mostDigits, isDigit, allDigits, leads, digitsAfter}
+use Rattle.text.specs.Numeral.{mostDigits, constantLimit, isDigit, allDigits, leads, digitsAfter}
 use Rattle.text.specs.Print.{digit}
 use Rattle.text.proofs.Decimals.{after-last, decimal-one, decimal-more, numeral-iff}
-use Rattle.text.proofs.Numerals.{numeral-is, leads-alone, leads-others}
+use Rattle.text.proofs.Numerals.{low-within, numeral-is, leads-alone, leads-others}
 use Rattle.scan.specs.Places.{DigitsBetween, NumeralThere}
 use Rattle.scan.proofs.Places.{between-none, between-one, between-two, between-both, between-first}
 
@@ -45,12 +45,12 @@ module _ {text : List ℕ} where
 
   -- ---- a numeral
 
-  module _ {at end v : ℕ} (r : DigitsBetween text at end v) where
+  module _ {at end v : ℕ} (r : DigitsBetween text at end v) (within : v ≤ constantLimit) where
     led : leads (r .digits) ≡ true → NumeralThere text at (record { value = v; end = end })
     led l =
         let n = numeral-is (r .digits) (is-true (allDigits (r .digits)) (r .all)) l (r .few) in
         let d = numeral-iff (r .digits) v .0 (n ∙ rw (r .stand)) in
-        record { there = rw (d .1) at (r .there); small = d .0 }
+        record { there = rw (d .1) at (r .there); within = within }
 
     pub one-digit : end ≡ at + 1 → NumeralThere text at (record { value = v; end = end })
     one-digit e = led (sym (leads-alone (r .digits) (omega (arith, r .there .long)) (omega (arith, r .there .long))))
@@ -68,7 +68,7 @@ module _ {text : List ℕ} where
     table-one =
         record {
           there = rw (decimal-one d (omega arith)) (between-one at (digit d) here is);
-          small = omega arith;
+          within = low-within d (omega arith);
         }
 
     pub table-two : (e : ℕ) → e ≤ 9 → at + 1 < length text → getD text (at + 1) 0 ≡ digit e
@@ -80,7 +80,7 @@ module _ {text : List ℕ} where
           there =
               rw (decimal-more (d * 10 + e) (omega arith), tens, ones, decimal-one d (omega arith))
               (between-two at (digit d) (digit e) next is is′);
-          small = omega arith;
+          within = low-within (d * 10 + e) (omega arith);
         }
 
 -- a byte of a value below 10 is that digit

@@ -1,5 +1,6 @@
 -- Terms as they are written behind a line's table: one, and one more behind others.
 use mathlib.Core.Path.{_≡_, refl, sym, _∙_, subst}
+use mathlib.Core.Bool.{true}
 use mathlib.Core.List.{List, [], _∷_, _++_}
 use Prim.Native.Nat.{ℕ, _+_, _≤_, _<_}
 use native.Mathlib.Decide.{ℕ-discrete}
@@ -8,6 +9,7 @@ use borrow.Author.Tests.{ne-eqb}
 use lib.Dec.{T, le→leb}
 use lib.Ieee.Bits.{is-true}
 use lib.ListN.{length, getD, set, length-append}
+use Rattle.words.proofs.Answers.{true-holds}
 use Rattle.theory.specs.Query.{Term, constant, shown, hidden}
 use Rattle.theory.specs.Executable.Test.{all, kind, number}
 use Rattle.theory.proofs.Executable.Test.{all-iff}
@@ -17,7 +19,7 @@ use Rattle.text.specs.Print.{decimal}
 use Rattle.text.proofs.Each.{each-last}
 use Rattle.model.specs.Fields.{constantByte, shownByte, hiddenByte}
 use Rattle.model.specs.Limits.{mostColumns, lastVariable, termWithin}
-use Rattle.model.specs.Marks.{markOf, withMark}
+use Rattle.model.specs.Marks.{markOf, numberWithin, withMark}
 use Rattle.model.specs.Parsed.{withShown, withHidden, bitsOf}
 use Rattle.model.specs.Print.{printTerm, spaced}
 use Rattle.model.specs.Value.{termValue, termsValue}
@@ -26,7 +28,7 @@ use Rattle.model.proofs.Spaced.{spaced-more}
 use Rattle.model.proofs.TermFields.{variable-small}
 use Rattle.model.proofs.Terms.{terms-more, bits-more, mark-shown, mark-hidden}
 use Rattle.scan.specs.Places.{Between, NumeralThere}
-use Rattle.scan.specs.TermsAt.{limitOf, TermThere, HoldsTerms, TermsThere}
+use Rattle.scan.specs.TermsAt.{TermThere, HoldsTerms, TermsThere}
 use Rattle.scan.specs.declared.numbers.Number.{Number}
 use Rattle.scan.specs.declared.terms.TermEnd.{TermEnd}
 use Rattle.scan.specs.declared.terms.Terms.{Terms}
@@ -41,30 +43,30 @@ record IsTerm (b n : ℕ) : Type 0 where
   within : T (termWithin term)
   printed : b ∷ decimal n ≡ printTerm term
 
-is-term : (b n : ℕ) → (markOf b ≡ 0 → ⊥) → n ≤ limitOf (markOf b) → IsTerm b n
-unfolding markOf limitOf termValue termWithin printTerm kind number
-is-term b n some small = go (ℕ-discrete b constantByte) (ℕ-discrete b shownByte) (ℕ-discrete b hiddenByte)
+is-term : (b n : ℕ) → (markOf b ≡ 0 → ⊥) → n ≤ constantLimit → numberWithin (markOf b) n ≡ true → IsTerm b n
+unfolding markOf numberWithin termValue termWithin printTerm kind number
+is-term b n some most small = go (ℕ-discrete b constantByte) (ℕ-discrete b shownByte) (ℕ-discrete b hiddenByte)
   where
-    by : (x : ℕ) → b ≡ x → (n ≤ limitOf (markOf x) → IsTerm x n) → IsTerm b n
+    by : (x : ℕ) → b ≡ x → (numberWithin (markOf x) n ≡ true → IsTerm x n) → IsTerm b n
     by x e f = subst (λ (y : ℕ). IsTerm y n) (sym e) (f (rw e at small))
 
     go : Dec (b ≡ constantByte) → Dec (b ≡ shownByte) → Dec (b ≡ hiddenByte) → IsTerm b n
     go (yes e) p q =
-        by constantByte e (λ h. record { term = constant n; value = refl; within = le→leb n constantLimit h; printed = refl })
+        by constantByte e (λ h. record { term = constant n; value = refl; within = le→leb n constantLimit most; printed = refl })
     go (no d) (yes e) q =
-        by shownByte e (λ h. record { term = shown n; value = refl; within = le→leb n lastVariable h; printed = refl })
+        by shownByte e (λ h. record { term = shown n; value = refl; within = true-holds h; printed = refl })
     go (no d) (no e) (yes f) =
-        by hiddenByte f (λ h. record { term = hidden n; value = refl; within = le→leb n lastVariable h; printed = refl })
+        by hiddenByte f (λ h. record { term = hidden n; value = refl; within = true-holds h; printed = refl })
     go (no d) (no e) (no f) = absurd (some (rw (ne-eqb b constantByte d, ne-eqb b shownByte e, ne-eqb b hiddenByte f)))
 
 pub term-there : {text : List ℕ} (at m : ℕ) (n : Number) → at + 1 < length text → getD text at 0 ≡ space → m ≡ markOf (getD text (at + 1) 0)
-    → (m ≡ 0 → ⊥) → NumeralThere text (at + 2) n → n .value ≤ limitOf m
+    → (m ≡ 0 → ⊥) → NumeralThere text (at + 2) n → numberWithin m (n .value) ≡ true
     → TermThere text at (record { term = record { mark = m; number = n .value }; end = n .end })
 term-there {text} at m n h s e some digits small =
     let b = getD text (at + 1) 0 in
     let same : _≡_ {A = TermValue} (record { mark = m; number = n .value }) (record { mark = markOf b; number = n .value })
     = λ i. record { mark = e i; number = n .value } in
-    let t = is-term b (n .value) (λ z. some (e ∙ z)) (rw e at small) in
+    let t = is-term b (n .value) (λ z. some (e ∙ z)) (digits .within) (rw e at small) in
     record {
       is = t .term;
       value = same ∙ t .value;

@@ -8,7 +8,7 @@ use lib.ListN.{length, getD, take}
 use Rattle.words.specs.Sets.{meet}
 use Rattle.text.specs.Lines.{newline}
 use Rattle.text.specs.Names.{tableTerms}
-use Rattle.text.specs.Numeral.{mostDigits, allDigits, digitsAfter}
+use Rattle.text.specs.Numeral.{mostDigits, constantLimit, allDigits, digitsAfter}
 use Rattle.text.specs.Print.{decimal}
 use Rattle.model.specs.Limits.{mostTables}
 use Rattle.scan.specs.declared.numbers.Number.{Number}
@@ -36,10 +36,10 @@ pub record DigitsBetween (text : List ℕ) (at end value : ℕ) : Type 0 where
   pub few : length digits ≤ mostDigits
   pub stand : digitsAfter 0 digits ≡ value
 
--- "A numeral has 1 to 10 decimal digits, with no leading zero unless it is `0`": from the place up to the end stands that of the value
+-- "with no leading zero unless it is `0`": from the place up to the end stands the numeral of the value, which is not past every limit
 pub record NumeralThere (text : List ℕ) (at : ℕ) (n : Number) : Type 0 where
   pub there : Between text at (n .end) (decimal (n .value))
-  pub small : n .value < 10 ^ mostDigits
+  pub within : n .value ≤ constantLimit
 
 -- a numeral at the place, or none
 abbrev pub NumberAt : List ℕ → ℕ → Number → Type 0

@@ -1,26 +1,19 @@
 -- The terms of a line from a place of a text on. Place 0 as an end says nothing.
 use mathlib.Core.Path.{_≡_}
-use mathlib.Core.Bool.{cond}
 use mathlib.Core.List.{List, [], _∷_, _++_}
 use Prim.Native.Nat.{ℕ}
-use lib.Dec.{T, eqb}
+use lib.Dec.{T}
 use lib.ListN.{length}
 use Rattle.theory.specs.Query.{Term}
 use Rattle.theory.specs.Executable.Test.{all}
 use Rattle.text.specs.Lines.{space, newline}
-use Rattle.text.specs.Numeral.{constantLimit}
-use Rattle.model.specs.Limits.{lastVariable, termWithin}
+use Rattle.model.specs.Limits.{termWithin}
 use Rattle.model.specs.Parsed.{withShown, withHidden, bitsOf}
 use Rattle.model.specs.Print.{printTerm, spaced}
 use Rattle.model.specs.Value.{termValue, termsValue}
 use Rattle.scan.specs.Places.{Between}
 use Rattle.scan.specs.declared.terms.TermEnd.{TermEnd}
 use Rattle.scan.specs.declared.terms.Terms.{Terms}
-
--- the largest number of a term: a constant has mark 1
-unfoldable pub limitOf : ℕ → ℕ
-unfolding constantLimit
-limitOf mark = cond (eqb mark 1) constantLimit lastVariable
 
 -- a space and a term within its limits
 pub record TermThere (text : List ℕ) (at : ℕ) (r : TermEnd) : Type 0 where

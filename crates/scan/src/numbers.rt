@@ -1,10 +1,14 @@
 // Numbers from a place of a text on.
 
 ghost use mathlib.Core.Path.{_≡_};
-ghost use Prim.Native.Nat.{_^_, _<_};
+ghost use Prim.Native.Nat.{_+_, _*_, _^_, _<_, _≤_};
 ghost use lib.ListN.{length};
 ghost use Rattle.scan.specs.Places.{PlaceIn, DigitsBetween, NumberAt, TableAt};
 use text::MOST_DIGITS;
+use text::Numeral;
+
+// How many digits stand before the last that a numeral may have.
+const BEFORE_LAST: usize = MOST_DIGITS - 1;
 
 // A number, and the place behind its digits; place 0 where there is none.
 pub struct Number {
@@ -36,7 +40,19 @@ fn numeral_between(text: &[u8], at: usize, end: usize, value: u64) -> Number
     Number { value, end }
 }
 
-// The numeral that starts at a place and ends before a byte that is no digit.
+// The same with one digit more behind this value; no number where that is past every limit.
+fn numeral_with(text: &[u8], at: usize, end: usize, value: u64, d: u64) -> Number
+    requires { ⌜ length (now text) < 2 ^ 32 ⌝ }
+    requires { ⌜ (d ≤ 9) × DigitsBetween (now text) at end (value * 10 + d) ⌝ }
+    ensures { λ n. ⌜ NumberAt (now (text .entry)) at n ⌝ }
+{
+    match text::with_digit(value, d) {
+        Numeral::Malformed | Numeral::Large => no_number(),
+        Numeral::Value(v) => numeral_between(text, at, end, v),
+    }
+}
+
+// The numeral that starts at a place and ends before a byte that is no digit, or has all the digits that it may have.
 pub fn number_at(text: &[u8], at: usize) -> Number
     requires { ⌜ PlaceIn (now text) at ⌝ }
     ensures { λ n. ⌜ NumberAt (now (text .entry)) at n ⌝ }
@@ -48,8 +64,8 @@ pub fn number_at(text: &[u8], at: usize) -> Number
         if 9 < d {
             return numeral_between(text, at, i, value);
         }
-        if i == at + MOST_DIGITS {
-            return no_number();
+        if i == at + BEFORE_LAST {
+            return numeral_with(text, at, i + 1, value, d);
         }
         value = value * 10 + d;
         i += 1;

@@ -4,15 +4,12 @@ ghost use mathlib.Core.Path.{_≡_};
 ghost use Prim.Native.Nat.{_≤_};
 ghost use Rattle.model.specs.Limits.{mostColumns};
 ghost use Rattle.scan.specs.Places.{PlaceIn, EndAt};
-ghost use Rattle.scan.specs.TermsAt.{limitOf, TermAt, TermsAt};
+ghost use Rattle.scan.specs.TermsAt.{TermAt, TermsAt};
 use crate::numbers::number_at;
-use model::CONSTANT;
 use model::HIDDEN;
-use model::LAST_VARIABLE;
 use model::MOST_COLUMNS;
 use model::SHOWN;
 use model::Term;
-use text::CONSTANT_LIMIT;
 
 // A term, and the place behind it; place 0 where there is none.
 struct TermEnd {
@@ -26,16 +23,6 @@ pub struct Terms {
     pub terms: [Term; MOST_COLUMNS],
     pub shown: u64,
     pub hidden: u64,
-}
-
-// The largest number that a term of this mark may have.
-fn limit_of(mark: u64) -> u64
-    ensures { λ r. ⌜ r ≡ limitOf mark ⌝ }
-{
-    if mark == CONSTANT {
-        return CONSTANT_LIMIT;
-    }
-    LAST_VARIABLE
 }
 
 fn no_term() -> TermEnd
@@ -66,7 +53,7 @@ fn term_at(text: &[u8], at: usize) -> TermEnd
     if n.end == 0 {
         return no_term();
     }
-    if limit_of(mark) < n.value {
+    if !model::within(mark, n.value) {
         return no_term();
     }
     TermEnd {

@@ -15,6 +15,7 @@ fn main() {
     n = told::hiding(policies::hiding(), n);
     n = told::without_views(test_expect::wider(), n);
     n = told::constants(policies::constants(), n);
+    n = told::long_constants(policies::long_constants(), n);
     n = told::forty(policies::forty(), n);
     n = told::settled_ones(p, n);
     n = refusals::partitions(p, n);

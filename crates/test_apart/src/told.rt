@@ -58,6 +58,21 @@ pub fn constants(p: Policy, start: u64) -> u64 {
     n
 }
 
+// Request 4: the constants 0 to 127 in views, and the first and the last of the 72 highest, which views 17 and 18 have before a column that
+// they hide. These match a line with their constant, and no other view matches a line.
+pub fn long_constants(p: Policy, start: u64) -> u64 {
+    let mut n = apart(start, p, 1, b"table terms\n1 !0 !1 !2 !3 !4 !5 !6 !7\n", 1);
+    let text = b"table terms\n1 #18446744073709551615 !1 !2 !3 !4 !5 !6 !7\n";
+    n = apart(n, p, 1, text, 2);
+    let text = b"table terms\n1 #18446744073709551544 !1 !2 !3 !4 !5 !6 !7\n";
+    n = apart(n, p, 1, text, 2);
+    n = apart(n, p, 1, b"table terms\n1 #0 #1 #2 #3 #4 #5 #6 ?7\n", 1);
+    let text =
+        b"table terms\n1 #18446744073709551615 ?1 !2 !3 !4 !5 !6 !7\n1 #18446744073709551544 ?1 !2 !3 !4 !5 !6 !7\n";
+    n = apart(n, p, 1, text, 3);
+    n
+}
+
 // "at most 40 rows are given: eight lines and one row for each of at most 32 views"
 pub fn forty(p: Policy, start: u64) -> u64 {
     let text =

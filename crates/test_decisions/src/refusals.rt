@@ -30,11 +30,23 @@ pub fn of_numbers(p: Policy, start: u64) -> u64 {
     let mut n = decided(start, p, 3, b"table terms\n2 ?63 !1\n", yes(1), 1);
     n = decided(n, p, 3, b"table terms\n2 ?64 !1\n", refused(2, 2), 3);
     n = decided(n, p, 3, b"table terms\n2 !1 #4294967295\n", yes(1), 1);
+    n = decided(n, p, 3, b"table terms\n2 !1 #4294967296\n", yes(1), 1);
+    n = decided(n, p, 3, b"table terms\n2 !1 #42949672950\n", yes(1), 1);
+    // 7 past 2 ^ 32 is not taken for 7, which partition 2 would settle
+    n = decided(n, p, 3, b"table terms\n2 !1 #4294967303\n", yes(1), 1);
     n = decided(
         n,
         p,
         3,
-        b"table terms\n2 !1 #4294967296\n",
+        b"table terms\n2 !1 #18446744073709551615\n",
+        yes(1),
+        1,
+    );
+    n = decided(
+        n,
+        p,
+        3,
+        b"table terms\n2 !1 #18446744073709551616\n",
         refused(2, 2),
         3,
     );
@@ -42,7 +54,7 @@ pub fn of_numbers(p: Policy, start: u64) -> u64 {
         n,
         p,
         3,
-        b"table terms\n2 !1 #42949672950\n",
+        b"table terms\n2 !1 #100000000000000000000\n",
         refused(1, 2),
         3,
     );

@@ -135,7 +135,7 @@ pub fn partitions(p: Policy, widest: Policy, start: u64) -> u64 {
 // Texts that are turned back.
 pub fn texts(p: Policy, start: u64) -> u64 {
     let mut n = no_words(start, p, 1, b"", 10, 1, 1);
-    let text = b"table terms\n1 !1 #4294967296 ?2\n";
+    let text = b"table terms\n1 !1 #18446744073709551616 ?2\n";
     n = no_words(n, p, 1, text, 10, 2, 2);
     let text = b"table terms\n1 !1 #4 ?2\n3 !1\n";
     n = no_words(n, p, 1, text, 10, 4, 3);

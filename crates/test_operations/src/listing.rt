@@ -94,6 +94,43 @@ pub fn equal_terms(p: Policy, start: u64) -> u64 {
     n
 }
 
+// Request 4, under the policy of long constants: view 1 has 2 ^ 64 - 1, view 2 has 2 ^ 32. A constant that differs by 1, by 2 ^ 32 or by
+// 2 ^ 63 is another.
+pub fn long_constants(p: Policy, start: u64) -> u64 {
+    let text = b"table terms\n1 !1 #18446744073709551615\n";
+    let mut n = labels(start, p, text, 10, one(4294967297));
+    let text = b"table terms\n1 !1 #18446744073709551614\n";
+    n = labels(n, p, text, 10, one(1));
+    let text = b"table terms\n1 !1 #18446744069414584319\n";
+    n = labels(n, p, text, 10, one(1));
+    let text = b"table terms\n1 !1 #9223372036854775807\n";
+    n = labels(n, p, text, 10, one(1));
+    n = labels(
+        n,
+        p,
+        b"table terms\n1 !1 #4294967296\n",
+        10,
+        one(8589934593),
+    );
+    n = labels(n, p, b"table terms\n1 !1 #0\n", 10, one(1));
+    let text = b"table terms\n1 !1 #9223372041149743104\n";
+    n = labels(n, p, text, 10, one(1));
+    n
+}
+
+// The same in reducing: the first line may go where the second has its constant.
+pub fn reducing_long_constants(p: Policy, start: u64) -> u64 {
+    let text = b"table terms\n1 ?2 #18446744073709551615\n1 !1 #18446744073709551615\n";
+    let mut n = labels(start, p, text, 10, one(4294967297));
+    let text = b"table terms\n1 ?2 #18446744073709551614\n1 !1 #18446744073709551615\n";
+    n = labels(n, p, text, 10, two(1, 4294967297));
+    let text = b"table terms\n1 ?2 #18446744069414584319\n1 !1 #18446744073709551615\n";
+    n = labels(n, p, text, 10, two(1, 4294967297));
+    let text = b"table terms\n1 ?2 #9223372036854775807\n1 !1 #18446744073709551615\n";
+    n = labels(n, p, text, 10, two(1, 4294967297));
+    n
+}
+
 // Two lines that stay, views 1 and 2, and views 3 and 4: the same list in either order of the lines.
 pub fn two_tables(p: Policy, start: u64) -> u64 {
     let text = b"table terms\n1 !1 #4 ?2\n2 !1 #7\n";

@@ -109,7 +109,7 @@ fn limits() -> Policy {
     p = with_term(p, 0, 2, HIDDEN, 1);
     p = with_term(p, 0, 3, HIDDEN, 62);
     p = with_term(p, 0, 4, CONSTANT, 0);
-    p = with_term(p, 0, 5, CONSTANT, 4294967295);
+    p = with_term(p, 0, 5, CONSTANT, 18446744073709551615);
     p = with_term(p, 0, 6, HIDDEN, 1);
     p = with_term(p, 0, 7, SHOWN, 0);
     with_grants(p, 0, 2)
@@ -120,7 +120,7 @@ pub fn taken(start: u64) -> u64 {
         b"table columns\n1 3\n2 2\nview table terms\n1 1 !1 !2 !3\n2 1 !1 !2 ?3\n3 2 !1 !2\n4 2 !1 #7\npartition views\n1 2 3\n2 1 4\n";
     let mut n = loads(start, text, example());
     let text =
-        b"table columns\n1 8\nview table terms\n1 1 !0 !63 ?1 ?62 #0 #4294967295 ?1 !0\npartition views\n1\n2 1\n";
+        b"table columns\n1 8\nview table terms\n1 1 !0 !63 ?1 ?62 #0 #18446744073709551615 ?1 !0\npartition views\n1\n2 1\n";
     n = loads(n, text, limits());
     n
 }

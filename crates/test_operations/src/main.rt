@@ -20,6 +20,8 @@ fn labels(p: Policy, wider: Policy, widest: Policy, altered: Policy, start: u64)
     n = listing::astray(p, n);
     n = listing::reducing(p, n);
     n = listing::equal_terms(policies::equal_columns(), n);
+    n = listing::long_constants(policies::long_constants(), n);
+    n = listing::reducing_long_constants(policies::long_constants(), n);
     n = listing::two_tables(p, n);
     n = listing::six_orders(p, n);
     n = listing::repeated(p, n);

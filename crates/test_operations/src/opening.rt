@@ -45,13 +45,15 @@ fn turned_back(n: u64, p: Policy) -> u64 {
 }
 
 // Two, three and 32 partitions; and values made by hand that a text gives: a third partition without views, view 4 with
-// another constant, view 3 in partition 2 too (1 + 2), and eight columns for a table without views.
+// other constants, view 3 in partition 2 too (1 + 2), and eight columns for a table without views.
 pub fn of_loaded(p: Policy, wider: Policy, widest: Policy, start: u64) -> u64 {
     let mut n = opens(start, p, 3);
     n = opens(n, wider, 7);
     n = opens(n, widest, 4294967295);
     n = opens(n, with_partition_count(p, 3), 7);
     n = opens(n, with_term(p, 3, 1, 1, 4294967295), 3);
+    n = opens(n, with_term(p, 3, 1, 1, 4294967296), 3);
+    n = opens(n, with_term(p, 3, 1, 1, 18446744073709551615), 3);
     n = opens(n, with_grants(p, 2, 3), 3);
     n = opens(n, with_columns(wider, 2, 8), 7);
     n
@@ -107,13 +109,16 @@ pub fn of_terms(p: Policy, start: u64) -> u64 {
     let mut n = turned_back(start, with_term(p, 2, 2, 1, 0));
     n = turned_back(n, with_term(p, 2, 2, 2, 3));
     n = turned_back(n, with_term(p, 2, 7, 0, 1));
-    // a column left unused, and a mark that is none
+    // a column left unused, numbered or not, and a mark that is none
     n = turned_back(n, with_term(p, 2, 1, 0, 0));
+    n = turned_back(n, with_term(p, 2, 1, 0, 63));
+    n = turned_back(n, with_term(p, 2, 1, 0, 18446744073709551615));
     n = turned_back(n, with_term(p, 2, 1, 4, 2));
     // past the limits
-    n = turned_back(n, with_term(p, 2, 1, 1, 4294967296));
     n = turned_back(n, with_term(p, 2, 1, 2, 64));
     n = turned_back(n, with_term(p, 2, 1, 3, 64));
+    n = turned_back(n, with_term(p, 2, 1, 2, 4294967298));
+    n = turned_back(n, with_term(p, 2, 1, 3, 18446744073709551615));
     // 1 both shown and hidden
     n = turned_back(n, with_term(p, 2, 1, 3, 1));
     // behind the last view

@@ -14,6 +14,14 @@ pub fn equal_columns() -> Policy {
     r.policy
 }
 
+// Two views of a table of two columns, each with a constant past 32 bits. Partition n grants view n.
+pub fn long_constants() -> Policy {
+    let r = load::load(
+        b"table columns\n1 2\nview table terms\n1 1 !1 #18446744073709551615\n2 1 !1 #4294967296\npartition views\n1 1\n2 2\n",
+    );
+    r.policy
+}
+
 // Two tables of one column, and one view: all rows of the first.
 pub fn single() -> Policy {
     let r = load::load(

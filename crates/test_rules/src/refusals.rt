@@ -28,12 +28,12 @@ pub fn shapes(p: Policy, start: u64) -> u64 {
     n = refused(n, p, b"Q(x) :- T2(x, y_)\n", 1);
     n = refused(n, p, b"Q(x) :- T2(x, Y)\n", 1);
     n = refused(n, p, b"Q(x) :- T2(x, 07)\n", 1);
-    n = refused(n, p, b"Q(x) :- T2(x, 12345678901)\n", 1);
+    n = refused(n, p, b"Q(x) :- T2(x, 123456789012345678901)\n", 1);
     n = refused(n, p, b"Q(x) :- T2(x, -1)\n", 1);
     n = refused(n, p, b"Q(x) :- T2(x, #7)\n", 1);
     n = refused(n, p, b"Q(x) :- T(x, y)\n", 1);
     n = refused(n, p, b"Q(x) :- T01(x, y)\n", 1);
-    n = refused(n, p, b"Q(x) :- T12345678901(x, y)\n", 1);
+    n = refused(n, p, b"Q(x) :- T123456789012345678901(x, y)\n", 1);
     n = refused(n, p, b"Q(x) :- t2(x, y)\n", 1);
     n = refused(n, p, b"Q(x) :- 2(x, y)\n", 1);
     n = refused(n, p, b"Q(x) :- R2(x, y)\n", 1);
@@ -123,10 +123,12 @@ pub fn checks(p: Policy, start: u64) -> u64 {
     n = refused(n, p, b"Q(x) :- T0(x, y)\n", 2);
     n = refused(n, p, b"Q(x) :- T17(x, y)\n", 2);
     n = refused(n, p, b"Q(x) :- T4294967298(x, y)\n", 2);
-    n = refused(n, p, b"Q(x) :- T9999999999(x, y)\n", 2);
-    n = refused(n, p, b"Q(x) :- T2(x, 4294967296)\n", 2);
-    n = refused(n, p, b"Q(x) :- T2(x, 9999999999)\n", 2);
-    n = refused(n, p, b"Q(x) :- T2(x, y), T2(4294967296, y)\n", 2);
+    n = refused(n, p, b"Q(x) :- T123456789012(x, y)\n", 2);
+    n = refused(n, p, b"Q(x) :- T18446744073709551618(x, y)\n", 2);
+    n = refused(n, p, b"Q(x) :- T2(x, 18446744073709551616)\n", 2);
+    n = refused(n, p, b"Q(x) :- T2(x, 99999999999999999999)\n", 2);
+    let text = b"Q(x) :- T2(x, y), T2(18446744073709551616, y)\n";
+    n = refused(n, p, text, 2);
     n = refused(n, p, b"Q(x) :- T3(x, y)\n", 4);
     n = refused(n, p, b"Q(x) :- T16(x)\n", 4);
     n = refused(n, p, b"Q(x) :- T2(x, y), T3(x)\n", 4);
@@ -181,8 +183,9 @@ pub fn orders(p: Policy, start: u64) -> u64 {
 // The same of the checks on numbers and tables, and the head's behind them.
 pub fn orders_of_checks(p: Policy, start: u64) -> u64 {
     let mut n = refused(start, p, b"Q(x) :- T3(x, y), T17(x, y)\n", 2);
-    n = refused(n, p, b"Q(x) :- T3(x, 4294967296)\n", 2);
-    n = refused(n, p, b"Q(x) :- T2(x), T2(x, 4294967296)\n", 2);
+    n = refused(n, p, b"Q(x) :- T3(x, 18446744073709551616)\n", 2);
+    let text = b"Q(x) :- T2(x), T2(x, 18446744073709551616)\n";
+    n = refused(n, p, text, 2);
     n = refused(n, p, b"Q(x) :- T2(x), T3(x, y)\n", 4);
     n = refused(n, p, b"Q(x) :- T3(x, y), T2(x)\n", 4);
     n = refused(n, p, b"Q(z) :- T2(x)\n", 5);

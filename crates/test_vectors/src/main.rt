@@ -12,6 +12,8 @@ fn main() {
     n = queries::malformed_field(n);
     n = queries::ninth_line(n);
     n = queries::outside(n);
+    n = queries::long_constants(n);
+    n = queries::long_numbers(n);
     n = queries::unknown_and_misfit(n);
     n = queries::clash(n);
     n = queries::ninety_terms(n);
@@ -21,6 +23,8 @@ fn main() {
     n = policies::malformed(n);
     n = policies::malformed_values(n);
     n = policies::out_of_limits(n);
+    n = policies::long_constants(n);
+    n = policies::long_numbers(n);
     n = policies::out_of_turn(n);
     n = policies::unknown_misfit_clash(n);
     n = policies::long(n);

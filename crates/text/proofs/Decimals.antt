@@ -114,7 +114,7 @@ length-iff (suc k) n = (
       (λ m. let r = length-iff k (n / 10) .1 (omega (arith, length-more n (omega arith))) in omega arith),
 )
 
--- "A numeral has 1 to 10 decimal digits"
+-- "a numeral has up to 20 digits"
 digits-iff : (n : ℕ) → (n < 10 ^ mostDigits) ↔ (length (decimal n) ≤ mostDigits)
 digits-iff n = length-iff (mostDigits - 1) n
 

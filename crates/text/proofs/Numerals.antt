@@ -1,6 +1,6 @@
 -- Numerals: what makes a field one, and the number that its digits stand for.
 use mathlib.Core.Path.{_≡_, refl, ap, _∙_}
-use mathlib.Core.Bool.{Bool, true, false, not, _&&_, _||_}
+use mathlib.Core.Bool.{Bool, true, false, cond, not, _&&_, _||_}
 use mathlib.Core.List.{List, [], _∷_}
 use mathlib.Core.Option.{some}
 use Prim.Native.Nat.{ℕ, _+_, _-_, _*_, _^_, _≤_, _<_, zero-le}
@@ -125,11 +125,31 @@ pub numeral-is : (l : List ℕ) → allDigits l ≡ true → leads l ≡ true �
 unfolding numeral isNumeral
 numeral-is l d f h = rw (d, f, le-leb (length l) mostDigits h)
 
-module _ (l : List ℕ) (v : ℕ) (f : leads l ≡ true) (h : length l ≤ mostDigits) (d : (allDigits l ≡ true) × (digitsAfter 0 l ≡ v)) where
-  pub large : constantLimit < v → Large ≡ numeralValue l
-  unfolding numeralValue limited
-  large k = rw (numeral-is l (d .0) f h, d .1, lt-leb v constantLimit k)
+-- the digits of a field that leads well stand for its value
+pub valued : (l : List ℕ) (v : ℕ) → leads l ≡ true → length l ≤ mostDigits → (allDigits l ≡ true) × (digitsAfter 0 l ≡ v)
+    → limited (some v) ≡ numeralValue l
+unfolding numeralValue
+valued l v f h d = rw (numeral-is l (d .0) f h, d .1)
 
-  pub valued : v ≤ constantLimit → Value v ≡ numeralValue l
-  unfolding numeralValue limited
-  valued k = rw (numeral-is l (d .0) f h, d .1, le-leb v constantLimit k)
+-- ---- a number, with a mark where it is past the limit
+
+-- beside the limit of constants every other is small
+pub low-within : (n : ℕ) → n < 2 ^ 32 → n ≤ constantLimit
+unfolding constantLimit
+low-within n h = omega arith
+
+pub past : (n : ℕ) → constantLimit < n → Large ≡ limited (some n)
+unfolding limited
+past n h = rw (lt-leb n constantLimit h)
+
+pub within-limit : (n : ℕ) → n ≤ constantLimit → Value n ≡ limited (some n)
+unfolding limited
+within-limit n h = rw (le-leb n constantLimit h)
+
+pub value-is : (n v : ℕ) → limited (some n) ≡ Value v → n ≡ v
+unfolding limited
+value-is n v e = go (leb n constantLimit) e
+  where
+    go : (t : Bool) → cond t (Value n) Large ≡ Value v → n ≡ v
+    go true e = cc
+    go false e = let z : _≡_ {A = ℕ} 0 1 = cc in absurd (omega arith)

@@ -1,4 +1,4 @@
--- "A numeral has 1 to 10 decimal digits, with no leading zero unless it is `0`."
+-- "A numeral has 1 to 10 decimal digits, with no leading zero unless it is `0`." Request 4 lets it have up to 20.
 use mathlib.Core.Bool.{Bool, true, false, cond, not, _&&_, _||_}
 use mathlib.Core.List.{List, [], _∷_}
 use mathlib.Core.Option.{Option, none, some}
@@ -6,13 +6,13 @@ use Prim.Native.Nat.{ℕ, _+_, _-_, _*_}
 use lib.Dec.{leb, eqb}
 use lib.ListN.{length}
 
--- the most digits of a numeral
+-- request 4, "a numeral has up to 20 digits"
 abbrev pub mostDigits : ℕ
-mostDigits = 10
+mostDigits = 20
 
--- the largest number that any place of a text allows: that of a constant
+-- request 4, "Constants now go up to 18,446,744,073,709,551,615": no other place of a text allows a larger number
 unfoldable pub constantLimit : ℕ
-constantLimit = 4_294_967_295
+constantLimit = 18_446_744_073_709_551_615
 
 unfoldable pub isDigit : ℕ → Bool
 isDigit b = leb 48 b && leb b 57

@@ -2,18 +2,19 @@
 
 ghost use mathlib.Core.Bool.{not};
 ghost use mathlib.Core.Path.{_≡_};
-ghost use Prim.Native.Nat.{_+_, _-_, _<_, _≤_, _^_};
+ghost use mathlib.Core.Option.{some};
+ghost use Prim.Native.Nat.{_+_, _-_, _*_, _<_, _≤_, _^_};
 ghost use lib.ListN.{length};
 ghost use Rattle.text.specs.Cursors.{NextLine, AfterNames};
 ghost use Rattle.text.specs.Lines.{before, sameBytes};
 ghost use Rattle.text.specs.Numeral.{leads};
-ghost use Rattle.text.specs.Value.{numeralValue};
+ghost use Rattle.text.specs.Value.{limited, numeralValue};
 
 // The most digits of a numeral.
-pub const MOST_DIGITS: usize = 10;
+pub const MOST_DIGITS: usize = 20;
 
 // The largest number that any place of a text allows: that of a constant.
-pub const CONSTANT_LIMIT: u64 = 4_294_967_295;
+const CONSTANT_LIMIT: u64 = 18_446_744_073_709_551_615;
 
 // The names lines.
 pub const TABLE_COLUMNS: [u8; 13] = *b"table columns";
@@ -139,6 +140,18 @@ fn leading_zero(field: &[u8]) -> bool
     field[0] == 48
 }
 
+// A number with one digit more behind it, or `Large` where that is past the limit.
+pub fn with_digit(value: u64, d: u64) -> Numeral
+    requires { ⌜ d ≤ 9 ⌝ }
+    ensures { λ r. ⌜ r ≡ limited (some (value * 10 + d)) ⌝ }
+{
+    if (CONSTANT_LIMIT - d) / 10 < value {
+        return Numeral::Large;
+    }
+    Numeral::Value(value * 10 + d)
+}
+
+// Nineteen digits are within the limit whatever they are, so that the last digit alone may lead past it.
 pub fn read_numeral(field: &[u8]) -> Numeral
     ensures { λ r. ⌜ r ≡ numeralValue (now (field .entry)) ⌝ }
 {
@@ -152,9 +165,10 @@ pub fn read_numeral(field: &[u8]) -> Numeral
     if leading_zero(field) {
         return Numeral::Malformed;
     }
+    let last = n - 1;
     let mut value: u64 = 0;
     let mut i = 0;
-    while i < n {
+    while i < last {
         let d = digit(field[i]);
         if 9 < d {
             return Numeral::Malformed;
@@ -162,8 +176,9 @@ pub fn read_numeral(field: &[u8]) -> Numeral
         value = value * 10 + d;
         i += 1;
     }
-    if CONSTANT_LIMIT < value {
-        return Numeral::Large;
+    let d = digit(field[last]);
+    if 9 < d {
+        return Numeral::Malformed;
     }
-    Numeral::Value(value)
+    with_digit(value, d)
 }

@@ -23,7 +23,7 @@ use Rattle.validity.specs.Parts.{Place, TermOf, TermPlace}
 use Rattle.validity.specs.Entries.{marks, Within, entered, TermsFor}
 use Rattle.validity.proofs.Lists.{only-default}
 use Rattle.validity.proofs.Held.{place-used, place-unused, used-place, unused-place}
-use Rattle.validity.proofs.Terms.{good-within, within-good, within-unmarked, within-word}
+use Rattle.validity.proofs.Terms.{term-path, good-within, within-good, within-word}
 use Rattle.validity.proofs.Marks.{Marks, marks-none, marks-more}
 use Rattle.validity.proofs.Entries.{counts, entered-length, entered-word}
 
@@ -129,7 +129,7 @@ module _ {w : ℕ} {ts : List Term} {by : List ℕ} {i : ℕ} (l : Looked w ts b
       let t = getD ts k unusedTerm in
       let in-limit = place-used Within unusedTerm k w h p in
       let unmarked : t .mark ≡ 0 → ⊥ = λ e.
-      omega (arith, bit-zero 0, ap (λ (x : ℕ). bit x 0) none, put 0 0 k (omega arith) b h (within-unmarked t e in-limit))
+      omega (arith, bit-zero (t .number), ap (λ (x : ℕ). bit x (t .number)) none, put 0 (t .number) k (omega arith) b h (term-path e refl))
       in
       used-place TermOf unusedTerm k w h (within-good t (omega arith) in-limit))
       (λ h.

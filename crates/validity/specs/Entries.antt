@@ -2,14 +2,15 @@
 use mathlib.Core.Path.{_≡_}
 use mathlib.Core.Logic.{_↔_}
 use mathlib.Core.Bool.{Bool, true, false}
-use mathlib.Core.List.{List, [], _∷_}
+use mathlib.Core.List.{List}
 use Prim.Native.Nat.{ℕ, _+_, _-_, _%_, _≤_, _<_}
 use lib.Dec.{ltb}
 use lib.ListN.{getD, set}
 use Rattle.theory.specs.Query.{shown, hidden}
 use Rattle.words.specs.Sets.{setBit}
 use Rattle.text.specs.Numeral.{constantLimit}
-use Rattle.model.specs.Limits.{mostColumns, lastVariable}
+use Rattle.model.specs.Limits.{mostColumns}
+use Rattle.model.specs.Marks.{numberWithin}
 use Rattle.model.specs.Value.{unusedTerm, termValue}
 use Rattle.model.specs.declared.Term.{Term}
 use Rattle.validity.specs.Parts.{Place, TermPlace}
@@ -44,15 +45,11 @@ pub record TermsFor (width : ℕ) (l : List Term) : Type 0 where
 abbrev pub marks : ℕ
 marks = 4
 
--- the largest number of each mark
-unfoldable pub markLimits : List ℕ
-unfolding constantLimit
-markLimits = 0 ∷ constantLimit ∷ lastVariable ∷ lastVariable ∷ []
-
--- one of the marks, or none, and a number within its limit
+-- one of the marks, or none, and a number that a term of that mark may have
 pub record Within (t : Term) : Type 0 where
   pub marked : t .mark < marks
-  pub small : t .number ≤ getD markLimits (t .mark) 0
+  pub most : t .number ≤ constantLimit
+  pub small : numberWithin (t .mark) (t .number) ≡ true
 
 -- the words of the marks, with the bit of a used term's number in the word of its mark
 unfoldable pub entered : Bool → Term → List ℕ → List ℕ

@@ -9,9 +9,8 @@ ghost use Rattle.model.specs.Limits.{mostTables, mostViews, mostPartitions};
 ghost use Rattle.model.specs.Value.{unusedTerm};
 ghost use Rattle.validity.specs.Loadable.{Loadable};
 ghost use Rattle.validity.specs.Parts.{WidthPlace, TablesOf, ViewPlace, ViewsHeld, GrantPlace, PartitionsHeld};
-ghost use Rattle.validity.specs.Entries.{markLimits, WidthFor, TermsFor, Entering};
+ghost use Rattle.validity.specs.Entries.{WidthFor, TermsFor, Entering};
 use model::HIDDEN;
-use model::LAST_VARIABLE;
 use model::Line;
 use model::MOST_COLUMNS;
 use model::MOST_PARTITIONS;
@@ -22,7 +21,6 @@ use model::SHOWN;
 use model::Tables;
 use model::Term;
 use model::UNUSED;
-use text::CONSTANT_LIMIT;
 
 pub fn valid(p: Policy) -> bool
     ensures { λ r. ⌜ (r ≡ true) ↔ Loadable p ⌝ }
@@ -79,13 +77,9 @@ fn valid_width(used: bool, w: u64) -> bool
 // How many marks there are, the unused one among them.
 const MARKS: usize = 4;
 
-// The largest number of each mark. A used term with no mark passes as number 0, and is found out once the columns are done.
-const LIMITS: [u64; MARKS] = [0, CONSTANT_LIMIT, LAST_VARIABLE, LAST_VARIABLE];
-
 // The width that stands for a wrong table.
 const WRONG_WIDTH: u64 = MOST_COLUMNS as u64 + 1;
 
-// The limits are lent: a constant that is indexed would be made anew at each use.
 fn valid_views(p: Policy) -> bool
     requires { ⌜ p .tables .count ≤ mostTables ⌝ }
     ensures { λ r. ⌜ ((widths : List ℕ) → TablesOf widths (p .tables) → (r ≡ true) ↔ ViewsHeld widths (p .«view_count») (p .views)) ⌝ }
@@ -97,11 +91,10 @@ fn valid_views(p: Policy) -> bool
     let t = p.tables;
     let count = t.count;
     let columns = t.columns;
-    let limits = LIMITS;
     let mut i = 0;
     while i < MOST_VIEWS {
         let l = p.views[i];
-        if !valid_view(i < n, count, &columns, l, &limits) {
+        if !valid_view(i < n, count, &columns, l) {
             return false;
         }
         i += 1;
@@ -110,14 +103,8 @@ fn valid_views(p: Policy) -> bool
 }
 
 // A view, or an unused line behind the last: a line of no table with no columns used.
-fn valid_view(
-    used: bool,
-    count: usize,
-    columns: &[u64; MOST_TABLES],
-    l: Line,
-    limits: &[u64; MARKS],
-) -> bool
-    requires { ⌜ (count ≤ mostTables) × (now limits ≡ markLimits) ⌝ }
+fn valid_view(used: bool, count: usize, columns: &[u64; MOST_TABLES], l: Line) -> bool
+    requires { ⌜ count ≤ mostTables ⌝ }
     ensures { λ r. ⌜ ((widths : List ℕ) → TablesOf widths (record { count = count; columns = now (columns .entry) })
         → (r ≡ true) ↔ ViewPlace widths used l) ⌝ }
 {
@@ -125,7 +112,7 @@ fn valid_view(
     if (MOST_COLUMNS as u64) < w {
         return false;
     }
-    valid_terms(w, l, limits)
+    valid_terms(w, l)
 }
 
 // The columns of a line's table; none behind the last view, where there must be no table.
@@ -149,15 +136,15 @@ fn width_for(used: bool, count: usize, columns: &[u64; MOST_TABLES], table: u64)
     columns[at]
 }
 
-fn valid_terms(w: u64, l: Line, limits: &[u64; MARKS]) -> bool
-    requires { ⌜ now limits ≡ markLimits ⌝ }
+// A used term with no mark is found out once the columns are done: its number stands in the word of the unused mark.
+fn valid_terms(w: u64, l: Line) -> bool
     ensures { λ r. ⌜ (r ≡ true) ↔ TermsFor w (l .terms) ⌝ }
 {
     let mut by: [u64; MARKS] = [0; MARKS];
     let mut i = 0;
     while i < MOST_COLUMNS {
         let t = l.terms[i];
-        if !enter_term((i as u64) < w, t, limits, &mut by) {
+        if !enter_term((i as u64) < w, t, &mut by) {
             return false;
         }
         i += 1;
@@ -169,27 +156,25 @@ fn valid_terms(w: u64, l: Line, limits: &[u64; MARKS]) -> bool
 }
 
 // A used term, entered under its mark, or an unused one behind the columns.
-fn enter_term(used: bool, t: Term, limits: &[u64; MARKS], by: &mut [u64; MARKS]) -> bool
-    requires { ⌜ now limits ≡ markLimits ⌝ }
+fn enter_term(used: bool, t: Term, by: &mut [u64; MARKS]) -> bool
     ensures { λ r. ⌜ Entering used t (now (by .entry)) (now (by .exit)) r ⌝ }
 {
     if used {
-        return enter_used(t, limits, by);
+        return enter_used(t, by);
     }
     unused_term(t)
 }
 
-fn enter_used(t: Term, limits: &[u64; MARKS], by: &mut [u64; MARKS]) -> bool
-    requires { ⌜ now limits ≡ markLimits ⌝ }
+fn enter_used(t: Term, by: &mut [u64; MARKS]) -> bool
     ensures { λ r. ⌜ Entering true t (now (by .entry)) (now (by .exit)) r ⌝ }
 {
     if HIDDEN < t.mark {
         return false;
     }
-    let m = t.mark as usize;
-    if limits[m] < t.number {
+    if !model::within(t.mark, t.number) {
         return false;
     }
+    let m = t.mark as usize;
     by[m] = words::set_bit(by[m], t.number % words::BITS);
     true
 }

@@ -1,19 +1,20 @@
 -- The loop's invariant: the bytes read are digits, and stand for the value.
 use mathlib.Core.Path.{_≡_, sym, ap, _∙_}
-use mathlib.Core.Bool.{true, not}
-use Prim.Native.Nat.{_-_}
+use mathlib.Core.Bool.{not}
+use mathlib.Core.List.{List}
+use Prim.Native.Nat.{ℕ, _-_, _≤_}
 use native.Mathlib.Omega.{arith}
+use borrow.Author.Needs.{needs}
 use lib.ListN.{length}
-use Rattle.text.specs.Numeral.{constantLimit, leads}
-use Rattle.text.proofs.Numerals.{Digits, digits-none, digits-more, digits-broken, digits-all, digits-fit, digit-taken, digit-broken, no-byte, too-long, badly-led, no-digit, large, valued}
+use Rattle.text.proofs.Numerals.{Digits, digits-none, digits-more, digits-broken, digits-all, digits-fit, digit-taken, digit-broken, no-byte, too-long, badly-led, no-digit, valued}
 use Rattle.text.proofs.read_numeral.Statement.{statement}
 use Rattle.text.proofs.read_numeral.Tie as tie
 
 abbrev Inv-loop : tie.InvT-loop
-Inv-loop field n value₀ i₀ value i = Digits field value i
+Inv-loop field n last value₀ i₀ value i = (i ≤ last) × Digits field value i
 
 abbrev μ-loop : tie.MeasureT-loop
-μ-loop field n value₀ i₀ value i = length field - i
+μ-loop field n last value₀ i₀ value i = last - i
 
 returns : tie.Need-returns Inv-loop μ-loop
 returns c = no-byte _ (c .if1 .taken)
@@ -27,8 +28,13 @@ leading-zero-requires c κs = tt
 returns-3 : tie.Need-returns-3 Inv-loop μ-loop
 returns-3 c = badly-led _ (sym (c .before .leading-zero .ensures (omega arith)) ∙ ap not (c .if3 .taken))
 
+sub-last : tie.Need-sub-last Inv-loop μ-loop
+sub-last c = omega arith
+
+-- ---- the digits before the last
+
 loop-holds : tie.Need-loop-holds Inv-loop μ-loop
-loop-holds c = digits-none _
+loop-holds c = (omega arith, digits-none _)
 
 shared-slice-read-digit : tie.Need-shared-slice-read-digit Inv-loop μ-loop
 shared-slice-read-digit c = omega arith
@@ -39,14 +45,14 @@ digit-requires c κs = tt
 returns-4 : tie.Need-returns-4 Inv-loop μ-loop
 returns-4 c =
     no-digit _
-    (digits-broken (c .before .before .before .before .loop .inv) (omega arith)
+    (digits-broken (c .before .before .before .before .loop .inv .1) (omega arith)
     (digit-broken _ _ (c .before .digit .ensures .1) (omega arith)))
 
 mul-value : tie.Need-mul-value Inv-loop μ-loop
-mul-value c = omega (arith, digits-fit (c .before .before .before .before .loop .inv) (omega arith))
+mul-value c = omega (arith, digits-fit (c .before .before .before .before .loop .inv .1) (omega arith))
 
 add-value : tie.Need-add-value Inv-loop μ-loop
-add-value c = omega (arith, digits-fit (c .before .before .before .before .loop .inv) (omega arith))
+add-value c = omega (arith, digits-fit (c .before .before .before .before .loop .inv .1) (omega arith))
 
 add-i : tie.Need-add-i Inv-loop μ-loop
 add-i c = omega arith
@@ -55,22 +61,47 @@ loop-less : tie.Need-loop-less Inv-loop μ-loop
 loop-less c = omega arith
 
 loop-again : tie.Need-loop-again Inv-loop μ-loop
-loop-again c =
-    digits-more (c .before .before .before .before .loop .inv) (omega arith) (omega arith)
-    (digit-taken _ _ (c .before .digit .ensures .0) (c .before .digit .ensures .1) (omega arith))
+loop-again c = (
+  omega arith,
+  digits-more (c .before .before .before .before .loop .inv .1) (omega arith) (omega arith)
+      (digit-taken _ _ (c .before .digit .ensures .0) (c .before .digit .ensures .1) (omega arith)),
+)
 
--- the first digit leads well
-led : (c : tie.After-loop Inv-loop μ-loop) → leads (c .before .before .before .before .before .before .before .args .field .now) ≡ true
-led c =
-    sym (c .before .before .before .leading-zero .ensures (omega arith)) ∙ ap not (c .before .before .if3 .left)
+-- ---- the last
+
+abbrev bytes : tie.After-digit2 Inv-loop μ-loop → List ℕ
+bytes c = c .before .before .before .before .before .before .before .before .before .args .field .now
+
+shared-slice-read-digit-2 : tie.Need-shared-slice-read-digit-2 Inv-loop μ-loop
+shared-slice-read-digit-2 c = omega arith
+
+digit-requires-2 : tie.Need-digit-requires-2 Inv-loop μ-loop
+digit-requires-2 c κs = tt
+
+before-last : (c : tie.After-digit2 Inv-loop μ-loop) → Digits (bytes c) (c .before .before .before .loop .value) (length (bytes c) - 1)
+before-last c =
+    let loop = c .before .before .before .loop in
+    let last : loop .i ≡ length (bytes c) - 1 = omega (arith, loop .inv .0, c .before .before .loop-test .left) in
+    rw last at (loop .inv .1)
 
 returns-5 : tie.Need-returns-5 Inv-loop μ-loop
-unfolding constantLimit
-returns-5 c = large _ _ (led (c .before)) (omega arith) (digits-all (c .before .before .loop .inv) (omega arith)) (omega arith)
+returns-5 c =
+    no-digit _
+    (digits-broken (before-last (c .before)) (omega arith) (digit-broken _ _ (c .before .digit2 .ensures .1) (omega arith)))
+
+with-digit-requires : tie.Need-with-digit-requires Inv-loop μ-loop
+with-digit-requires c = search needs
 
 returns-6 : tie.Need-returns-6 Inv-loop μ-loop
-unfolding constantLimit
-returns-6 c = valued _ _ (led (c .before)) (omega arith) (digits-all (c .before .before .loop .inv) (omega arith)) (omega arith)
+returns-6 c =
+    let digit = c .before .before in
+    let three = digit .before .before .before .before in
+    c .with-digit .ensures
+    ∙ valued (bytes digit) _ (sym (three .before .leading-zero .ensures (omega arith)) ∙ ap not (three .if3 .left)) (omega arith)
+    (digits-all
+    (digits-more (before-last digit) (omega arith) (omega arith)
+    (digit-taken _ _ (digit .digit2 .ensures .0) (digit .digit2 .ensures .1) (omega arith)))
+    (omega arith))
 
 pub read-numeral-spec : {M : Type 1} → statement M
 read-numeral-spec =
@@ -82,6 +113,7 @@ read-numeral-spec =
     returns-2
     leading-zero-requires
     returns-3
+    sub-last
     loop-holds
     shared-slice-read-digit
     digit-requires
@@ -91,5 +123,8 @@ read-numeral-spec =
     add-i
     loop-less
     loop-again
+    shared-slice-read-digit-2
+    digit-requires-2
     returns-5
+    with-digit-requires
     returns-6)

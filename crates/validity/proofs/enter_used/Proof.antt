@@ -1,9 +1,11 @@
 -- `enter_used`: the mark is one of the marks, the number is within its limit, and then its bit is set.
-use mathlib.Core.Path.{refl}
-use mathlib.Core.Bool.{true}
+use mathlib.Core.Path.{refl, sym, _∙_}
+use mathlib.Core.Bool.{true, false≢true}
 use native.Mathlib.Omega.{arith}
 use borrow.Author.Needs.{needs}
+use borrow.Author.Tests.{not-true, not-false}
 use Rattle.words.proofs.Answers.{yes-iff}
+use Rattle.text.specs.Numeral.{constantLimit}
 use Rattle.validity.specs.Entries.{entered}
 use Rattle.validity.proofs.Entries.{not-entering}
 use Rattle.validity.proofs.enter_used.Statement.{statement}
@@ -12,15 +14,11 @@ use Rattle.validity.proofs.enter_used.Tie as tie
 returns : tie.Need-returns
 returns c = not-entering true _ _ (λ w. omega (arith, w .marked, c .if1 .taken))
 
-mul-if2 : tie.Need-mul-if2
-mul-if2 c = search needs
-
-element-copy-out-if2 : tie.Need-element-copy-out-if2
-element-copy-out-if2 c = search needs
+within-requires : tie.Need-within-requires
+within-requires c κs = search needs
 
 returns-2 : tie.Need-returns-2
-returns-2 c =
-    not-entering true _ _ (λ w. omega (arith, rw (← (c .before .before .before .before .before .pre)) at (w .small), c .if2 .taken))
+returns-2 c = not-entering true _ _ (λ w. false≢true (sym (not-true _ (c .if2 .taken)) ∙ c .before .within .ensures ∙ w .small))
 
 mul-set-bit : tie.Need-mul-set-bit
 mul-set-bit c = search needs
@@ -38,16 +36,17 @@ element-write-by : tie.Need-element-write-by
 element-write-by c = search needs
 
 returns-3 : tie.Need-returns-3
-unfolding entered
+unfolding entered constantLimit
 returns-3 c =
-    let known = c .before .before .before in
-    let small = known .before .before in
+    let two = c .before .before .before in
+    let one = two .before .before in
     record {
       right =
           yes-iff
           (record {
-            marked = omega (arith, small .before .if1 .left);
-            small = rw (← (small .before .before .before .pre)) (known .if2 .left);
+            marked = omega (arith, one .if1 .left);
+            most = omega (arith, one .before .struct-known .given);
+            small = sym (two .before .within .ensures) ∙ not-false _ (two .if2 .left);
           });
       done = λ e. rw (← (c .set-bit .ensures)) refl;
     }
@@ -57,8 +56,7 @@ enter-used-spec =
     tie.close
     (tie.spec
     returns
-    mul-if2
-    element-copy-out-if2
+    within-requires
     returns-2
     mul-set-bit
     element-copy-out-set-bit

@@ -12,10 +12,10 @@ use Rattle.validity.proofs.valid_terms.Statement.{statement}
 use Rattle.validity.proofs.valid_terms.Tie as tie
 
 abbrev Inv-loop : tie.InvT-loop
-Inv-loop w limits l by₀ i₀ by i = Looked w (l .terms) by i
+Inv-loop w l by₀ i₀ by i = Looked w (l .terms) by i
 
 abbrev μ-loop : tie.MeasureT-loop
-μ-loop w limits l by₀ i₀ by i = mostColumns - i
+μ-loop w l by₀ i₀ by i = mostColumns - i
 
 loop-holds : tie.Need-loop-holds Inv-loop μ-loop
 loop-holds c = looked-none (c .args .w) (c .args .t2 .terms)
@@ -27,7 +27,7 @@ element-copy-out-t : tie.Need-element-copy-out-t Inv-loop μ-loop
 element-copy-out-t c = search needs
 
 enter-term-requires : tie.Need-enter-term-requires Inv-loop μ-loop
-enter-term-requires c κs = c .before .before .before .before .pre
+enter-term-requires c κs = search needs
 
 returns : tie.Need-returns Inv-loop μ-loop
 unfolding unusedTerm

@@ -8,7 +8,6 @@ use lib.Dec.{ltb}
 use lib.ListN.{getD}
 use Rattle.model.specs.Limits.{mostViews}
 use Rattle.validity.specs.Parts.{TablesOf, ViewPlace}
-use Rattle.validity.specs.Entries.{markLimits}
 use Rattle.words.proofs.Answers.{yes-iff, no-iff, passes, fails}
 use Rattle.model.proofs.Values.{mapped-long}
 use Rattle.validity.proofs.Views.{noLine, views-checked, checked-views}
@@ -16,12 +15,12 @@ use Rattle.validity.proofs.valid_views.Statement.{statement}
 use Rattle.validity.proofs.valid_views.Tie as tie
 
 abbrev Inv-loop : tie.InvT-loop
-Inv-loop p n count columns limits i₀ i =
+Inv-loop p n count columns i₀ i =
     (widths : List ℕ) → TablesOf widths (p .tables) → (k : ℕ) → k < i
     → ViewPlace widths (ltb k (p .«view_count»)) (getD (p .views) k noLine)
 
 abbrev μ-loop : tie.MeasureT-loop
-μ-loop p n count columns limits i₀ i = mostViews - i
+μ-loop p n count columns i₀ i = mostViews - i
 
 counted-requires : tie.Need-counted-requires Inv-loop μ-loop
 counted-requires c κs = tt
@@ -40,14 +39,13 @@ element-copy-out-l : tie.Need-element-copy-out-l Inv-loop μ-loop
 element-copy-out-l c = search needs
 
 valid-view-requires : tie.Need-valid-view-requires Inv-loop μ-loop
-unfolding markLimits
 valid-view-requires c κs = search needs
 
 returns-2 : tie.Need-returns-2 Inv-loop μ-loop
 returns-2 c widths tables =
     no-iff (λ h.
     fails (c .before .valid-view .ensures widths tables) (c .if2 .taken)
-    (views-checked widths _ _ h .places _ (c .before .before .before .before .before .loop-test .taken)))
+    (views-checked widths _ _ h .places _ (c .before .before .before .before .loop-test .taken)))
 
 add-i : tie.Need-add-i Inv-loop μ-loop
 add-i c = omega arith
@@ -57,7 +55,7 @@ loop-less c = omega arith
 
 loop-again : tie.Need-loop-again Inv-loop μ-loop
 loop-again c widths tables =
-    below-more _ _ (c .before .before .before .before .before .before .loop .inv widths tables)
+    below-more _ _ (c .before .before .before .before .before .loop .inv widths tables)
     (passes (c .before .valid-view .ensures widths tables) (c .if2 .left))
 
 returns-3 : tie.Need-returns-3 Inv-loop μ-loop

@@ -1,6 +1,7 @@
--- The loop's invariant: digits stand from the place on, and stand for the value.
+-- The loop's invariant: digits stand from the place on, fewer than a numeral may have, and stand for the value.
 use mathlib.Core.Path.{_≡_}
-use Prim.Native.Nat.{ℕ, suc, _+_, _-_, _^_, _≤_, _<_}
+use mathlib.Core.List.{List}
+use Prim.Native.Nat.{ℕ, suc, _+_, _-_, _*_, _^_, _≤_, _<_}
 use native.Mathlib.Nat.{pow-suc, pow-le-pow-right}
 use native.Mathlib.Omega.{arith}
 use borrow.Author.Needs.{needs}
@@ -14,7 +15,7 @@ use Rattle.scan.proofs.numbers.number_at.Statement.{statement}
 use Rattle.scan.proofs.numbers.number_at.Tie as tie
 
 abbrev Inv-loop : tie.InvT-loop
-Inv-loop text at value₀ i₀ value i = DigitsBetween text at i value × (value < 10 ^ (i - at))
+Inv-loop text at value₀ i₀ value i = DigitsBetween text at i value × (i < at + mostDigits) × (value < 10 ^ (i - at))
 
 abbrev μ-loop : tie.MeasureT-loop
 μ-loop text at value₀ i₀ value i = length text - i
@@ -23,7 +24,7 @@ loop-holds : tie.Need-loop-holds Inv-loop μ-loop
 loop-holds c =
     let at = c .before .args .at in
     let none : at - at ≡ 0 = omega arith in
-    (no-digits at (c .before .pre .within), rw none (lit< tt))
+    (no-digits at (c .before .pre .within), omega arith, rw none (lit< tt))
 
 shared-slice-read-digit : tie.Need-shared-slice-read-digit Inv-loop μ-loop
 shared-slice-read-digit c = omega arith
@@ -41,27 +42,39 @@ returns c = c .numeral-between .ensures
 add-if2 : tie.Need-add-if2 Inv-loop μ-loop
 add-if2 c = let l = c .before .before .before .before in omega (arith, l .before .before .pre)
 
-no-number-requires : tie.Need-no-number-requires Inv-loop μ-loop
-no-number-requires c κs = search needs
+-- ---- one digit more
 
-returns-2 : tie.Need-returns-2 Inv-loop μ-loop
-returns-2 c some = absurd (some (c .no-number .ensures))
+abbrev turn : tie.Else1 Inv-loop μ-loop → tie.At-loop Inv-loop μ-loop
+turn c = c .before .before .before .before
 
-abbrev turn : tie.Else2 Inv-loop μ-loop → tie.At-loop Inv-loop μ-loop
-turn c = c .before .before .before .before .before
+abbrev bytes : tie.Else1 Inv-loop μ-loop → List ℕ
+bytes c = turn c .before .before .args .text .now
 
-abbrev place : tie.Else2 Inv-loop μ-loop → ℕ
+abbrev place : tie.Else1 Inv-loop μ-loop → ℕ
 place c = turn c .before .before .args .at
 
--- there is room for one digit more
-room : (c : tie.Else2 Inv-loop μ-loop) → (place c ≤ turn c .loop .i) × (turn c .loop .i < place c + mostDigits)
-room c =
-    let r = turn c .loop .inv .0 in (omega (arith, r .there .long), omega (arith, r .there .long, r .few, c .if2 .left))
+more : (c : tie.Else1 Inv-loop μ-loop)
+    → DigitsBetween (bytes c) (place c) (turn c .loop .i + 1) (turn c .loop .value * 10 + c .before .digit .result)
+more c =
+    let d = c .before .digit .ensures in
+    more-digits (turn c .loop .inv .0) (omega arith) (turn c .loop .inv .1) (digit-taken _ _ (d .0) (d .1) (omega arith))
 
-small : (c : tie.Else2 Inv-loop μ-loop) → turn c .loop .value < 10 ^ mostDigits
+add-numeral-with : tie.Need-add-numeral-with Inv-loop μ-loop
+add-numeral-with c = omega arith
+
+numeral-with-requires : tie.Need-numeral-with-requires Inv-loop μ-loop
+numeral-with-requires c κs = (turn (c .before) .before .before .pre .short, (omega arith, more (c .before)))
+
+returns-2 : tie.Need-returns-2 Inv-loop μ-loop
+returns-2 c = c .numeral-with .ensures
+
+-- ---- behind fewer digits than come before the last
+
+small : (c : tie.Else2 Inv-loop μ-loop) → turn (c .before) .loop .value < 10 ^ 18
 small c =
-    let l : turn c .loop .i - place c ≤ mostDigits = omega (arith, room c) in
-    omega (arith, turn c .loop .inv .1, pow-le-pow-right {n = 10} (lit< tt) l)
+    let l = turn (c .before) .loop in
+    let few : l .i - place (c .before) ≤ 18 = omega (arith, l .inv .0 .there .long, l .inv .1, c .if2 .left) in
+    omega (arith, l .inv .2, pow-le-pow-right {n = 10} (lit< tt) few)
 
 mul-value : tie.Need-mul-value Inv-loop μ-loop
 mul-value c = omega (arith, small c)
@@ -77,17 +90,19 @@ loop-less c = omega arith
 
 loop-again : tie.Need-loop-again Inv-loop μ-loop
 loop-again c =
-    let d = c .before .before .digit .ensures in
-    let long : turn c .loop .i + 1 - place c ≡ suc (turn c .loop .i - place c) = omega (arith, room c) in (
-      more-digits (turn c .loop .inv .0) (omega arith) (room c .1) (digit-taken _ _ (d .0) (d .1) (omega arith)),
-      rw (long, pow-suc) (omega (arith, turn c .loop .inv .1)),
+    let l = turn (c .before) .loop in
+    let at = place (c .before) in
+    let long : l .i + 1 - at ≡ suc (l .i - at) = omega (arith, l .inv .0 .there .long) in (
+      more (c .before),
+      omega (arith, l .inv .1, c .if2 .left),
+      rw (long, pow-suc) (omega (arith, l .inv .2)),
     )
 
-no-number-requires-2 : tie.Need-no-number-requires-2 Inv-loop μ-loop
-no-number-requires-2 c κs = search needs
+no-number-requires : tie.Need-no-number-requires Inv-loop μ-loop
+no-number-requires c κs = search needs
 
 returns-3 : tie.Need-returns-3 Inv-loop μ-loop
-returns-3 c some = absurd (some (c .no-number2 .ensures))
+returns-3 c some = absurd (some (c .no-number .ensures))
 
 pub number-at-spec : {M : Type 1} → statement M
 number-at-spec =
@@ -101,12 +116,13 @@ number-at-spec =
     numeral-between-requires
     returns
     add-if2
-    no-number-requires
+    add-numeral-with
+    numeral-with-requires
     returns-2
     mul-value
     add-value
     add-i
     loop-less
     loop-again
-    no-number-requires-2
+    no-number-requires
     returns-3)

@@ -1,6 +1,8 @@
 -- One digit alone, or the first is not 0.
+use Prim.Native.Nat.{_≤_}
 use native.Mathlib.Omega.{arith}
 use borrow.Author.Needs.{needs}
+use Rattle.text.specs.Numeral.{constantLimit}
 use Rattle.scan.proofs.Digits.{one-digit, many-digits}
 use Rattle.scan.proofs.numbers.numeral_between.Statement.{statement}
 use Rattle.scan.proofs.numbers.numeral_between.Tie as tie
@@ -14,8 +16,13 @@ returns c some = absurd (some (c .no-number .ensures))
 add-if2 : tie.Need-add-if2
 add-if2 c = omega (arith, c .before .before .pre .0, c .before .before .pre .1 .there)
 
+-- a word of 64 bits is not past every limit
+small : (c : tie.Start) → c .args .value ≤ constantLimit
+unfolding constantLimit
+small c = omega (arith, c .fits .value)
+
 returns-2 : tie.Need-returns-2
-returns-2 c some = one-digit (c .before .before .before .pre .1) (c .if2 .taken)
+returns-2 c some = one-digit (c .before .before .before .pre .1) (small (c .before .before .before)) (c .if2 .taken)
 
 shared-slice-read-if3 : tie.Need-shared-slice-read-if3
 shared-slice-read-if3 c = omega (arith, c .before .before .before .before .pre .1 .there)
@@ -29,7 +36,7 @@ returns-3 c some = absurd (some (c .no-number2 .ensures))
 returns-4 : tie.Need-returns-4
 returns-4 c some =
     let d = c .before .before in
-    many-digits (d .before .before .before .pre .1) (d .before .if1 .left) (d .if2 .left) (c .if3 .left)
+    many-digits (d .before .before .before .pre .1) (small (d .before .before .before)) (d .before .if1 .left) (d .if2 .left) (c .if3 .left)
 
 pub numeral-between-spec : {M : Type 1} → statement M
 numeral-between-spec =

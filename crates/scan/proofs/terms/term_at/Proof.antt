@@ -1,5 +1,7 @@
 -- A space, a mark, and a numeral within the limit of that mark.
+use mathlib.Core.Path.{sym, _∙_}
 use native.Mathlib.Omega.{arith}
+use borrow.Author.Tests.{not-false}
 use Rattle.scan.proofs.TermBytes.{term-there}
 use borrow.Author.Needs.{needs}
 use Rattle.scan.proofs.terms.term_at.Statement.{statement}
@@ -50,8 +52,8 @@ no-term-requires-4 c κs = search needs
 returns-4 : tie.Need-returns-4
 returns-4 c some = absurd (some (c .no-term4 .ensures))
 
-limit-of-requires : tie.Need-limit-of-requires
-limit-of-requires c κs = search needs
+within-requires : tie.Need-within-requires
+within-requires c κs = search needs
 
 no-term-requires-5 : tie.Need-no-term-requires-5
 no-term-requires-5 c κs = search needs
@@ -61,12 +63,12 @@ returns-5 c some = absurd (some (c .no-term5 .ensures))
 
 returns-6 : tie.Need-returns-6
 returns-6 c some =
-    let l = c .before .before in
+    let l = c .before in
     let n = l .before .before .before in
     let m = n .before .before in
     let d = m .before .before in
     term-there _ _ _ (omega arith) (d .if2 .left) (m .mark-of .ensures) (n .before .if3 .left) (n .number-at .ensures some)
-    (rw (l .limit-of .ensures) at (c .if5 .left))
+    (sym (l .within .ensures) ∙ not-false _ (c .if5 .left))
 
 pub term-at-spec : {M : Type 1} → statement M
 term-at-spec =
@@ -87,7 +89,7 @@ term-at-spec =
     number-at-requires
     no-term-requires-4
     returns-4
-    limit-of-requires
+    within-requires
     no-term-requires-5
     returns-5
     returns-6)
