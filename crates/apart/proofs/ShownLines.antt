@@ -9,10 +9,9 @@ use lib.ListN.{length, length-map}
 use Rattle.theory.specs.Query.{Term, constant, shown, hidden, over, Query, _∈_, Fits}
 use Rattle.theory.specs.Executable.Show.{showTerm, show}
 use Rattle.theory.specs.Executable.Reduce.{reduce}
-use Rattle.theory.specs.Executable.Test.{all}
 use Rattle.theory.proofs.Tuples.{getD-map, getD-mem, map-same}
-use Rattle.theory.proofs.Executable.Test.{and-iff, all-iff}
-use Rattle.model.specs.Limits.{mostColumns, lastVariable, upTo, mostTables, termWithin, lineWithin}
+use Rattle.model.specs.Limits.{mostColumns, lastVariable, termWithin}
+use Rattle.model.proofs.Limits.{line-within-iff}
 use Rattle.query_text.specs.WellRead.{WellRead}
 use Rattle.policy_text.specs.Declared.{Declared}
 use Rattle.entering.specs.Agree.{lineAt}
@@ -70,12 +69,11 @@ module _ {d : Declared} {Q : Query} {left : ℕ} {lines : List ℕ} (s : ShownIn
 
   module _ (well : WellRead (d .widths) Q) where
     term-within : (k : ℕ) → k < length Q → (t : Term) → t ∈ over (shownBy (s .word)) (lineAt Q k) .columns → T (termWithin t)
-    unfolding lineWithin
     term-within k h t m =
         let A = lineAt Q k in
         let (u, i, e) = Memᴰ·of-map (shownBy (s .word)) (A .columns) m in
-        let in-line = and-iff (upTo mostTables (A .table)) (all termWithin (A .columns)) .0 (well .within A (line-there Q k h)) .1 in
-        subst (λ (x : Term). T (termWithin x)) e (within-shown (s .word) u (all-iff termWithin (A .columns) .0 in-line u i))
+        let in-line = line-within-iff A .0 (well .within A (line-there Q k h)) .1 in
+        subst (λ (x : Term). T (termWithin x)) e (within-shown (s .word) u (in-line u i))
 
     has-line : (k : ℕ) → k < length Q → HasLine lines k (over (shownBy (s .word)) (lineAt Q k))
     unfolding termWithin

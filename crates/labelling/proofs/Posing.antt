@@ -9,14 +9,12 @@ use native.Mathlib.Nat.{le-refl}
 use Rattle.theory.specs.Query.{Query, hidden, over, _∈_}
 use Rattle.theory.specs.Query.{Line as TheLine}
 use Rattle.theory.specs.Reduce.{ReducesTo, done, take-out}
-use Rattle.theory.specs.Executable.Test.{all}
 use Rattle.theory.specs.Executable.Reduce.{reduce}
 use Rattle.theory.specs.Executable.Show.{showTerm, show}
 use Rattle.theory.specs.Executable.Label.{label, labels}
 use Rattle.theory.proofs.Lists.{length-without}
 use Rattle.theory.proofs.Executable.Reduce.{reduce-reduces}
-use Rattle.theory.proofs.Executable.Test.{and-iff, all-iff}
-use Rattle.model.specs.Limits.{mostTables, mostColumns, mostViews, mostPartitions, mostLines, lastVariable, upTo, termWithin, lineWithin}
+use Rattle.model.specs.Limits.{mostTables, mostColumns, mostViews, mostPartitions, mostLines, lastVariable, termWithin}
 use Rattle.model.specs.Value.{queryValue, tablesValue}
 use Rattle.model.specs.declared.Policy.{Policy}
 use Rattle.model.specs.declared.Tables.{Tables}
@@ -29,7 +27,7 @@ use Rattle.query_text.proofs.Accepted.{accepted-well-read}
 use Rattle.policy_text.specs.Declared.{Declared}
 use Rattle.policy_text.specs.WellFormed.{WellFormed}
 use Rattle.policy_text.specs.Policy.{grantsOf, policyValue}
-use Rattle.model.proofs.Limits.{up-to-iff}
+use Rattle.model.proofs.Limits.{up-to-iff, line-within-iff}
 use Rattle.policy_text.proofs.Grants.{grants-at}
 use Rattle.covering.specs.Views.{Holds}
 use Rattle.covering.specs.Prepared.{Prepared}
@@ -41,11 +39,8 @@ use Rattle.labelling.specs.Text.{LoadedTo}
 
 -- "variables 0 to 63"
 small-read : {widths : List ℕ} {Q : Query} → WellRead widths Q → Small Q
-unfolding lineWithin termWithin
-small-read w n A i m =
-    let terms = and-iff (upTo mostTables (A .table)) (all termWithin (A .columns)) .0 (w .within A i) .1 in
-    let t = all-iff termWithin (A .columns) .0 terms (hidden n) m in
-    omega (arith, leb→le n lastVariable t)
+unfolding termWithin
+small-read w n A i m = omega (arith, leb→le n lastVariable (line-within-iff A .0 (w .within A i) .1 (hidden n) m))
 
 pub tables-of : {p : Policy} {d : Declared} → LoadedTo p d → p .tables ≡ tablesValue (d .widths)
 unfolding policyValue

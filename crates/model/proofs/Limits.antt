@@ -1,7 +1,7 @@
 -- What the checks of a line say of it in the theory's terms.
 use mathlib.Core.Path.{_≡_, refl, sym, subst}
 use mathlib.Core.Logic.{_↔_, ⊎-elim}
-use mathlib.Core.Bool.{Bool, true, false, cond, not}
+use mathlib.Core.Bool.{Bool, true, false, cond, not, _&&_}
 use mathlib.Core.List.{List, [], _∷_, _++_, List·Memᴰ·head, List·Memᴰ·tail, List·Memᴰ·not-nil, List·Memᴰ·cases-cons, List·Memᴰ·append-cases, List·Memᴰ·eq-of-singleton}
 use Prim.Native.Nat.{ℕ, suc, _≤_}
 use native.Mathlib.Nat.{suc-ne-zero}
@@ -10,7 +10,7 @@ use lib.ListN.{length}
 use mir.Facts.{yes-eqb}
 use Rattle.theory.specs.Query.{Term, constant, shown, hidden, Line, _∈_, NoClash, Fits}
 use Rattle.theory.specs.Executable.Test.{all, any}
-use Rattle.theory.proofs.Executable.Test.{and-iff, any-iff, same-iff}
+use Rattle.theory.proofs.Executable.Test.{and-iff, all-iff, any-iff, same-iff}
 use Rattle.model.specs.Limits.{upTo, lineWithin, termWithin, mostTables}
 use Rattle.model.specs.Checks.{known, wide, opposite, clashing}
 
@@ -27,12 +27,25 @@ up-to-iff most n = (
   λ k. and-iff (leb 1 n) _ .1 (le→leb 1 n (k .0), le→leb n most (k .1)),
 )
 
+-- the same of a table's number and of what stands behind it
+pub within-iff : {X : Type 0} (f : X → Bool) (table : ℕ) (l : List X)
+    → T (upTo mostTables table && all f l) ↔ (((1 ≤ table) × (table ≤ mostTables)) × ((x : X) → x ∈ l → T (f x)))
+within-iff f table l =
+    let both = and-iff (upTo mostTables table) (all f l) in (
+      λ h. (up-to-iff mostTables table .0 (both .0 h .0), all-iff f l .0 (both .0 h .1)),
+      λ k. both .1 (up-to-iff mostTables table .1 (k .0), all-iff f l .1 (k .1)),
+    )
+
+pub line-within-iff : (A : Line)
+    → T (lineWithin A) ↔ (((1 ≤ A .table) × (A .table ≤ mostTables)) × ((t : Term) → t ∈ A .columns → T (termWithin t)))
+unfolding lineWithin
+line-within-iff A = within-iff termWithin (A .table) (A .columns)
+
 -- a line whose numbers are within their limits, whose table is declared and whose terms are as many as its columns fits
 pub checked-fits : (widths : List ℕ) (A : Line) → T (lineWithin A) → T (known widths A) → T (wide widths A) → Fits widths A
-unfolding lineWithin known wide
+unfolding known wide
 checked-fits widths A w k d =
-    let u = up-to-iff mostTables (A .table) .0 (and-iff (upTo mostTables (A .table)) (all termWithin (A .columns)) .0 w .0) in
-    record { first = u .0; last = leb→le (A .table) (length widths) k; width = eqb→eq _ _ d }
+    record { first = line-within-iff A .0 w .0 .0; last = leb→le (A .table) (length widths) k; width = eqb→eq _ _ d }
 
 -- a term with the other mark in the line or an earlier one is found
 clash-found : (earlier : List Line) (A B : Line) (t u : Term) → t ∈ A .columns → B ∈ A ∷ earlier → u ∈ B .columns → T (opposite t u)

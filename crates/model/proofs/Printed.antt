@@ -8,18 +8,17 @@ use native.Mathlib.Omega.{arith}
 use lib.Dec.{T, leb→le}
 use lib.ListN.{length, length-map}
 use Rattle.theory.specs.Query.{Term, constant, shown, hidden, Line, _∈_}
-use Rattle.theory.specs.Executable.Test.{all}
-use Rattle.theory.proofs.Executable.Test.{and-iff, all-iff}
 use Rattle.text.specs.Lines.{fields}
 use Rattle.text.specs.Numeral.{constantLimit, mostDigits, numeral}
 use Rattle.text.specs.Print.{decimal}
 use Rattle.text.proofs.Each.{Each, each-nil, each-cons, each-map}
 use Rattle.text.proofs.Decimals.{decimal-short, numeral-decimal}
+use Rattle.text.proofs.Numerals.{limit-digits}
 use Rattle.text.proofs.Joined.{FieldByte, Clean, decimal-clean, fields-joined, Within, length-joined}
 use Rattle.model.specs.Fields.{constantByte, shownByte, hiddenByte, both, every, mapped, term, lineOfFields, queryLine, numbered, oneNumeral, tableLine, viewLine, partitionLine}
-use Rattle.model.specs.Limits.{mostColumns, mostTables, upTo, termWithin, lineWithin}
+use Rattle.model.specs.Limits.{mostColumns, termWithin, lineWithin}
 use Rattle.model.specs.Print.{printTerm, lineFields, printQueryLine, tableFields, partitionFields, printLine}
-use Rattle.model.proofs.Limits.{up-to-iff}
+use Rattle.model.proofs.Limits.{line-within-iff}
 
 -- ---- clean fields
 
@@ -51,20 +50,16 @@ partition-clean vs = each-map (Each FieldByte) decimal vs (λ v m. decimal-clean
 -- a line of which each number is printed as a numeral
 pub record Writable (A : Line) : Type 0 where
   pub table : A .table < 10 ^ mostDigits
-  pub terms : T (all termWithin (A .columns))
+  pub terms : (t : Term) → t ∈ A .columns → T (termWithin t)
 
 pub within-writable : (A : Line) → T (lineWithin A) → Writable A
-unfolding lineWithin
-within-writable A h =
-    let k = and-iff (upTo mostTables (A .table)) (all termWithin (A .columns)) .0 h in
-    let t = up-to-iff mostTables (A .table) .0 (k .0) in
-    record { table = omega arith; terms = k .1 }
+within-writable A h = let k = line-within-iff A .0 h in record { table = omega (arith, k .0 .1); terms = k .1 }
 
 -- ---- what the fields say
 
 term-printed : (t : Term) → T (termWithin t) → term (printTerm t) ≡ some t
-unfolding term printTerm mapped termWithin constantLimit
-term-printed (constant c) h = rw (numeral-decimal c (omega (arith, leb→le)))
+unfolding term printTerm mapped termWithin
+term-printed (constant c) h = rw (numeral-decimal c (limit-digits c (leb→le c constantLimit h)))
 term-printed (shown n) h = rw (numeral-decimal n (omega (arith, leb→le)))
 term-printed (hidden n) h = rw (numeral-decimal n (omega (arith, leb→le)))
 
@@ -80,13 +75,13 @@ line-of-printed : (A : Line) → Writable A → 1 ≤ length (A .columns) → li
 unfolding lineFields lineOfFields both
 line-of-printed A w h = go (A .columns) h (w .terms)
   where
-    go : (ts : List Term) → 1 ≤ length ts → T (all termWithin ts)
+    go : (ts : List Term) → 1 ≤ length ts → ((t : Term) → t ∈ ts → T (termWithin t))
         → lineOfFields (decimal (A .table) ∷ map printTerm ts) ≡ some (record { table = A .table; columns = ts })
     go [] k within = absurd (not-suc-le-zero k)
     go (u ∷ us) k within =
         rw (
           numeral-decimal (A .table) (w .table),
-          every-printed term printTerm (u ∷ us) (λ v m. term-printed v (all-iff termWithin (u ∷ us) .0 within v m)),
+          every-printed term printTerm (u ∷ us) (λ v m. term-printed v (within v m)),
         )
 
 pub query-line-printed : (A : Line) → Writable A → 1 ≤ length (A .columns) → queryLine (printQueryLine A) ≡ some A
@@ -139,8 +134,8 @@ abbrev pub viewLineBytes : ℕ
 viewLineBytes = termBytes + suc mostColumns * suc termBytes
 
 term-short : (t : Term) → T (termWithin t) → Within termBytes (printTerm t)
-unfolding printTerm termWithin constantLimit
-term-short (constant c) h = suc-le-suc (decimal-short c (omega (arith, leb→le)))
+unfolding printTerm termWithin
+term-short (constant c) h = suc-le-suc (decimal-short c (limit-digits c (leb→le c constantLimit h)))
 term-short (shown n) h = suc-le-suc (decimal-short n (omega (arith, leb→le)))
 term-short (hidden n) h = suc-le-suc (decimal-short n (omega (arith, leb→le)))
 
@@ -149,7 +144,7 @@ unfolding lineFields
 fields-short A w =
     each-cons (Within termBytes) (decimal (A .table)) (map printTerm (A .columns)) (le-step (decimal-short (A .table) (w .table)))
     (each-map (Within termBytes) printTerm (A .columns)
-    (λ t m. term-short t (all-iff termWithin (A .columns) .0 (w .terms) t m)))
+    (λ t m. term-short t (w .terms t m)))
 
 pub query-line-short : (A : Line) → Writable A → length (A .columns) ≤ mostColumns → Within queryLineBytes (printQueryLine A)
 unfolding printQueryLine lineFields

@@ -12,7 +12,7 @@ use borrow.Author.Tests.{leb-true, leb-false, lt-leb}
 use Rattle.theory.specs.Query.{Term, constant, shown, hidden}
 use Rattle.text.specs.Numeral.{numeral, constantLimit}
 use Rattle.text.specs.Value.{limited, numeralValue}
-use Rattle.text.proofs.Numerals.{low-within}
+use Rattle.text.proofs.Numerals.{word-within}
 use Rattle.text.specs.declared.Numeral.{Numeral}
 use Rattle.text.specs.declared.Numeral.the-variants.{Malformed, Large, Value}
 use Rattle.model.specs.declared.Field.{Field}
@@ -37,7 +37,7 @@ value-outside mark n e = rw e
 
 -- a number past every limit is past that of variables
 large : (n : ℕ) → leb n constantLimit ≡ false → leb n lastVariable ≡ false
-large n e = lt-leb n lastVariable (omega (arith, leb-false n constantLimit e, low-within lastVariable (lit< tt)))
+large n e = lt-leb n lastVariable (omega (arith, leb-false n constantLimit e, word-within lastVariable (lit< tt)))
 
 constant-read : (o : Option ℕ) → fieldValue (mapped constant o) ≡ marked 1 (limited o)
 unfolding fieldValue mapped limited termWithin termValue numberWithin

@@ -11,7 +11,7 @@ use lib.Dec.{leb, lit<}
 use borrow.Author.Tests.{le-leb, lt-leb, leb-true, leb-false}
 use Rattle.text.specs.Numeral.{constantLimit}
 use Rattle.text.specs.Value.{limited}
-use Rattle.text.proofs.Numerals.{low-within}
+use Rattle.text.proofs.Numerals.{word-within}
 use Rattle.text.specs.declared.Numeral.the-variants.{Malformed, Large, Value}
 use Rattle.text.specs.declared.Numeral.{Numeral}
 use Rattle.model.specs.Limits.{mostTables, mostColumns, mostViews, mostPartitions, upTo}
@@ -37,16 +37,16 @@ formed-some (some n) f = (n, refl)
 
 -- a most that is below the limit of constants
 pub tables-small : mostTables ≤ constantLimit
-tables-small = low-within mostTables (lit< tt)
+tables-small = word-within mostTables (lit< tt)
 
 pub columns-small : mostColumns ≤ constantLimit
-columns-small = low-within mostColumns (lit< tt)
+columns-small = word-within mostColumns (lit< tt)
 
 pub views-small : mostViews ≤ constantLimit
-views-small = low-within mostViews (lit< tt)
+views-small = word-within mostViews (lit< tt)
 
 pub partitions-small : mostPartitions ≤ constantLimit
-partitions-small = low-within mostPartitions (lit< tt)
+partitions-small = word-within mostPartitions (lit< tt)
 
 module _ (most : ℕ) (small : most ≤ constantLimit) (n : ℕ) where
   -- a large number is past the most

@@ -9,8 +9,8 @@ use lib.Bits.{bitOr}
 use lib.Dec.{T, leb→le}
 use lib.Ieee.Bits.{is-true}
 use Rattle.theory.specs.Query.{Term, constant, shown, hidden, Line, _∈_}
-use Rattle.theory.specs.Executable.Test.{all, any}
-use Rattle.theory.proofs.Executable.Test.{and-iff, all-iff, any-iff, same-iff, or-iff, same-test}
+use Rattle.theory.specs.Executable.Test.{any}
+use Rattle.theory.proofs.Executable.Test.{any-iff, same-iff, or-iff, same-test}
 use Rattle.words.specs.Bits.{bit}
 use Rattle.words.specs.Sets.{meet}
 use Rattle.words.proofs.Bits.{bit-zero}
@@ -18,10 +18,11 @@ use Rattle.words.proofs.Masks.{bit-or-iff}
 use Rattle.words.proofs.SetBits.{set-bit-iff}
 use Rattle.words.proofs.Tests.{meet-iff}
 use Rattle.words.proofs.Answers.{true-holds}
-use Rattle.model.specs.Limits.{lastVariable, mostTables, upTo, termWithin, lineWithin}
+use Rattle.model.specs.Limits.{lastVariable, termWithin, lineWithin}
 use Rattle.model.specs.Checks.{opposite, clashing}
 use Rattle.model.specs.Parsed.{withShown, withHidden, bitsOf}
 use Rattle.model.specs.Variables.{Bits, Marked}
+use Rattle.model.proofs.Limits.{line-within-iff}
 
 -- ---- the bits of a line
 
@@ -158,10 +159,6 @@ hidden-shown n = same-iff (shown n) (shown n) .1 refl
 -- ---- a line within its limits
 
 module _ (earlier : List Line) (A : Line) (within : T (lineWithin A)) where
-  each-within : (t : Term) → t ∈ A .columns → T (termWithin t)
-  unfolding lineWithin
-  each-within = all-iff termWithin (A .columns) .0 (and-iff (upTo mostTables (A .table)) (all termWithin (A .columns)) .0 within .1)
-
   -- its bits of one kind meet those of the other, of the line and the earlier ones, where a number is crossed
   meets-crossed : {mark other : ℕ → Term} {add add′ : ℕ → Term → ℕ} → Kind mark add → Kind other add′ → (word : ℕ) → Bits other earlier word
       → (meet 64 (bitsOf add 0 (A .columns)) (bitOr word (bitsOf add′ 0 (A .columns))) ≡ true) ↔ Crossed mark other earlier A
@@ -170,7 +167,7 @@ module _ (earlier : List Line) (A : Line) (within : T (lineWithin A)) where
       let m = meet-iff 64 (bitsOf add 0 ts) (bitOr word (bitsOf add′ 0 ts)) in
       let all-known = bits-in-front two earlier A word known in (
         λ e. let r = m .0 e in (r .0, bits-of one (r .0) ts .0 (r .2), all-known (r .0) (omega (arith, r .1)) .0 (r .3)),
-        λ r. let l = one .small (r .0) (each-within (mark (r .0)) (r .1)) in
+        λ r. let l = one .small (r .0) (line-within-iff A .0 within .1 (mark (r .0)) (r .1)) in
             m .1 (r .0, omega (arith, l), bits-of one (r .0) ts .1 (r .1), all-known (r .0) l .1 (r .2)),
       )
 

@@ -5,17 +5,15 @@ use mathlib.Core.List.{List}
 use mathlib.Core.Option.{Option, none, some}
 use Prim.Native.Nat.{ℕ, _≤_, _<_}
 use native.Mathlib.Omega.{arith}
-use lib.Dec.{leb, leb→le}
 use lib.ListN.{length}
 use borrow.Author.Tests.{le-leb, lt-leb, not-true, not-false}
 use Rattle.theory.specs.Query.{Line}
-use Rattle.theory.specs.Executable.Test.{all}
-use Rattle.theory.proofs.Executable.Test.{and-iff}
 use Rattle.words.proofs.Answers.{true-holds}
-use Rattle.model.specs.Limits.{mostTables, mostLines, upTo, termWithin, lineWithin}
+use Rattle.model.specs.Limits.{mostLines, lineWithin}
 use Rattle.model.specs.Checks.{firstFault, misfit}
 use Rattle.model.specs.Parsed.{blankValue, goodValue, parsedLine}
 use Rattle.model.specs.declared.Parsed.{Parsed}
+use Rattle.model.proofs.Limits.{line-within-iff}
 use Rattle.query_text.specs.Text.{fault}
 use Rattle.query_text.specs.Value.{LineTabled}
 
@@ -63,11 +61,8 @@ module _ (p : Parsed) (A : Line) (e : p ≡ parsedLine (some A)) where
   is-good o = e ∙ ap (λ (b : Bool). cond b (goodValue (A .table) (A .columns)) (blankValue true true)) (is-within o)
 
   pub is-tabled : LineTabled p
-  unfolding lineWithin upTo goodValue
-  is-tabled o =
-      let w = and-iff (upTo mostTables (A .table)) (all termWithin (A .columns)) .0 (true-holds (is-within o)) .0 in
-      let u = and-iff (leb 1 (A .table)) (leb (A .table) mostTables) .0 w in
-      rw (is-good o) (leb→le 1 (A .table) (u .0), leb→le (A .table) mostTables (u .1))
+  unfolding goodValue
+  is-tabled o = rw (is-good o) (line-within-iff A .0 (true-holds (is-within o)) .0)
 
 -- ---- the checks in their order
 

@@ -5,12 +5,10 @@ use mathlib.Core.Option.{Option, none, some}
 use Prim.Native.Nat.{_≤_}
 use lib.Dec.{T}
 use borrow.Author.Tests.{not-true, not-false}
-use Rattle.theory.specs.Executable.Test.{all}
-use Rattle.theory.proofs.Executable.Test.{and-iff}
-use Rattle.model.specs.Limits.{mostTables, upTo}
-use Rattle.model.proofs.Limits.{up-to-iff}
+use Rattle.model.specs.Limits.{mostTables}
 use Rattle.rules.specs.Rule.{Atom as TheAtom}
-use Rattle.rules.specs.Checks.{argWithin, atomWithin}
+use Rattle.rules.specs.Checks.{atomWithin}
+use Rattle.rules.proofs.Checked.{atom-within-iff}
 use Rattle.rule_text.specs.Atoms.{blankAtom, goodAtom, atomValue}
 use Rattle.rule_text.specs.declared.args.Atom.{Atom}
 
@@ -55,7 +53,5 @@ module _ (a : Atom) (x : TheAtom) (e : a ≡ atomValue (some x)) where
   is-good w = e ∙ rw w
 
   pub is-tabled : a .outside ≡ false → (1 ≤ a .table) × (a .table ≤ mostTables)
-  unfolding atomWithin goodAtom
-  is-tabled o =
-      let w = and-iff (upTo mostTables (x .table)) (all argWithin (x .args)) .0 (subst T (sym (is-within o)) tt) in
-      rw (is-good (is-within o)) (up-to-iff mostTables (x .table) .0 (w .0))
+  unfolding goodAtom
+  is-tabled o = rw (is-good (is-within o)) (atom-within-iff x .0 (subst T (sym (is-within o)) tt) .0)

@@ -1,5 +1,6 @@
 -- What the checks 7, 2, 4 and 5 leave of a body, whatever its terms become.
 use mathlib.Core.Path.{_≡_, refl, sym, subst, _∙_}
+use mathlib.Core.Logic.{_↔_}
 use mathlib.Core.Bool.{Bool, cond, not}
 use mathlib.Core.List.{List, map, Memᴰ·map, Memᴰ·of-map}
 use Prim.Native.Nat.{ℕ, suc, _≤_}
@@ -10,11 +11,11 @@ use mir.Facts.{T-not-not}
 use Rattle.theory.specs.Query.{Term, Line, _∈_}
 use Rattle.theory.specs.Archive.{AllFit}
 use Rattle.theory.specs.Executable.Test.{all}
-use Rattle.theory.proofs.Executable.Test.{and-iff, all-iff, all-map, all-same}
+use Rattle.theory.proofs.Executable.Test.{all-iff, all-map, all-same}
 use Rattle.model.specs.Limits.{mostTables, mostColumns, mostLines, upTo}
 use Rattle.model.specs.Checks.{known, wide, firstFault}
 use Rattle.model.proofs.FirstFault.{fault-before}
-use Rattle.model.proofs.Limits.{no-fault, up-to-iff}
+use Rattle.model.proofs.Limits.{no-fault, up-to-iff, within-iff}
 use Rattle.model.proofs.Values.{width-is}
 use Rattle.rules.specs.Rule.{Arg, Atom, Rule}
 use Rattle.rules.specs.Numbering.{termOf, lineOf, queryOf}
@@ -54,8 +55,14 @@ all-passed : {X : Type 0} (f : X → Bool) (l : List X) (n rest : ℕ) → cond 
     → ((x : X) → x ∈ l → T (f x)) × (rest ≡ 0)
 all-passed f l n rest e = let k = no-fault (not (all f l)) n rest e in (all-iff f l .0 (T-not-not (all f l) (k .0)), k .1)
 
+-- the test of an atom's numbers is the statement that its table and its terms are within their limits
+pub atom-within-iff : (a : Atom)
+    → T (atomWithin a) ↔ (((1 ≤ a .table) × (a .table ≤ mostTables)) × ((x : Arg) → x ∈ a .args → T (argWithin x)))
+unfolding atomWithin
+atom-within-iff a = within-iff argWithin (a .table) (a .args)
+
 pub body-checked : (widths : List ℕ) (f : Arg → Term) (atoms : List Atom) → bodyFaultBy widths f atoms ≡ 0 → BodyChecked widths f atoms
-unfolding firstFault lineOf known wide atomWithin
+unfolding firstFault lineOf known wide
 body-checked widths f atoms e =
     let a = no-fault (ltb mostLines (length atoms)) 6 _ e in
     let b = all-passed atomWithin atoms 1 _ (a .1) in
@@ -66,9 +73,8 @@ body-checked widths f atoms e =
       within = b .0;
       fits = λ A m.
           let (atom, i, q) = Memᴰ·of-map (lineOf f) atoms m in
-          let t = and-iff (upTo mostTables (atom .table)) (all argWithin (atom .args)) .0 (b .0 atom i) .0 in
           record {
-            first = subst (λ (B : Line). 1 ≤ B .table) q (up-to-iff mostTables (atom .table) .0 t .0);
+            first = subst (λ (B : Line). 1 ≤ B .table) q (atom-within-iff atom .0 (b .0 atom i) .0 .0);
             last = leb→le (A .table) (length widths) (c .0 A m);
             width = eqb→eq _ _ (d .0 A m);
           };

@@ -6,18 +6,18 @@ use Prim.Native.Nat.{ℕ, suc, _+_, _*_, _≤_}
 use native.Mathlib.Omega.{arith}
 use lib.Dec.{T, leb, le→leb}
 use lib.ListN.{length, length-append, length-map}
-use Rattle.theory.specs.Query.{shown, hidden, Line, _∈_, NoClash}
-use Rattle.theory.specs.Executable.Test.{all, kind, number as numberIn}
-use Rattle.theory.proofs.Executable.Test.{and-iff, all-iff, all-map}
-use Rattle.model.specs.Limits.{mostTables, mostColumns, lastVariable, upTo, termWithin, lineWithin}
+use Rattle.theory.specs.Query.{Term, shown, hidden, Line, _∈_, NoClash}
+use Rattle.theory.specs.Executable.Test.{kind, number as numberIn}
+use Rattle.model.specs.Limits.{mostColumns, lastVariable, upTo, termWithin, lineWithin}
+use Rattle.model.proofs.Limits.{line-within-iff}
 use Rattle.query_text.specs.Text.{accepted, read}
 use Rattle.query_text.specs.Print.{queryText}
 use Rattle.query_text.specs.WellRead.{WellRead}
 use Rattle.query_text.proofs.Printed.{well-read, text-reads}
 use Rattle.rules.specs.Rule.{Name, Arg, variable, number, Atom, Rule}
 use Rattle.rules.specs.Numbering.{bodyArgs, stands, firsts, names, numberOf, termOf, lineOf, queryOf}
-use Rattle.rules.specs.Checks.{argWithin, atomWithin, ruleFault}
-use Rattle.rules.proofs.Checked.{BodyChecked, rule-checked, narrow-atoms}
+use Rattle.rules.specs.Checks.{argWithin, ruleFault}
+use Rattle.rules.proofs.Checked.{BodyChecked, atom-within-iff, rule-checked, narrow-atoms}
 use Rattle.rules.proofs.Names.{stands-iff, body-name, place-below, place-one}
 
 -- ---- how many names a body can have
@@ -104,15 +104,15 @@ module _ (widths : List ℕ) (narrow : (n : ℕ) → n ∈ widths → T (upTo mo
       go false = low
 
   lines-within : BodyChecked widths (termOf r) (r .body) → (A : Line) → A ∈ queryOf r → T (lineWithin A)
-  unfolding queryOf lineOf lineWithin atomWithin
+  unfolding queryOf lineOf
   lines-within c A m =
       let (a, i, e) = Memᴰ·of-map (lineOf (termOf r)) (r .body) m in
-      let k = and-iff (upTo mostTables (a .table)) (all argWithin (a .args)) .0 (c .within a i) in
-      let args = all-iff argWithin (a .args) .0 (k .1) in
-      let terms = all-iff (λ t. termWithin (termOf r t)) (a .args) .1 (λ t j. arg-within (names-few c) a i t j (args t j)) in
-      subst (λ (B : Line). T (lineWithin B)) e
-      (and-iff (upTo mostTables (a .table)) (all termWithin (map (termOf r) (a .args))) .1
-      (k .0, subst T (sym (all-map termWithin (termOf r) (a .args))) terms))
+      let k = atom-within-iff a .0 (c .within a i) in
+      let term : (t : Term) → t ∈ map (termOf r) (a .args) → T (termWithin t) = λ t n.
+      let (x, j, q) = Memᴰ·of-map (termOf r) (a .args) n in
+      subst (λ (u : Term). T (termWithin u)) q (arg-within (names-few c) a i x j (k .1 x j))
+      in
+      subst (λ (B : Line). T (lineWithin B)) e (line-within-iff (lineOf (termOf r) a) .1 (k .0, term))
 
   pub rule-well-read : 1 ≤ length (r .body) → ruleFault widths r ≡ 0 → WellRead widths (queryOf r)
   unfolding queryOf

@@ -14,7 +14,7 @@ use Rattle.words.proofs.Answers.{true-holds}
 use Rattle.text.specs.Numeral.{mostDigits, constantLimit, isDigit, allDigits, leads, digitsAfter}
 use Rattle.text.specs.Print.{digit}
 use Rattle.text.proofs.Decimals.{after-last, decimal-one, decimal-more, numeral-iff}
-use Rattle.text.proofs.Numerals.{low-within, numeral-is, leads-alone, leads-others}
+use Rattle.text.proofs.Numerals.{word-within, numeral-is, leads-alone, leads-others}
 use Rattle.scan.specs.Places.{DigitsBetween, NumeralThere}
 use Rattle.scan.proofs.Places.{between-none, between-one, between-two, between-both, between-first}
 
@@ -68,7 +68,7 @@ module _ {text : List ℕ} where
     table-one =
         record {
           there = rw (decimal-one d (omega arith)) (between-one at (digit d) here is);
-          within = low-within d (omega arith);
+          within = word-within d (omega arith);
         }
 
     pub table-two : (e : ℕ) → e ≤ 9 → at + 1 < length text → getD text (at + 1) 0 ≡ digit e
@@ -80,7 +80,7 @@ module _ {text : List ℕ} where
           there =
               rw (decimal-more (d * 10 + e) (omega arith), tens, ones, decimal-one d (omega arith))
               (between-two at (digit d) (digit e) next is is′);
-          within = low-within (d * 10 + e) (omega arith);
+          within = word-within (d * 10 + e) (omega arith);
         }
 
 -- a byte of a value below 10 is that digit

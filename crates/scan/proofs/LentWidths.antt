@@ -7,11 +7,9 @@ use native.Mathlib.Omega.{arith}
 use lib.Dec.{T}
 use lib.ListN.{length, getD, List·getD-eq-default}
 use Rattle.theory.specs.Query.{Line, Fits}
-use Rattle.theory.specs.Executable.Test.{all}
-use Rattle.theory.proofs.Executable.Test.{and-iff}
 use Rattle.theory.proofs.Tuples.{getD-mem}
-use Rattle.model.specs.Limits.{mostTables, mostColumns, upTo, termWithin, lineWithin}
-use Rattle.model.proofs.Limits.{up-to-iff}
+use Rattle.model.specs.Limits.{mostTables, mostColumns, lineWithin}
+use Rattle.model.proofs.Limits.{up-to-iff, line-within-iff}
 use Rattle.scan.specs.Places.{WidthOf}
 use Rattle.scan.specs.Scanned.{Widths, SomeWidths}
 
@@ -50,10 +48,8 @@ pub record Suits (lent : List ℕ) (A : Line) : Type 0 where
   pub width : length (A .columns) ≡ getD lent (A .table) 0
 
 pub suits-fits : {lent widths : List ℕ} {A : Line} → Widths lent widths → Suits lent A → Fits widths A
-unfolding lineWithin
 suits-fits {A = A} w s =
-    let named = and-iff (upTo mostTables (A .table)) (all termWithin (A .columns)) .0 (s .within) .0 in
-    let (first, last) = up-to-iff mostTables (A .table) .0 named in
+    let (first, last) = line-within-iff A .0 (s .within) .0 in
     record {
       first = first;
       last = omega (arith, known w (A .table) first last (λ z. omega (arith, s .some, s .width)));

@@ -9,8 +9,7 @@ use lib.Dec.{leb→le}
 use lib.ListN.{length, getD, set, length-append, length-map, List·getD-append}
 use lib.Seq.{getD-append-seam, getD-set-same}
 use Rattle.theory.specs.Query.{Line, Query, shown, hidden, _∈_, NoClash}
-use Rattle.theory.specs.Executable.Test.{all}
-use Rattle.theory.proofs.Executable.Test.{and-iff, all-iff}
+use Rattle.theory.proofs.Executable.Test.{all-iff}
 use Rattle.words.specs.Sets.{meet}
 use Rattle.words.proofs.Tests.{meet-iff}
 use Rattle.text.specs.Lines.{newline}
@@ -18,7 +17,7 @@ use Rattle.text.specs.Names.{bytes, tableTerms}
 use Rattle.text.specs.Print.{endEach}
 use Rattle.text.proofs.Each.{each-last}
 use Rattle.text.proofs.Joined.{ended-parts}
-use Rattle.model.specs.Limits.{mostTables, mostColumns, mostLines, lastVariable, upTo, termWithin, lineWithin}
+use Rattle.model.specs.Limits.{mostTables, mostColumns, mostLines, lastVariable, termWithin}
 use Rattle.model.specs.Print.{printQueryLine}
 use Rattle.model.specs.Rows.{LaidAt, LaidInto}
 use Rattle.model.specs.Value.{pad, unusedLine, lineValue, queryValue}
@@ -26,7 +25,7 @@ use Rattle.model.specs.Variables.{Marked}
 use Rattle.model.specs.declared.Line.{Line as LineValue}
 use Rattle.model.specs.declared.Query.{Query as QueryValue}
 use Rattle.model.proofs.LaidTerms.{RowsTo, rows-none, rows-more}
-use Rattle.model.proofs.Limits.{up-to-iff}
+use Rattle.model.proofs.Limits.{line-within-iff}
 use Rattle.model.proofs.Pad.{pad-length}
 use Rattle.model.proofs.Variables.{marked-none, marked-more}
 use Rattle.model.proofs.Spaced.{line-bytes}
@@ -133,11 +132,9 @@ module _ {lent input rows : List ℕ} {q : QueryValue} {s h at : ℕ} (w : Lines
         λ i. record { count = counts i; lines = kept i }
 
     suits : Suits lent A
-    unfolding lineWithin
     suits =
         record {
-          within = and-iff (upTo mostTables (n .value)) (all termWithin (terms .are)) .1
-              (up-to-iff mostTables (n .value) .1 (table .1, columns .0), terms .holds .within);
+          within = line-within-iff A .1 ((table .1, columns .0), all-iff termWithin (terms .are) .0 (terms .holds .within));
           some = rw (terms .count) some;
           few = rw (terms .count) few;
           width = terms .count ∙ columns .1;
@@ -181,10 +178,9 @@ module _ {lent input rows : List ℕ} {q : QueryValue} {s h at : ℕ} (w : Lines
   -- ---- the text stops here
 
   clear : meet 64 s h ≡ false → NoClash (w .lines)
-  unfolding lineWithin termWithin
+  unfolding termWithin
   clear m n A B a b i j =
-      let terms = and-iff (upTo mostTables (A .table)) (all termWithin (A .columns)) .0 (w .suit A a .within) .1 in
-      let small = leb→le n lastVariable (all-iff termWithin (A .columns) .0 terms (shown n) i) in
+      let small = leb→le n lastVariable (line-within-iff A .0 (w .suit A a .within) .1 (shown n) i) in
       let s-bit = w .marked .shown-bits n small .1 (A, a, i) in
       let h-bit = w .marked .hidden-bits n small .1 (B, b, j) in
       true≢false (sym (meet-iff 64 s h .1 (n, omega (arith, small), s-bit, h-bit)) ∙ m)

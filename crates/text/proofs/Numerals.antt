@@ -133,10 +133,15 @@ valued l v f h d = rw (numeral-is l (d .0) f h, d .1)
 
 -- ---- a number, with a mark where it is past the limit
 
--- beside the limit of constants every other is small
-pub low-within : (n : ℕ) → n < 2 ^ 32 → n ≤ constantLimit
+-- every number of 64 bits is within the limit of constants, and so is every other limit
+pub word-within : (n : ℕ) → n < 2 ^ 64 → n ≤ constantLimit
 unfolding constantLimit
-low-within n h = omega arith
+word-within n h = omega arith
+
+-- what is within it has no more digits than a numeral may have
+pub limit-digits : (n : ℕ) → n ≤ constantLimit → n < 10 ^ mostDigits
+unfolding constantLimit
+limit-digits n h = omega arith
 
 pub past : (n : ℕ) → constantLimit < n → Large ≡ limited (some n)
 unfolding limited

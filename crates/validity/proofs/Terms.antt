@@ -12,7 +12,7 @@ use Rattle.theory.specs.Query.{constant, shown, hidden}
 use Rattle.theory.specs.Query.{Term as TheTerm}
 use Rattle.theory.specs.Executable.Test.{kind, number}
 use Rattle.text.specs.Numeral.{constantLimit}
-use Rattle.text.proofs.Numerals.{low-within}
+use Rattle.text.proofs.Numerals.{word-within}
 use Rattle.model.specs.Limits.{lastVariable, termWithin}
 use Rattle.model.specs.Marks.{numberWithin}
 use Rattle.model.specs.Value.{termValue}
@@ -38,7 +38,7 @@ unfolding numberWithin
 within-word t f w = leb-true (t .number) lastVariable (rw (ne-eqb (t .mark) 1 f) at (w .small))
 
 variable-most : {n : ℕ} → T (leb n lastVariable) → n ≤ constantLimit
-variable-most {n} h = low-within n (omega (arith, leb→le n lastVariable h))
+variable-most {n} h = word-within n (omega (arith, leb→le n lastVariable h))
 
 value-within : (u : TheTerm) → T (termWithin u) → (1 ≤ termValue u .mark) × Within (termValue u)
 unfolding termValue kind number termWithin numberWithin

@@ -8,15 +8,14 @@ use native.Mathlib.Omega.{arith}
 use lib.ListN.{length, getD, take, length-map}
 use lib.Seq.{take-all}
 use Rattle.theory.specs.Query.{Line as TheLine}
-use Rattle.theory.proofs.Executable.Test.{and-iff, all-iff}
-use Rattle.model.specs.Limits.{mostTables, mostColumns, mostViews, upTo, termWithin, lineWithin}
+use Rattle.model.specs.Limits.{mostTables, mostColumns, mostViews}
 use Rattle.model.specs.Checks.{known, wide}
 use Rattle.model.specs.Value.{pad, unusedTerm, termValue, termsValue, unusedLine, lineValue, tablesValue}
 use Rattle.model.specs.declared.Line.{Line}
 use Rattle.model.specs.declared.Tables.{Tables}
 use Rattle.model.specs.declared.Term.{Term}
 use Rattle.policy_text.specs.WellFormed.{GoodView, GoodWidth}
-use Rattle.model.proofs.Limits.{up-to-iff}
+use Rattle.model.proofs.Limits.{line-within-iff}
 use Rattle.validity.specs.Parts.{ValueOf, TablesOf, TermsHeld, ViewOf, ViewPlace, ViewsHeld}
 use Rattle.validity.specs.Entries.{TablePlace, WidthFor, of-view, of-none, of-wrong, TermsFor}
 use Rattle.model.proofs.Pad.{pad-get}
@@ -49,14 +48,14 @@ module _ (widths : List ℕ) (t : Tables) (tables : TablesOf widths t) where
 
   module _ (l : Line) where
     view-table : ViewOf widths l → (1 ≤ l .table) × (l .table ≤ t .count)
-    unfolding lineWithin known lineValue
+    unfolding known lineValue
     view-table v =
         let A = v .thing in
         let same = ap (λ (x : Line). x .table) (v .is) in
         (omega (arith, same, v .good .fits .first), omega (arith, same, v .good .fits .last, tables-count))
 
     terms-view : 1 ≤ l .table → l .table ≤ t .count → TermsHeld (getD (t .columns) (l .table - 1) 0) (l .terms) → ViewOf widths l
-    unfolding lineWithin known wide lineValue termsValue
+    unfolding known wide lineValue termsValue
     terms-view some last d =
         let A : TheLine = record { table = l .table; columns = d .held .things } in
         let terms = d .held .is ∙ sym (kept (map termValue (A .columns)) (rw length-map (d .held .listed .few))) in
@@ -64,10 +63,7 @@ module _ (widths : List ℕ) (t : Tables) (tables : TablesOf widths t) where
           thing = A;
           good =
               record {
-                within = and-iff (upTo mostTables (l .table)) _ .1 (
-                  up-to-iff mostTables (l .table) .1 (some, omega (arith, tables-few)),
-                  all-iff termWithin (A .columns) .1 (d .held .listed .each),
-                );
+                within = line-within-iff A .1 ((some, omega (arith, tables-few)), d .held .listed .each);
                 fits =
                     record {
                       first = some;
@@ -80,7 +76,7 @@ module _ (widths : List ℕ) (t : Tables) (tables : TablesOf widths t) where
         }
 
     view-terms : ViewOf widths l → TermsHeld (getD (t .columns) (l .table - 1) 0) (l .terms)
-    unfolding lineWithin wide lineValue termsValue
+    unfolding wide lineValue termsValue
     view-terms v =
         let A = v .thing in
         let at = view-table v in
@@ -97,7 +93,7 @@ module _ (widths : List ℕ) (t : Tables) (tables : TablesOf widths t) where
                     record {
                       nonempty = omega (arith, w .0, count);
                       few = omega (arith, w .1, count);
-                      each = all-iff termWithin (A .columns) .0 (and-iff (upTo mostTables (A .table)) _ .0 (v .good .within) .1);
+                      each = line-within-iff A .0 (v .good .within) .1;
                     };
                 count = count;
                 is = ap (λ (x : Line). x .terms) (v .is)

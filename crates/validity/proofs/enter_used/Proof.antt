@@ -5,7 +5,7 @@ use native.Mathlib.Omega.{arith}
 use borrow.Author.Needs.{needs}
 use borrow.Author.Tests.{not-true, not-false}
 use Rattle.words.proofs.Answers.{yes-iff}
-use Rattle.text.specs.Numeral.{constantLimit}
+use Rattle.text.proofs.Numerals.{word-within}
 use Rattle.validity.specs.Entries.{entered}
 use Rattle.validity.proofs.Entries.{not-entering}
 use Rattle.validity.proofs.enter_used.Statement.{statement}
@@ -36,7 +36,7 @@ element-write-by : tie.Need-element-write-by
 element-write-by c = search needs
 
 returns-3 : tie.Need-returns-3
-unfolding entered constantLimit
+unfolding entered
 returns-3 c =
     let two = c .before .before .before in
     let one = two .before .before in
@@ -45,7 +45,7 @@ returns-3 c =
           yes-iff
           (record {
             marked = omega (arith, one .if1 .left);
-            most = omega (arith, one .before .struct-known .given);
+            most = word-within _ (omega (arith, one .before .struct-known .given));
             small = sym (two .before .within .ensures) ∙ not-false _ (two .if2 .left);
           });
       done = λ e. rw (← (c .set-bit .ensures)) refl;

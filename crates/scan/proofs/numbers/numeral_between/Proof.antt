@@ -3,6 +3,7 @@ use Prim.Native.Nat.{_≤_}
 use native.Mathlib.Omega.{arith}
 use borrow.Author.Needs.{needs}
 use Rattle.text.specs.Numeral.{constantLimit}
+use Rattle.text.proofs.Numerals.{word-within}
 use Rattle.scan.proofs.Digits.{one-digit, many-digits}
 use Rattle.scan.proofs.numbers.numeral_between.Statement.{statement}
 use Rattle.scan.proofs.numbers.numeral_between.Tie as tie
@@ -16,10 +17,8 @@ returns c some = absurd (some (c .no-number .ensures))
 add-if2 : tie.Need-add-if2
 add-if2 c = omega (arith, c .before .before .pre .0, c .before .before .pre .1 .there)
 
--- a word of 64 bits is not past every limit
 small : (c : tie.Start) → c .args .value ≤ constantLimit
-unfolding constantLimit
-small c = omega (arith, c .fits .value)
+small c = word-within (c .args .value) (omega (arith, c .fits .value))
 
 returns-2 : tie.Need-returns-2
 returns-2 c some = one-digit (c .before .before .before .pre .1) (small (c .before .before .before)) (c .if2 .taken)
