@@ -70,10 +70,10 @@ returns-2 c = c .numeral-with .ensures
 
 -- ---- behind fewer digits than come before the last
 
-small : (c : tie.Else2 Inv-loop μ-loop) → turn (c .before) .loop .value < 10 ^ 18
+small : (c : tie.Else2 Inv-loop μ-loop) → turn (c .before) .loop .value < 10 ^ (mostDigits - 2)
 small c =
     let l = turn (c .before) .loop in
-    let few : l .i - place (c .before) ≤ 18 = omega (arith, l .inv .0 .there .long, l .inv .1, c .if2 .left) in
+    let few : l .i - place (c .before) ≤ mostDigits - 2 = omega (arith, l .inv .0 .there .long, l .inv .1, c .if2 .left) in
     omega (arith, l .inv .2, pow-le-pow-right {n = 10} (lit< tt) few)
 
 mul-value : tie.Need-mul-value Inv-loop μ-loop
