@@ -29,6 +29,7 @@ lastVariable = 63
 unfoldable pub upTo : ℕ → ℕ → Bool
 upTo most n = leb 1 n && leb n most
 
+-- "variables 0 to 63; constants 0 to 4,294,967,295", and since request 4 to 18,446,744,073,709,551,615
 unfoldable pub termWithin : Term → Bool
 unfolding constantLimit
 termWithin (constant c) = leb c constantLimit
