@@ -1,15 +1,13 @@
-// Rules turned into query texts, in cases worked out from document 02. What becomes of a small file of rules is printed first, then a line
-// for each case in which the reply is another, or other bytes stand in the buffer, and at the end the number of cases.
+// Rules turned into query texts, in cases worked out from document 02. A line is printed for each case in which the reply is another, or
+// other bytes stand in the buffer, and at the end the number of cases.
 
 mod compare;
 mod damage;
-mod files;
 mod refusals;
 mod texts;
 
 fn main() {
     let p = test_expect::example();
-    files::translate(p);
     let widest = texts::widest();
     let mut n = texts::example(p, 0);
     n = texts::numbers(p, n);
