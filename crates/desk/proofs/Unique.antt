@@ -28,11 +28,11 @@ use Rattle.desk.specs.Explaining.{SaidExplaining, saidExplaining, Explan
 
 -- ---- values that a list of numbers tells apart
 
-record Code (X : Type 0) : Type 0 where
-  code : X → List ℕ
-  apart : (a b : X) → code a ≡ code b → a ≡ b
+pub record Code (X : Type 0) : Type 0 where
+  pub code : X → List ℕ
+  pub apart : (a b : X) → code a ≡ code b → a ≡ b
 
-same? : {X : Type 0} → Code X → (a b : X) → Dec (a ≡ b)
+pub same? : {X : Type 0} → Code X → (a b : X) → Dec (a ≡ b)
 same? c a b = map-dec (c .apart a b) (ap (c .code)) (List-discrete ℕ-discrete (c .code a) (c .code b))
 
 -- what holds where a text loads to the value, and where none does, holds

@@ -49,7 +49,7 @@ pub fn explain(p: Policy, n: u64, text: &[u8], out: &mut [u32]) -> Explaining
 }
 
 // The views that partition i, counted from 0, grants: view n at bit n - 1.
-fn granted_views(grants: [u64; MOST_VIEWS], i: u64) -> u64
+pub fn granted_views(grants: [u64; MOST_VIEWS], i: u64) -> u64
     requires { ⌜ i < mostPartitions ⌝ }
     ensures { λ r. ⌜ r ≡ testBits (grantedAt grants i) (upFrom 0 mostViews) ⌝ }
 {
@@ -89,7 +89,7 @@ fn give_words(l: Words, granted: u64, is_settled: bool, out: &mut [u32]) -> Expl
 }
 
 // The first words, each of 32 bits, at the head of the buffer; numbers past them stay.
-fn write_words(words: [u64; MOST_LINES], count: usize, out: &mut [u32])
+pub fn write_words(words: [u64; MOST_LINES], count: usize, out: &mut [u32])
     requires { ⌜ (count ≤ mostLines) × (count ≤ length (now out)) × ((i : ℕ) → getD words i 0 < 2 ^ halfBits) ⌝ }
     ensures { λ _. ⌜ now (out .exit) ≡ take count words ++ drop count (now (out .entry)) ⌝ }
 {

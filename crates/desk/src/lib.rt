@@ -15,6 +15,8 @@ pub use deciding::decide_loaded;
 pub use deciding::decide_rows;
 pub use explaining::Explaining;
 pub use explaining::explain;
+pub use explaining::granted_views;
+pub use explaining::write_words;
 pub use listing::Listing;
 pub use listing::labels;
 pub use opening::Opening;

@@ -47,6 +47,10 @@ module _ {X : Type 0} where
   there (y ∷ l) zero d {x} e = Option·some-injective y x e
   there (y ∷ l) (suc i) d e = there l i d e
 
+  pub none-long : (l : List X) → length l ≡ 0 → l ≡ []
+  none-long [] e = refl
+  none-long (x ∷ l) e = absurd (omega (arith, e))
+
   -- ---- a list without one of its places
 
   pub without-subset : (i : ℕ) (l : List X) {x : X} → x ∈ without i l → x ∈ l

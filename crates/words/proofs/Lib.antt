@@ -4,6 +4,7 @@ pub mod Parts
 pub mod Masks
 pub mod SetBits
 pub mod ClearBits
+pub mod WithoutBits
 pub mod Lowest
 pub mod Tests
 pub mod Counts

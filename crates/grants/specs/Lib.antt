@@ -1,0 +1,4 @@
+pub mod Smallest
+pub mod Granting
+pub mod Searching
+pub mod Outcomes
