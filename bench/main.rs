@@ -12,9 +12,10 @@ mod texts;
 mod tuned;
 mod whole;
 
-use single::{check_in_rattle, decide_in_plain, decide_in_rattle, label_in_plain, label_in_rattle};
+use single::{check_in_rattle, decide_in_plain, decide_in_rattle};
+use single::{grant_in_plain, grant_in_rattle, label_in_plain, label_in_rattle};
 use streams::{damaged_files, files, policy, streams, Stream};
-use texts::{POLICY, QUERIES};
+use texts::{GRANTED, POLICY, QUERIES};
 use whole::Buffers;
 
 // What is measured, with the least times so far.
@@ -23,6 +24,7 @@ struct Measured {
     worst: Vec<whole::Case>,
     labelled: Vec<single::Case>,
     decided: Vec<single::Case>,
+    granted: Vec<single::Case>,
     checked: single::Case,
 }
 
@@ -51,6 +53,7 @@ fn prepare(seeds: &[u64], b: &mut Buffers) -> Measured {
     let many = streams(32, seeds).into_iter();
     let label = [label_in_rattle, label_in_plain];
     let decide = [decide_in_rattle, decide_in_plain];
+    let grant = [grant_in_rattle, grant_in_plain];
     let single = |q: &(&'static str, &str), works| single::case(q.0, &query(q.1), works);
     Measured {
         streams: few.chain(many).map(&mut whole).collect(),
@@ -60,6 +63,7 @@ fn prepare(seeds: &[u64], b: &mut Buffers) -> Measured {
             .collect(),
         labelled: QUERIES.iter().map(|q| single(q, &label)).collect(),
         decided: QUERIES.iter().map(|q| single(q, &decide)).collect(),
+        granted: GRANTED.iter().map(|q| single(q, &grant)).collect(),
         checked: single::case("checked", &policy(seeds[0], 32), &[check_in_rattle]),
     }
 }
@@ -69,7 +73,8 @@ fn round(m: &mut Measured, b: &mut Buffers) {
     for c in m.streams.iter_mut().chain(&mut m.worst) {
         whole::measure(c, b);
     }
-    for c in m.labelled.iter_mut().chain(&mut m.decided) {
+    let operations = m.labelled.iter_mut().chain(&mut m.decided);
+    for c in operations.chain(&mut m.granted) {
         single::measure(c);
     }
     single::measure(&mut m.checked);
@@ -109,5 +114,6 @@ fn main() {
     tables::print_streams(&m.streams);
     tables::print_worst(&m.worst);
     tables::print_single(&m.labelled, &m.decided);
+    tables::print_granted(&m.granted);
     tables::print_check(&m.checked);
 }

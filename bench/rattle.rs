@@ -23,6 +23,14 @@ extern "C" {
         query_bytes: usize,
         times: u64,
     ) -> u64;
+    fn kolbrees_grant(
+        policy: *const u8,
+        policy_bytes: usize,
+        n: u64,
+        query: *const u8,
+        query_bytes: usize,
+        times: u64,
+    ) -> u64;
     fn kolbrees_check(policy: *const u8, policy_bytes: usize, times: u64) -> u64;
 }
 
@@ -62,6 +70,21 @@ pub fn decide(policy: &str, query: &str, times: u64) -> u64 {
         kolbrees_decide(
             policy.as_ptr(),
             policy.len(),
+            query.as_ptr(),
+            query.len(),
+            times,
+        )
+    }
+}
+
+// The sum of the replies and of the views given in so many grants for partition n.
+pub fn grant(policy: &str, n: u64, query: &str, times: u64) -> u64 {
+    // SAFETY: each pointer and length are those of a live string.
+    unsafe {
+        kolbrees_grant(
+            policy.as_ptr(),
+            policy.len(),
+            n,
             query.as_ptr(),
             query.len(),
             times,

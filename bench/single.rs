@@ -56,6 +56,27 @@ pub fn decide_in_plain(query: &str, times: u64) -> u64 {
     sum
 }
 
+// The partition that wants the views.
+const PARTITION: u8 = 1;
+
+pub fn grant_in_rattle(query: &str, times: u64) -> u64 {
+    rattle::grant(POLICY, u64::from(PARTITION), query, times)
+}
+
+pub fn grant_in_plain(query: &str, times: u64) -> u64 {
+    let p = plain::load(POLICY.as_bytes()).expect("a policy");
+    let masks = plain::table_views(&p);
+    let mut sum: u64 = 0;
+    for _ in 0..times {
+        let (p, text) = (black_box(&p), black_box(query.as_bytes()));
+        let q = plain::read_query(p, text).expect("a query");
+        let list = plain::smallest_grant(p, &masks, usize::from(PARTITION), &q);
+        let number = list.map_or(100, |views| 1 + views.len() + views.iter().sum::<usize>());
+        sum = sum.wrapping_add(number as u64);
+    }
+    sum
+}
+
 // The check of a policy, which refusal 8 asks of every public operation.
 pub fn check_in_rattle(policy: &str, times: u64) -> u64 {
     rattle::check(policy, times)

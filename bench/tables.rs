@@ -44,6 +44,15 @@ pub fn print_single(labelled: &[single::Case], decided: &[single::Case]) {
     }
 }
 
+pub fn print_granted(cases: &[single::Case]) {
+    println!("\nThe smallest extra grant, from the text, in nanoseconds:\n");
+    println!("| query | Rattle | plain |");
+    println!("|:---|---:|---:|");
+    for c in cases {
+        println!("| {} | {:.0} | {:.0} |", c.name, c.least[0], c.least[1]);
+    }
+}
+
 pub fn print_check(checked: &single::Case) {
     let nanoseconds = checked.least[0];
     println!("\nThe check of a policy of 32 views: {nanoseconds:.0} ns.");

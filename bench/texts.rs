@@ -121,3 +121,30 @@ pub const QUERIES: [(&str, &str); 13] = [
 ",
     ),
 ];
+
+// Queries for which partition 1 lacks views: the first is settled, and each line of the others holds hidden variables in some of the
+// first seven columns, so that the views which hide one of these cover it.
+pub const GRANTED: [(&str, &str); 4] = [
+    ("settled", "1 !1 #4 ?2\n"),
+    ("one label lacks", "3 !0 ?1 ?2 !3 !4 !5 !6 #0\n"),
+    (
+        "four labels lack",
+        "3 ?0 ?1 !2 !3 !4 !5 !6 #0
+3 !7 ?8 ?9 !10 !11 !12 !13 #1
+3 !14 !15 ?16 ?17 !18 !19 !20 #2
+3 !21 !22 !23 ?24 ?25 !26 !27 #3
+",
+    ),
+    (
+        "eight labels lack",
+        "3 ?0 ?1 !2 !3 !4 !5 !6 #0
+3 !7 ?8 ?9 !10 !11 !12 !13 #1
+3 !14 !15 ?16 ?17 !18 !19 !20 #2
+3 !21 !22 !23 ?24 ?25 !26 !27 #3
+3 !28 !29 !30 !31 ?32 ?33 !34 #4
+3 !35 !36 !37 !38 !39 ?40 ?41 #5
+3 ?42 !43 !44 !45 !46 !47 ?48 #6
+3 ?49 !50 ?51 !52 ?53 !54 !55 #7
+",
+    ),
+];

@@ -2,6 +2,7 @@
 // at on its own. Nothing is prepared beyond the views of each table. Only the search for maps of lines goes by words of pairs.
 
 mod deciding;
+mod granting;
 mod labelling;
 mod loading;
 mod numerals;
@@ -11,6 +12,7 @@ mod running;
 mod values;
 
 pub use deciding::{decide, Reply};
+pub use granting::smallest_grant;
 pub use labelling::{label_query, table_views};
 pub use loading::load;
 pub use reading::read_query;

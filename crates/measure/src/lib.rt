@@ -1,13 +1,15 @@
-// For measuring alone, and no interface of the desk: under one loaded policy a query is labelled, or decided from its text,
-// again and again, and the policy is checked again and again. Each result is a sum in which every answer has a part, so that
+// For measuring alone, and no interface of the desk: under one loaded policy a query is labelled, or decided from its text, or given
+// its smallest extra grant, again and again, and the policy is checked again and again. Each result is a sum in which every answer has a part, so that
 // the compiler can leave none out; it is 0 where a text is turned back. Beside them the program's whole work.
 
 mod checking;
 mod deciding;
+mod granting;
 mod labels;
 mod running;
 
 pub use checking::kolbrees_check;
 pub use deciding::kolbrees_decide;
+pub use granting::kolbrees_grant;
 pub use labels::kolbrees_label;
 pub use running::kolbrees_stream;
