@@ -1,9 +1,18 @@
-// What the test programs share: a reply as plain numbers, compared and printed, deciding in a session that is lent, and policies.
+// What the test programs share: a reply as plain numbers, compared and printed, deciding in a session that is lent, policies, and files
+// of cases.
 
+mod cases;
 mod deciding;
 mod policies;
 mod said;
 
+pub use cases::Number;
+pub use cases::Text;
+pub use cases::is_case;
+pub use cases::number_at;
+pub use cases::place_of;
+pub use cases::print_malformed;
+pub use cases::text_at;
 pub use deciding::decided;
 pub use policies::altered;
 pub use policies::example;

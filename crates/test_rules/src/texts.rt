@@ -1,4 +1,4 @@
-// Rules that are taken, each with its text.
+// Rules that are taken: at places of the buffer, the longest, and decided.
 
 use crate::compare::decided as case_decided;
 use crate::compare::written;
@@ -26,99 +26,10 @@ pub fn example(p: Policy, start: u64) -> u64 {
     n
 }
 
-// "variables numbered from 0 by first place in the body", and constants.
-pub fn numbers(p: Policy, start: u64) -> u64 {
-    let mut n = written(
+// Eight atoms of eight terms: the variables 0 to 63.
+pub fn most_variables(widest: Policy, start: u64) -> u64 {
+    written(
         start,
-        p,
-        b"Q(z, y) :- T1(x, y, z)\n",
-        b"table terms\n1 ?0 !1 !2\n",
-    );
-    n = written(
-        n,
-        p,
-        b"Q(y, x) :- T1(x, y, x)\n",
-        b"table terms\n1 !0 !1 !0\n",
-    );
-    n = written(
-        n,
-        p,
-        b"Q(b) :- T2(a, b), T2(b, a), T2(c, a)\n",
-        b"table terms\n2 ?0 !1\n2 !1 ?0\n2 ?2 ?0\n",
-    );
-    n = written(
-        n,
-        p,
-        b"A000() :- T2(4294967296, 18446744073709551615)\n",
-        b"table terms\n2 #4294967296 #18446744073709551615\n",
-    );
-    n
-}
-
-// "Names are the same when their bytes are".
-pub fn names(p: Policy, start: u64) -> u64 {
-    let mut n = written(
-        start,
-        p,
-        b"T1(x1) :- T2(x1, x01)\n",
-        b"table terms\n2 !0 ?1\n",
-    );
-    n = written(
-        n,
-        p,
-        b"Q(x00) :- T1(x, x0, x00), T2(x000, x)\n",
-        b"table terms\n1 ?0 ?1 !2\n2 ?3 ?0\n",
-    );
-    n = written(
-        n,
-        p,
-        b"Z999(a, z999) :- T2(a, z999)\n",
-        b"table terms\n2 !0 !1\n",
-    );
-    n = written(
-        n,
-        p,
-        b"T1(t1) :- T1(t1, t, 1)\n",
-        b"table terms\n1 !0 ?1 #1\n",
-    );
-    n = written(
-        n,
-        p,
-        b"Q(x10) :- T1(x1, 10, x10), T2(x100, x10)\n",
-        b"table terms\n1 ?0 #10 !1\n2 ?2 !1\n",
-    );
-    n
-}
-
-// "An empty head `Q1()` is allowed"; the head's order plays no part.
-pub fn heads(p: Policy, start: u64) -> u64 {
-    let mut n = written(start, p, b"Q1() :- T2(x, x)\n", b"table terms\n2 ?0 ?0\n");
-    n = written(n, p, b"Q() :- T2(1, 2)\n", b"table terms\n2 #1 #2\n");
-    n = written(
-        n,
-        p,
-        b"Q(x, y, z) :- T1(x, y, z)\n",
-        b"table terms\n1 !0 !1 !2\n",
-    );
-    n = written(
-        n,
-        p,
-        b"Q(z, y, x) :- T1(x, y, z)\n",
-        b"table terms\n1 !0 !1 !2\n",
-    );
-    n
-}
-
-// Eight atoms, and eight of eight terms: the variables 0 to 63.
-pub fn limits(p: Policy, widest: Policy, start: u64) -> u64 {
-    let mut n = written(
-        start,
-        p,
-        b"Q(a) :- T2(a, a), T2(a, a), T2(a, a), T2(a, a), T2(a, a), T2(a, a), T2(a, a), T2(a, a)\n",
-        b"table terms\n2 !0 !0\n2 !0 !0\n2 !0 !0\n2 !0 !0\n2 !0 !0\n2 !0 !0\n2 !0 !0\n2 !0 !0\n",
-    );
-    n = written(
-        n,
         widest,
         b"Q(l2) :- T16(a, b, c, d, e, f, g, h), T16(i, j, k, l, m, n, o, p), T16(q, r, s, t, u, v, w, x), \
          T16(y, z, a1, b1, c1, d1, e1, f1), T16(g1, h1, i1, j1, k1, l1, m1, n1), \
@@ -128,8 +39,7 @@ pub fn limits(p: Policy, widest: Policy, start: u64) -> u64 {
          16 ?16 ?17 ?18 ?19 ?20 ?21 ?22 ?23\n16 ?24 ?25 ?26 ?27 ?28 ?29 ?30 ?31\n\
          16 ?32 ?33 ?34 ?35 ?36 ?37 ?38 ?39\n16 ?40 ?41 ?42 ?43 ?44 ?45 ?46 ?47\n\
          16 ?48 ?49 ?50 ?51 ?52 ?53 ?54 ?55\n16 ?56 ?57 ?58 ?59 ?60 ?61 ?62 !63\n",
-    );
-    n
+    )
 }
 
 // The same of constants of twenty digits: no text is longer than this one.

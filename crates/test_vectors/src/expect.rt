@@ -1,5 +1,13 @@
+// A text read, and what is said of it compared with what document 01 lays down.
+
 use model::Outcome;
 use model::Tables;
+
+// What a text is read as.
+pub enum Kind {
+    Query,
+    Policy,
+}
 
 // The number that turns a text back, 0 where it is taken, and its line.
 struct Said {
@@ -14,28 +22,6 @@ fn reply(o: Outcome) -> Said {
     }
 }
 
-// One case more.
-fn counted(n: u64) -> u64 {
-    if n < 1_000_000 {
-        return n + 1;
-    }
-    n
-}
-
-fn compared(n: u64, s: Said, number: u64, line: u64) -> u64 {
-    let case = counted(n);
-    if s.number != number || s.line != line {
-        io::write_all(1, b"case ");
-        io::print_decimal(1, case);
-        io::write_all(1, b" said ");
-        io::print_decimal(1, s.number);
-        io::write_all(1, b" ");
-        io::print_decimal(1, s.line);
-        io::write_all(1, b"\n");
-    }
-    case
-}
-
 // Tables of 3, 2, 8 and 1 columns.
 fn tables() -> Tables {
     let mut columns = [0u64; 16];
@@ -46,16 +32,32 @@ fn tables() -> Tables {
     Tables { count: 4, columns }
 }
 
-// A query text under these tables is turned back by this number at this line, or taken where both are 0.
-pub fn query(n: u64, text: &[u8], number: u64, line: u64) -> u64 {
+fn query(text: &[u8]) -> Said {
     let r = query_text::read_query(tables(), text);
     let o = r.outcome;
-    compared(n, reply(o), number, line)
+    reply(o)
 }
 
-// The same of a policy text.
-pub fn policy(n: u64, text: &[u8], number: u64, line: u64) -> u64 {
+fn policy(text: &[u8]) -> Said {
     let r = load::load(text);
     let o = r.outcome;
-    compared(n, reply(o), number, line)
+    reply(o)
+}
+
+// One case more: the text is turned back by this number at this line, or taken where both are 0.
+pub fn case(n: u64, name: &[u8], kind: Kind, text: &[u8], number: u64, line: u64) -> u64 {
+    let said = match kind {
+        Kind::Query => query(text),
+        Kind::Policy => policy(text),
+    };
+    if said.number != number || said.line != line {
+        io::write_all(1, b"said ");
+        io::print_decimal(1, said.number);
+        io::write_all(1, b" ");
+        io::print_decimal(1, said.line);
+        io::write_all(1, b" of ");
+        io::write_all(1, name);
+        io::write_all(1, b"\n");
+    }
+    test_expect::counted(n)
 }

@@ -1,33 +1,21 @@
-// Document 01's edges and refusals, each with the number and line that document 01 lays down. A line is printed for each case
-// in which the desk says another, and at the end the number of cases.
+// Document 01's edges and refusals, each with the number and line that document 01 lays down: the cases of the two files of `data/`, and
+// texts as long as the limits. A line is printed for each case in which the desk says another and for each line of a file that is
+// malformed, and at the end the number of cases.
 
+mod cases;
 mod expect;
-mod policies;
-mod queries;
+mod long;
+
+use expect::Kind;
 
 fn main() {
-    let mut n = queries::accepted(0);
-    n = queries::malformed_first_line(n);
-    n = queries::malformed_shape(n);
-    n = queries::malformed_field(n);
-    n = queries::ninth_line(n);
-    n = queries::outside(n);
-    n = queries::long_constants(n);
-    n = queries::long_numbers(n);
-    n = queries::unknown_and_misfit(n);
-    n = queries::clash(n);
-    n = queries::ninety_terms(n);
-    n = queries::long(n);
-    n = policies::accepted(n);
-    n = policies::stopped_early(n);
-    n = policies::malformed(n);
-    n = policies::malformed_values(n);
-    n = policies::out_of_limits(n);
-    n = policies::long_constants(n);
-    n = policies::long_numbers(n);
-    n = policies::out_of_turn(n);
-    n = policies::unknown_misfit_clash(n);
-    n = policies::long(n);
+    let mut file = io::large_buffer();
+    let bytes = files::read_file(b"queries.txt", &mut file);
+    let mut n = cases::run_all(0, Kind::Query, &file[..bytes]);
+    let bytes = files::read_file(b"policies.txt", &mut file);
+    n = cases::run_all(n, Kind::Policy, &file[..bytes]);
+    n = long::queries(n);
+    n = long::policies(n);
     io::print_decimal(1, n);
     io::write_all(1, b" cases\n");
 }

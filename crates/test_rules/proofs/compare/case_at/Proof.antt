@@ -1,9 +1,9 @@
--- `written_at`: as many bytes are lent as there is room.
+-- `case_at`: as many bytes are lent as there is room.
 use native.Mathlib.Omega.{arith}
 use lib.ListN.{length-take}
 use borrow.Author.Needs.{needs}
-use Rattle.test_rules.proofs.compare.written_at.Statement.{statement}
-use Rattle.test_rules.proofs.compare.written_at.Tie as tie
+use Rattle.test_rules.proofs.compare.case_at.Statement.{statement}
+use Rattle.test_rules.proofs.compare.case_at.Tie as tie
 
 untouched-requires : tie.Need-untouched-requires
 untouched-requires c κs = search needs
@@ -20,9 +20,6 @@ import-rule-requires c κs = search needs
 told-requires : tie.Need-told-requires
 told-requires c κs = search needs
 
-written-requires : tie.Need-written-requires
-written-requires c κs = search needs
-
 same-requires : tie.Need-same-requires
 same-requires c κs = search needs
 
@@ -35,8 +32,8 @@ counted-requires c κs = search needs
 returns : tie.Need-returns
 returns c = search needs
 
-pub written-at-spec : {M : Type 1} → statement M
-written-at-spec =
+pub case-at-spec : {M : Type 1} → statement M
+case-at-spec =
     tie.close
     (tie.spec
     untouched-requires
@@ -44,7 +41,6 @@ written-at-spec =
     slice-aggregate-import-rule
     import-rule-requires
     told-requires
-    written-requires
     same-requires
     stands-requires
     counted-requires
