@@ -1,9 +1,10 @@
 // Two archives behind a no, for people to look at. Reads `policy.txt` and a query from standard input; its arguments are the numbers of
 // partitions. For each it prints whether the partition settles the query, and if not both archives as tables, with the answers of the
-// partition's views and of the query on each, worked out by valuations alone.
+// partition's views and of the query on each, worked out by valuations alone, and the fewest views that would settle it.
 
 mod answers;
 mod archives;
+mod granting;
 mod values;
 
 ghost use Prim.Native.Nat.{_≤_};
@@ -53,7 +54,8 @@ fn print_partition(p: Policy, n: u64, text: &[u8]) {
         }
         Telling::Apart { rows: count } => {
             let end = count as usize * valuations::ROW;
-            print_apart(p, n, text, &rows[..end])
+            print_apart(p, n, text, &rows[..end]);
+            granting::print_lacking(p, n, text)
         }
         Telling::Refused { number, line } => print_refusal(number, line),
     }

@@ -54,6 +54,9 @@ slice-aggregate-print-apart c = simp length-take (omega (arith, few (c .before))
 print-apart-requires : tie.Need-print-apart-requires
 print-apart-requires c κs = simp length-take (omega (arith, few (c .before)))
 
+print-lacking-requires : tie.Need-print-lacking-requires
+print-lacking-requires c κs = search needs
+
 enum-known-number : tie.Need-enum-known-number
 enum-known-number c = search needs
 
@@ -88,6 +91,7 @@ print-partition-spec =
     array-share-prefix-rows
     slice-aggregate-print-apart
     print-apart-requires
+    print-lacking-requires
     enum-known-number
     print-refusal-requires
     returns
