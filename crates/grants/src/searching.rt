@@ -30,7 +30,7 @@ pub fn lacking_views(l: Words, granted: u64) -> Words
     r
 }
 
-// Which of the words hold view v + 1, the first word at bit 0.
+// Which of the words hold view v + 1, the first word at bit 0. Where a view stands in a word is known here alone.
 fn holding(l: Words, v: u64) -> u64
     requires { ⌜ (l .count ≤ mostLines) × (v < mostViews) ⌝ }
     ensures { λ r. ⌜ ((ws : List ℕ) → l ≡ wordsValue ws → r ≡ holding ws v) ⌝ }
@@ -46,7 +46,7 @@ fn holding(l: Words, v: u64) -> u64
     word
 }
 
-// The same for each view, the first at place 0: the one place that knows where a view stands in a label.
+// The same for each view, the first at place 0.
 fn hits_of(l: Words) -> Hits
     requires { ⌜ l .count ≤ mostLines ⌝ }
     ensures { λ r. ⌜ ((ws : List ℕ) → l ≡ wordsValue ws → r ≡ hitsOf ws) ⌝ }

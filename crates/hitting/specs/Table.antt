@@ -40,6 +40,7 @@ SomeSet hits costs m = (k : ℕ) × Searched hits costs k × (m < 2 ^ k)
 abbrev pub left : List ℕ → ℕ → ℕ → ℕ
 left hits m v = bitXor m (bitAnd m (ofView hits v))
 
+-- what a list weighs
 unfoldable pub weight : List ℕ → List ℕ → ℕ
 weight costs [] = 0
 weight costs (v ∷ M) = viewWeight + ofView costs v + weight costs M

@@ -5,11 +5,11 @@ ghost use Rattle.hitting.specs.Best.{HoldsBest};
 ghost use Rattle.hitting.specs.Table.{Searched, FilledTo, FirstView};
 use crate::filling::Costs;
 use crate::filling::Hits;
+use crate::filling::SETS;
 use crate::filling::TOO_HEAVY;
 use crate::filling::Table;
 use crate::filling::fill;
 use crate::filling::weight_with;
-use model::MOST_LINES;
 use word_list::Words;
 
 // The place of the first view with which a lightest list for a set begins.
@@ -46,7 +46,7 @@ pub fn best(hits: &Hits, costs: &Costs, k: u64) -> Words
     ensures { λ r. ⌜ HoldsBest (now (hits .entry)) (now (costs .entry)) (2 ^ k - 1) r ⌝ }
 {
     let full = words::low_bits(k);
-    let mut table = [TOO_HEAVY; 1 << MOST_LINES];
+    let mut table = [TOO_HEAVY; SETS];
     table[0] = 0;
     fill(hits, costs, full, &mut table);
     choose(hits, costs, &table, full)

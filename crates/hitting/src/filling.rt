@@ -13,8 +13,11 @@ pub type Hits = [u64; MOST_VIEWS];
 // What each view costs.
 pub type Costs = [u64; MOST_VIEWS];
 
+// How many sets of labels there are.
+pub const SETS: usize = 1 << MOST_LINES;
+
 // For each set of labels a weight.
-pub type Table = [u64; 1 << MOST_LINES];
+pub type Table = [u64; SETS];
 
 // A view weighs this and its cost: more than the costs of any list that is looked for, so that weights compare as lengths do and then
 // as costs.
@@ -42,7 +45,8 @@ fn lesser(a: u64, b: u64) -> u64
     b
 }
 
-// What the lightest list for a set weighs, where the table has the sets below it.
+// What the lightest list for a set weighs, where the table has the sets below it. A view that hits no label of the set leaves the set
+// itself, and the entry of that is too heavy yet, so the view is not taken.
 fn least_weight(hits: &Hits, costs: &Costs, table: &Table, m: u64) -> u64
     requires { ⌜ SomeSet (now hits) (now costs) m × Filled (now hits) (now costs) (now table) m × (0 < m) ⌝ }
     ensures { λ r. ⌜ Lightest (now (hits .entry)) (now (costs .entry)) m r × (r ≤ m * (viewWeight + mostCost)) ⌝ }
