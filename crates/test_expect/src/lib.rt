@@ -22,6 +22,7 @@ pub use said::apart;
 pub use said::counted;
 pub use said::given;
 pub use said::no;
+pub use said::nothing;
 pub use said::print_case;
 pub use said::refused;
 pub use said::same;

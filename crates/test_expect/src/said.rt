@@ -17,6 +17,8 @@ const APART: u64 = 7;
 
 const WRITTEN: u64 = 8;
 
+const NOTHING: u64 = 9;
+
 // The word, count, number and line of a reply.
 pub struct Said {
     pub word: u64,
@@ -68,6 +70,11 @@ pub fn written(count: u64) -> Said {
     answered(WRITTEN, count)
 }
 
+// The smallest extra grant: no views will do.
+pub fn nothing() -> Said {
+    answered(NOTHING, 0)
+}
+
 // Any operation: "a count in the reply is 0".
 pub fn refused(number: u64, line: u64) -> Said {
     Said {
@@ -114,8 +121,11 @@ fn print_word(word: u64) {
         7 => {
             io::write_all(1, b"apart");
         }
-        _ => {
+        8 => {
             io::write_all(1, b"written");
+        }
+        _ => {
+            io::write_all(1, b"none");
         }
     }
 }
