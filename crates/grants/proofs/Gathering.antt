@@ -59,8 +59,11 @@ module _ (granted : ℕ) {l r : Words} where
       words = λ ws e. rw (next-label ws e, m) (q ∙ put (lacking granted (take i ws)) (t .words ws e));
     }
 
-  pub lacking-all : {i : ℕ} → l .count ≤ i → LackingTo granted l r i → (ws : List ℕ) → l ≡ wordsValue ws → r ≡ wordsValue (lacking granted ws)
-  lacking-all {i} h t ws e = t .words ws e ∙ ap (λ (k : List ℕ). wordsValue (lacking granted k)) (take-all i ws (omega (arith, h, count-is l ws e)))
+  pub lacking-all : {i : ℕ} → l .count ≤ i → LackingTo granted l r i → (ws : List ℕ) → l ≡ wordsValue ws
+      → r ≡ wordsValue (lacking granted ws)
+  lacking-all {i} h t ws e =
+      t .words ws e
+      ∙ ap (λ (k : List ℕ). wordsValue (lacking granted k)) (take-all i ws (omega (arith, h, count-is l ws e)))
 
 -- ---- the words that hold a view
 

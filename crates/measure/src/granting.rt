@@ -2,6 +2,7 @@
 
 use grants::Granting;
 use model::MOST_LINES;
+use model::Outcome;
 use model::Policy;
 use std::num::wrapping_add_u32;
 use std::num::wrapping_add_u64;
@@ -43,6 +44,12 @@ fn grant_again(p: Policy, n: u64, text: &[u8], times: u64) -> u64 {
 #[no_mangle]
 pub extern "C" fn kolbrees_grant(policy: &[u8], n: u64, query: &[u8], times: u64) -> u64 {
     let r = load::load(policy);
-    let p = r.policy;
-    grant_again(p, n, query, times)
+    let outcome = r.outcome;
+    match outcome {
+        Outcome::Accepted => {
+            let p = r.policy;
+            grant_again(p, n, query, times)
+        }
+        Outcome::Refused { .. } => 0,
+    }
 }

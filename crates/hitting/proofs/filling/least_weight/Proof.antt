@@ -36,7 +36,8 @@ loop-again c =
     let at = w .before in
     let (set, filled, some) = at .before .before .pre in (
       omega (arith, at .loop-test .taken),
-      subst (LeastTo _ _ _ _ (at .before .loop .v + 1)) (sym (c .lesser .ensures ∙ ap (min (at .before .loop .least)) (w .weight-with .ensures)))
+      subst (LeastTo _ _ _ _ (at .before .loop .v + 1))
+          (sym (c .lesser .ensures ∙ ap (min (at .before .loop .least)) (w .weight-with .ensures)))
           (least-more _ _ _ _ set filled (at .loop-test .taken) (at .before .loop .inv .1)),
     )
 
