@@ -1,6 +1,6 @@
 -- What a query text gives under a loadable policy, by the tag of its outcome.
-use mathlib.Core.Path.{_≡_, ap, subst}
-use mathlib.Core.List.{List, Memᴰ·of-map}
+use mathlib.Core.Path.{_≡_, ap}
+use mathlib.Core.List.{List}
 use Prim.Native.Nat.{ℕ, _/_, _^_, _≤_, _<_}
 use native.Mathlib.Nat.{lt-of-lt-of-le}
 use native.Mathlib.Omega.{arith}
@@ -8,12 +8,7 @@ use lib.Pow.{pow-mono}
 use Rattle.words.specs.Bits.{halfBits}
 use Rattle.theory.specs.Query.{Query, _∈_}
 use Rattle.theory.specs.Archive.{AllFit}
-use Rattle.theory.specs.Executable.Cover.{covers}
-use Rattle.theory.specs.Executable.Label.{viewBits, label, labels}
-use Rattle.theory.specs.Executable.Reduce.{reduce}
-use Rattle.theory.specs.Executable.Show.{show}
-use Rattle.words.proofs.Parts.{high-part}
-use Rattle.words.proofs.TestBits.{tests-below}
+use Rattle.theory.specs.Executable.Label.{labels}
 use Rattle.model.specs.Limits.{mostLines}
 use Rattle.model.specs.declared.Outcome.the-variants.{Refused}
 use Rattle.model.specs.declared.Policy.{Policy}
@@ -29,7 +24,7 @@ use Rattle.labelling.specs.Text.{LoadedTo, askedValue}
 use Rattle.labelling.specs.declared.Asked.{Asked}
 use Rattle.word_list.specs.declared.Words.{Words}
 use Rattle.labelling.specs.declared.Labels.{Labels}
-use Rattle.labelling.proofs.Lines.{shown-fits}
+use Rattle.labelling.proofs.Partitions.{label-views}
 use Rattle.labelling.proofs.Posing.{few-labels}
 use Rattle.labelling.proofs.Readings.{Tag, asked-accepted, asked-refused}
 use Rattle.desk.proofs.Loaded.{loaded-to}
@@ -44,14 +39,7 @@ labels-held h = omega (arith, ap (λ (x : Words). x .count) (h .is), h .few)
 -- the views of a label, of which a policy has at most 32
 labels-narrow : (d : Declared) → WellFormed d → (Q : Query) → AllFit (d .widths) Q → (w : ℕ) → w ∈ labels (d .views) Q
     → w / 2 ^ halfBits < 2 ^ halfBits
-unfolding labels label
-labels-narrow d good Q fits w m =
-    let (A, a, e) = Memᴰ·of-map (label (d .views)) (show (reduce Q)) m in
-    let f = shown-fits (d .widths) Q fits A a in
-    let small : A .table < 2 ^ halfBits = omega (arith, f .last, good .tables .few) in
-    subst (λ (x : ℕ). x / 2 ^ halfBits < 2 ^ halfBits) e
-    (rw (high-part halfBits (viewBits (d .views) A) small)
-    (lt-of-lt-of-le (tests-below (λ v. covers v A) (d .views)) (pow-mono (good .views .few))))
+labels-narrow d good Q fits w m = lt-of-lt-of-le (label-views d good Q fits w m) (pow-mono (good .views .few))
 
 -- ---- how the text ended
 

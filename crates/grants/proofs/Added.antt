@@ -3,7 +3,7 @@
 use mathlib.Core.Path.{_≡_, refl, sym, ap, subst, _∙_}
 use mathlib.Core.Logic.{_↔_, _⊎_, inl, inr, ⊎-elim}
 use mathlib.Core.Bool.{Bool, true, false}
-use mathlib.Core.List.{List, [], _++_, List·Memᴰ·not-nil, List·Memᴰ·append-cases, Memᴰ·append-left, Memᴰ·append-right, Memᴰ·of-map}
+use mathlib.Core.List.{List, [], _++_, List·Memᴰ·not-nil, List·Memᴰ·append-cases, Memᴰ·append-left, Memᴰ·append-right}
 use mathlib.Core.Option.{some}
 use Prim.Native.Nat.{ℕ, _+_, _-_, _^_, _<_}
 use native.Mathlib.Omega.{arith}
@@ -12,24 +12,18 @@ use lib.Dec.{T, eqb}
 use lib.ListN.{length, getElem?}
 use Rattle.theory.specs.Query.{Line, Query, _∈_, NoClash}
 use Rattle.theory.specs.Archive.{AllFit, DeterminedBy}
-use Rattle.theory.specs.Executable.Cover.{covers}
-use Rattle.theory.specs.Executable.Reduce.{reduce}
-use Rattle.theory.specs.Executable.Show.{show}
-use Rattle.theory.specs.Executable.Label.{viewBits, label, labels}
+use Rattle.theory.specs.Executable.Label.{labels}
 use Rattle.theory.proofs.Executable.Test.{all-iff, any-iff}
-use Rattle.words.specs.Bits.{bit, halfBits}
+use Rattle.words.specs.Bits.{bit}
 use Rattle.words.proofs.Answers.{true-holds, holds-true}
 use Rattle.words.proofs.Bits.{bit-zero, bit-within}
-use Rattle.words.proofs.Parts.{high-part}
-use Rattle.words.proofs.TestBits.{tests-below}
 use Rattle.words.proofs.Tests.{meet-iff}
 use Rattle.policy_text.specs.Declared.{Declared, Grants, PartitionDetermines}
 use Rattle.policy_text.specs.WellFormed.{WellFormed}
 use Rattle.policy_text.specs.Policy.{viewsWord}
 use Rattle.policy_text.proofs.Grants.{word-bit}
 use Rattle.labelling.specs.Settled.{holdsOne, settled, Known, HasNumber}
-use Rattle.labelling.proofs.Lines.{shown-fits}
-use Rattle.labelling.proofs.Partitions.{known, grants-iff, settled-iff-numbered}
+use Rattle.labelling.proofs.Partitions.{known, grants-iff, settled-iff-numbered, label-views}
 use Rattle.explain.specs.Explanation.{viewsOf, lacking}
 use Rattle.hitting.specs.Best.{Numbered, Hits}
 use Rattle.grants.specs.Smallest.{DeterminesWith, Smallest, Hopeless}
@@ -98,16 +92,6 @@ known-numbered good ns k n m = let (from, to) = k n m in (from, omega (arith, to
 relisted : {views : List Line} {ns ms : List ℕ} {v : Line} (h : HasNumber views ns v) → h .number ∈ ms → HasNumber views ms v
 relisted h m = record { number = h .number; listed = m; from-one = h .from-one; view = h .view }
 
--- the views of a label are views of the policy
-label-views : (d : Declared) → WellFormed d → (Q : Query) → AllFit (d .widths) Q → (w : ℕ) → w ∈ labels (d .views) Q
-    → viewsOf w < 2 ^ length (d .views)
-unfolding labels label viewsOf
-label-views d good Q fits w m =
-    let (A, i, e) = Memᴰ·of-map (label (d .views)) (show (reduce Q)) m in
-    let small : A .table < 2 ^ halfBits = omega (arith, shown-fits (d .widths) Q fits A i .last, good .tables .few) in
-    let views : viewsOf w ≡ viewBits (d .views) A = ap viewsOf (sym e) ∙ high-part halfBits (viewBits (d .views) A) small in
-    subst (λ (x : ℕ). x < 2 ^ length (d .views)) (sym views) (tests-below (λ v. covers v A) (d .views))
-
 module _ (d : Declared) (good : WellFormed d) (i : ℕ) (vs : List ℕ) (at : getElem? (d .partitions) i ≡ some vs) where
   -- a view of the partition or an added one
   with-iff : (ns : List ℕ) (v : Line) → (Grants d i v ⊎ HasNumber (d .views) ns v) ↔ HasNumber (d .views) (vs ++ ns) v
@@ -147,6 +131,7 @@ module _ (d : Declared) (good : WellFormed d) (i : ℕ) (vs : List ℕ) (at : ge
         omega (arith, bit-zero (n - 1), ap (λ (w : ℕ). bit w (n - 1)) (eqb-true 0 v (sym (holds-true _ z))), b)
 
     pub smallest-best : (added : List ℕ) → BestFor lacks added → Smallest d i Q added
+    unfolding viewsOf
     smallest-best added best = record {
       known = there;
       ascending = best .ascending;

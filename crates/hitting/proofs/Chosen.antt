@@ -7,26 +7,21 @@ use mathlib.Core.List.{List, [], _∷_, List·Memᴰ·head, List·Memᴰ·tail, 
 use Prim.Native.Nat.{ℕ, zero, suc, _+_, _≤_, _<_}
 use native.Mathlib.Decide.{ℕ-discrete, decLt}
 use native.Mathlib.Omega.{arith}
-use lib.Dec.{T, ltb, lt→ltb}
+use lib.Dec.{T}
 use lib.ListN.{getElem?}
 use Rattle.words.specs.Bits.{bit}
 use Rattle.words.proofs.Bits.{bit-zero}
 use Rattle.theory.specs.Query.{_∈_}
 use Rattle.theory.specs.Reduce.{without}
 use Rattle.theory.proofs.Lists.{place, at-place}
-use Rattle.theory.proofs.Executable.Test.{and-iff}
 use Rattle.model.specs.Limits.{mostViews}
 use Rattle.policy_text.specs.WellFormed.{ascend}
+use Rattle.policy_text.proofs.Ascend.{ascend-more}
 use Rattle.hitting.specs.Order.{Lower, here, further}
 use Rattle.hitting.specs.Best.{Numbered, ofView, Meets, Hits}
 use Rattle.hitting.specs.Table.{viewWeight, left, weight, Lightest}
 use Rattle.hitting.proofs.Lightest.{numbered-none, numbered-more, numbered-without, left-part, put-one, take-one, weight-without}
 use Rattle.hitting.proofs.Lightest.{lightest-nothing, lightest-once}
-
-ascend-more : (v : ℕ) (l : List ℕ) → ((y : ℕ) → y ∈ l → v < y) → T (ascend l) → T (ascend (v ∷ l))
-unfolding ascend
-ascend-more v [] above h = tt
-ascend-more v (u ∷ l) above h = and-iff (ltb v u) _ .1 (lt→ltb v u (above u (List·Memᴰ·head refl)), h)
 
 module _ (hits costs : List ℕ) where
   -- no view for no label; else the first of the views that begin a lightest list, and then what is chosen for what it leaves

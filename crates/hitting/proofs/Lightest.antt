@@ -12,10 +12,10 @@ use lib.ListN.{getElem?, getD}
 use lib.Pow.{pow-mono}
 use Rattle.words.specs.Bits.{bit}
 use Rattle.words.specs.Sets.{Without, meet}
-use Rattle.words.proofs.Bits.{bit-cases, bit-zero, bit-within}
+use Rattle.words.proofs.Bits.{below-power, bit-cases, bit-zero, bit-within}
 use Rattle.words.proofs.ClearBits.{without-xor}
 use Rattle.words.proofs.Tests.{meet-iff}
-use Rattle.words.proofs.WithoutBits.{below-power, without-same, without-less}
+use Rattle.words.proofs.WithoutBits.{without-same, without-less}
 use Rattle.theory.specs.Reduce.{without}
 use Rattle.theory.proofs.Lists.{none≢some, place, without-subset, without-cases}
 use Rattle.model.specs.Limits.{mostViews}

@@ -21,6 +21,7 @@ use Rattle.theory.proofs.Determine.{settles-iff-determines, no-view-determines}
 use Rattle.words.specs.Bits.{bit, halfBits}
 use Rattle.words.specs.Sets.{meet}
 use Rattle.words.proofs.Parts.{high-part}
+use Rattle.words.proofs.TestBits.{tests-below}
 use Rattle.words.proofs.Tests.{meet-iff}
 use Rattle.model.specs.Limits.{mostViews}
 use Rattle.query_text.specs.Text.{accepted, read}
@@ -62,6 +63,16 @@ module _ (views : List Line) (ns : List ℕ) (few : length views ≤ mostViews) 
           (meet-iff 64 (label views A / 2 ^ halfBits) (viewsWord ns) .1 (k, omega (arith, b), x, word-bit ns k .1 (b, c .listed)))
 
 -- ---- all labels
+
+-- the views of a label are views of the policy
+pub label-views : (d : Declared) → WellFormed d → (Q : Query) → AllFit (d .widths) Q → (w : ℕ) → w ∈ labels (d .views) Q
+    → w / 2 ^ halfBits < 2 ^ length (d .views)
+unfolding labels label
+label-views d good Q fits w m =
+    let (A, i, e) = Memᴰ·of-map (label (d .views)) (show (reduce Q)) m in
+    let small : A .table < 2 ^ halfBits = omega (arith, shown-fits (d .widths) Q fits A i .last, good .tables .few) in
+    let views = ap (λ (x : ℕ). x / 2 ^ halfBits) (sym e) ∙ high-part halfBits (viewBits (d .views) A) small in
+    subst (λ (x : ℕ). x < 2 ^ length (d .views)) (sym views) (tests-below (λ v. covers v A) (d .views))
 
 module _ (d : Declared) (good : WellFormed d) (ns : List ℕ) (known : Known (d .views) ns)
     (Q : Query) (fits : AllFit (d .widths) Q) where

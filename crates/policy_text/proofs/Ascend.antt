@@ -24,6 +24,12 @@ unfolding ascend
 ascend-rest v [] h = tt
 ascend-rest v (u ∷ vs) h = and-iff (ltb v u) _ .0 h .1
 
+-- a view below all others before them
+pub ascend-more : (v : ℕ) (vs : List ℕ) → ((w : ℕ) → w ∈ vs → v < w) → T (ascend vs) → T (ascend (v ∷ vs))
+unfolding ascend
+ascend-more v [] above h = tt
+ascend-more v (u ∷ vs) above h = and-iff (ltb v u) _ .1 (lt→ltb v u (above u (List·Memᴰ·head refl)), h)
+
 -- two lists that ascend and have the same elements are one
 pub ascend-unique : (vs ws : List ℕ) → T (ascend vs) → T (ascend ws) → ((v : ℕ) → (v ∈ vs) ↔ (v ∈ ws)) → vs ≡ ws
 ascend-unique [] [] h g same = refl

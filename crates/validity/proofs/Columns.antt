@@ -3,7 +3,7 @@ use mathlib.Core.Path.{_≡_, refl, sym, ap, _∙_}
 use mathlib.Core.Logic.{_↔_, by-cases}
 use mathlib.Core.Bool.{Bool, true, false, not, false≢true}
 use mathlib.Core.List.{List}
-use Prim.Native.Nat.{ℕ, zero, suc, _+_, _^_, _≤_, _<_}
+use Prim.Native.Nat.{ℕ, _+_, _≤_, _<_}
 use native.Mathlib.Decide.{ℕ-discrete, decLt}
 use native.Mathlib.Omega.{arith}
 use borrow.Author.Count.{below-none, below-more}
@@ -13,7 +13,7 @@ use lib.ListN.{length, getD, replicate}
 use Rattle.theory.specs.Executable.Test.{kind, number}
 use Rattle.words.specs.Bits.{bit}
 use Rattle.words.specs.Sets.{meet}
-use Rattle.words.proofs.Bits.{bit-zero}
+use Rattle.words.proofs.Bits.{below-power, bit-zero}
 use Rattle.words.proofs.Lowest.{trailing-least}
 use Rattle.words.proofs.Tests.{meet-iff}
 use Rattle.model.specs.Limits.{mostColumns, lastVariable}
@@ -64,10 +64,6 @@ module _ (w : ℕ) (ts : List Term) where
 -- ---- at the end
 
 -- a word that is not 0 has a bit
-below-power : (n : ℕ) → n < 2 ^ n
-below-power zero = omega arith
-below-power (suc n) = omega (arith, below-power n)
-
 some-bit : (n : ℕ) → 0 < n → (k : ℕ) × (bit n k ≡ 1)
 some-bit n h = let r = trailing-least n n h (below-power n) in (_, r .set)
 

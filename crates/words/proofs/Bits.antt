@@ -58,6 +58,11 @@ bit-mod n m k h =
     let width : m ≡ d + 1 + k = omega arith in
     ap (λ (x : ℕ). bit (n % 2 ^ x) k) width ∙ ap (λ (x : ℕ). x % 2) (field n (d + 1) k) ∙ mod-mod-pow (n / 2 ^ k) d 1
 
+-- every word has some width
+pub below-power : (n : ℕ) → n < 2 ^ n
+below-power zero = omega arith
+below-power (suc n) = omega (arith, below-power n)
+
 -- a word of w bits has no bit behind them
 pub bit-within : {n : ℕ} (w k : ℕ) → n < 2 ^ w → bit n k ≡ 1 → k < w
 bit-within {n} w k small e = go (decLt k w)

@@ -7,14 +7,9 @@ use native.Mathlib.Omega.{arith}
 use lib.Bits.{bitAnd, and-le-l, and-le-r, xor-add-and}
 use Rattle.words.specs.Bits.{bit, onesBelow}
 use Rattle.words.specs.Sets.{Without}
-use Rattle.words.proofs.Bits.{bit-cases, bit-zero, same-bits}
+use Rattle.words.proofs.Bits.{below-power, bit-cases, bit-zero, same-bits}
 use Rattle.words.proofs.Masks.{bit-and-iff}
 use Rattle.words.proofs.ClearBits.{without-xor}
-
--- a number is a word of as many bits
-pub below-power : (n : ℕ) → n < 2 ^ n
-below-power zero = omega arith
-below-power (suc n) = omega (arith, below-power n)
 
 pub without-once : {a b r s : ℕ} → Without a b r → Without a b s → r ≡ s
 without-once {a} {b} {r} {s} p q =
