@@ -21,10 +21,16 @@ pub fn print_lacking(p: Policy, n: u64, text: &[u8]) {
     let mut numbers = [0; MOST_LINES];
     io::write_all(1, b"  views to add:");
     match grants::smallest_grant(p, n, text, &mut numbers) {
-        Granting::Given { count } => print_numbers(numbers, count),
-        _ => {
-            io::write_all(1, b" none will do");
+        Granting::Given { count } => {
+            print_numbers(numbers, count);
+            io::write_all(1, b"\n");
+        }
+        Granting::Nothing => {
+            io::write_all(1, b" none will do\n");
+        }
+        Granting::Refused { number, line } => {
+            io::write_all(1, b" ");
+            crate::print_refusal(number, line)
         }
     }
-    io::write_all(1, b"\n");
 }
