@@ -14,13 +14,14 @@ mod whole;
 
 use single::{check_in_rattle, decide_in_plain, decide_in_rattle};
 use single::{grant_in_plain, grant_in_rattle, label_in_plain, label_in_rattle};
-use streams::{damaged_files, files, policy, streams, Stream};
+use streams::{damaged_files, files, full_files, policy, streams, Stream};
 use texts::{GRANTED, POLICY, QUERIES};
 use whole::Buffers;
 
 // What is measured, with the least times so far.
 struct Measured {
     streams: Vec<whole::Case>,
+    full: Vec<whole::Case>,
     worst: Vec<whole::Case>,
     labelled: Vec<single::Case>,
     decided: Vec<single::Case>,
@@ -57,6 +58,7 @@ fn prepare(seeds: &[u64], b: &mut Buffers) -> Measured {
     let single = |q: &(&'static str, &str), works| single::case(q.0, &query(q.1), works);
     Measured {
         streams: few.chain(many).map(&mut whole).collect(),
+        full: full_files().into_iter().map(&mut whole).collect(),
         worst: QUERIES[WORST..]
             .iter()
             .map(|q| whole(repeated(q.0, q.1)))
@@ -70,7 +72,8 @@ fn prepare(seeds: &[u64], b: &mut Buffers) -> Measured {
 
 // A round measures everything once, so that what else the machine does for a second falls on all.
 fn round(m: &mut Measured, b: &mut Buffers) {
-    for c in m.streams.iter_mut().chain(&mut m.worst) {
+    let files = m.streams.iter_mut().chain(&mut m.full);
+    for c in files.chain(&mut m.worst) {
         whole::measure(c, b);
     }
     let operations = m.labelled.iter_mut().chain(&mut m.decided);
@@ -112,6 +115,7 @@ fn main() {
         round(&mut m, &mut b);
     }
     tables::print_streams(&m.streams);
+    tables::print_full(&m.full);
     tables::print_worst(&m.worst);
     tables::print_single(&m.labelled, &m.decided);
     tables::print_granted(&m.granted);

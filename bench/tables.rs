@@ -32,6 +32,21 @@ pub fn print_worst(cases: &[whole::Case]) {
     }
 }
 
+pub fn print_full(cases: &[whole::Case]) {
+    println!("\nFull files, in microseconds a file:\n");
+    println!("| queries | Rattle | plain | tuned |");
+    println!("|:---|---:|---:|---:|");
+    for c in cases {
+        let [rattle, plain, tuned] = c
+            .least
+            .map(|nanoseconds| nanoseconds * c.stream.queries as f64 / 1000.0);
+        println!(
+            "| {} {} | {rattle:.0} | {plain:.0} | {tuned:.0} |",
+            c.stream.queries, c.stream.name
+        );
+    }
+}
+
 pub fn print_single(labelled: &[single::Case], decided: &[single::Case]) {
     println!("\nOne operation, in nanoseconds:\n");
     println!("| query | labelled by Rattle | by plain | decided by Rattle | by plain |");

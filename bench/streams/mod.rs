@@ -2,6 +2,7 @@
 
 mod asked;
 mod damaged;
+mod full;
 mod hard;
 mod lines;
 mod policies;
@@ -11,6 +12,7 @@ use lines::{query_text, Line};
 use random::Random;
 
 pub use damaged::damaged_files;
+pub use full::full_files;
 pub use policies::policy;
 
 // The most bytes of queries in a run.

@@ -23,7 +23,7 @@ headValue ok = record { ok = ok; missing = false; twice = false; shown = 0 }
 
 -- one of the names has this place among the keys
 unfoldable pub placedAt : List ℕ → List Name → ℕ → Bool
-unfolding any key before
+unfolding any before
 placedAt keys xs n = any (λ x. eqb (before (key x) keys) n) xs
 
 -- one of these stands twice

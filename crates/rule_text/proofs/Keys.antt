@@ -4,9 +4,8 @@ use mathlib.Core.Path.{_≡_, refl, sym, ap₂, subst}
 use mathlib.Core.Logic.{⊎-elim}
 use mathlib.Core.Bool.{Bool, true, false, cond, _&&_}
 use mathlib.Core.List.{List, [], _∷_, List·Memᴰ·head, List·Memᴰ·tail, List·Memᴰ·not-nil, List·Memᴰ·cases-cons}
-use Prim.Native.Nat.{ℕ, _+_, _*_, _^_, _≤_, _<_}
+use Prim.Native.Nat.{ℕ, _+_, _^_, _≤_, _<_}
 use native.Mathlib.Nat.{pow-suc, pow-le-pow-right}
-use native.Mathlib.Decide.{decLt}
 use native.Mathlib.Omega.{arith}
 use lib.Dec.{T, leb, ltb, eqb, leb→le, ltb→lt, eqb→eq, eqb-refl, lit<}
 use lib.ListN.{length}
@@ -15,6 +14,7 @@ use Rattle.theory.specs.Query.{_∈_}
 use Rattle.theory.proofs.Executable.Test.{same-test}
 use Rattle.text.specs.Lines.{sameBytes}
 use Rattle.text.specs.Numeral.{isDigit, allDigits}
+use Rattle.text.proofs.LittleEndian.{lowest-byte}
 use Rattle.text.proofs.Names.{same-bytes-iff}
 use Rattle.rules.specs.Text.{isName, lower}
 use Rattle.rule_text.specs.Keys.{key, nameValue}
@@ -60,7 +60,6 @@ name-letter letters b l h =
 -- ---- keys
 
 pub key-bound : (l : List ℕ) → Small l → key l < 256 ^ length l
-unfolding key
 key-bound [] s = lit< tt
 key-bound (b ∷ l) s =
     let h = key-bound l (λ c m. s c (List·Memᴰ·tail m)) in
@@ -71,21 +70,12 @@ key-bound (b ∷ l) s =
 pub key-fits : (l : List ℕ) → Small l → length l ≤ 4 → key l < 2 ^ 32
 key-fits l s h = omega (arith, key-bound l s, pow-le-pow-right {n = 256} (lit< tt) h)
 
-key-step : (b c k m : ℕ) → b < 256 → c < 256 → b + 256 * k ≡ c + 256 * m → (b ≡ c) × (k ≡ m)
-key-step b c k m p q e = go (decLt k m) (decLt m k)
-  where
-    go : Dec (k < m) → Dec (m < k) → (b ≡ c) × (k ≡ m)
-    go (yes h) d = absurd (omega (arith, h, e, p, q))
-    go (no h) (yes g) = absurd (omega (arith, g, e, p, q))
-    go (no h) (no g) = (omega (arith, h, g, e), omega (arith, h, g))
-
 one : (x y : List ℕ) → Small x → Small y → key x ≡ key y → x ≡ y
-unfolding key
 one [] [] s t e = refl
 one [] (c ∷ y) s t e = absurd (omega (arith, e, t c (List·Memᴰ·head refl)))
 one (b ∷ x) [] s t e = absurd (omega (arith, e, s b (List·Memᴰ·head refl)))
 one (b ∷ x) (c ∷ y) s t e =
-    let w = key-step b c (key x) (key y) (omega (arith, s b (List·Memᴰ·head refl))) (omega (arith, t c (List·Memᴰ·head refl))) e in
+    let w = lowest-byte b c (key x) (key y) (omega (arith, s b (List·Memᴰ·head refl))) (omega (arith, t c (List·Memᴰ·head refl))) e in
     ap₂ {C = List ℕ} _∷_ (w .0) (one x y (λ d m. s d (List·Memᴰ·tail m)) (λ d m. t d (List·Memᴰ·tail m)) (w .1))
 
 -- ---- the keys of names
@@ -105,7 +95,7 @@ module _ (letters : ℕ) (first : 48 ≤ letters) (last : letters ≤ lower) whe
   name-key-fits (b ∷ l) h = key-fits (b ∷ l) (name-small (b ∷ l) h) (omega (arith, name-letter letters b l h .few))
 
   pub name-key-some : (l : List ℕ) → T (isName letters l) → 0 < key l
-  unfolding isName key
+  unfolding isName
   name-key-some [] h = absurd h
   name-key-some (b ∷ l) h = omega (arith, name-letter letters b l h .from, first)
 

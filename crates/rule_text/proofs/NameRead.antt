@@ -57,7 +57,7 @@ no-digit letters (b ∷ l) (suc i) p h e =
 
 name-value : (letters : ℕ) (l : List ℕ) → 0 < length l → length l ≤ 4 → allDigits (drop 1 l) ≡ true → letters ≤ getD l 0 0
     → getD l 0 0 < letters + 26 → key (drop 1 l) * 256 + getD l 0 0 ≡ nameValue letters l
-unfolding isName nameValue key
+unfolding isName nameValue
 name-value letters [] h k d p q = absurd (not-suc-le-zero h)
 name-value letters (b ∷ l) h k d p q =
     rw (le-leb letters b p, lt-ltb b (letters + 26) q, d, le-leb (length l) 3 (omega arith)) (omega arith)
@@ -73,7 +73,7 @@ pub record NameRead (l : List ℕ) (k i : ℕ) : Type 0 where
   pub value : k ≡ key (drop i l)
 
 pub name-none : (l : List ℕ) → 1 ≤ length l → length l ≤ 4 → NameRead l 0 (length l)
-unfolding allDigits key
+unfolding allDigits
 name-none l h k =
     record { first = h; within = omega arith; few = k; digits = rw (drop-length l); value = rw (drop-length l) }
 
@@ -88,7 +88,7 @@ module _ {l : List ℕ} {k i : ℕ} (r : NameRead l k i) where
       shorter r = simp length-drop (omega (arith, r .first, r .few))
 
   pub name-more : 1 < i → isDigit (getD l (i - 1) 0) ≡ true → NameRead l (k * 256 + getD l (i - 1) 0) (i - 1)
-  unfolding allDigits key
+  unfolding allDigits
   name-more h e =
       let at : drop (i - 1) l ≡ getD l (i - 1) 0 ∷ drop i l = before in
       record {

@@ -37,9 +37,6 @@ fn names_at(text: &[u8], at: usize) -> bool
     if text.len() < at + NAMES {
         return false;
     }
-    if text[at] != b't' {
-        return false;
-    }
     if text[at + NAMES_END] != b'\n' {
         return false;
     }

@@ -5,7 +5,7 @@ use crate::compare;
 use test_expect::counted;
 
 // The policy of the examples that are about files: one table, whose view 1 is all of it and stands in partition 1.
-fn policy() -> [u8; 79] {
+pub fn policy() -> [u8; 79] {
     *b"table columns\n1 2\nview table terms\n1 1 !1 !2\n2 1 !1 ?2\npartition views\n1 1\n2 2\n"
 }
 

@@ -1,9 +1,10 @@
 -- Lines and fields. A text is a list of bytes.
+use mathlib.Core.Path.{_≡_}
 use mathlib.Core.Bool.{Bool, true, false, cond, _&&_}
 use mathlib.Core.List.{List, [], _∷_, _++_}
-use Prim.Native.Nat.{ℕ, suc}
+use Prim.Native.Nat.{ℕ, suc, _<_}
 use lib.Dec.{eqb, leb}
-use lib.ListN.{length, drop}
+use lib.ListN.{length, getD, drop}
 
 -- "each line ended by byte 10 (decimal)"
 abbrev pub newline : ℕ
@@ -58,3 +59,8 @@ sameBytes [] [] = true
 sameBytes [] (c ∷ m) = false
 sameBytes (b ∷ l) [] = false
 sameBytes (b ∷ l) (c ∷ m) = eqb b c && sameBytes l m
+
+-- "both lines have the same length and bytes"
+pub record SameLine (a b : List ℕ) : Type 0 where
+  pub long : length a ≡ length b
+  pub bytes : (k : ℕ) → k < length a → getD a k 0 ≡ getD b k 0

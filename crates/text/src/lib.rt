@@ -1,14 +1,18 @@
 // What every text is made of: lines and fields found in a slice of bytes, names lines, numerals.
 
+mod comparing;
+
 ghost use mathlib.Core.Bool.{not};
 ghost use mathlib.Core.Path.{_≡_};
 ghost use mathlib.Core.Option.{some};
 ghost use Prim.Native.Nat.{_+_, _-_, _*_, _<_, _≤_, _^_};
 ghost use lib.ListN.{length};
 ghost use Rattle.text.specs.Cursors.{NextLine, AfterNames};
-ghost use Rattle.text.specs.Lines.{before, sameBytes};
+ghost use Rattle.text.specs.Lines.{before};
 ghost use Rattle.text.specs.Numeral.{leads};
 ghost use Rattle.text.specs.Value.{limited, numeralValue};
+pub use comparing::same;
+pub use comparing::word_at;
 
 // The most digits of a numeral.
 pub const MOST_DIGITS: usize = 20;
@@ -58,23 +62,6 @@ pub fn first(s: &[u8], b: u8) -> usize
         i += 1;
     }
     i
-}
-
-// Whether two lines have the same bytes.
-pub fn same<'a>(a: &'a [u8], b: &'a [u8]) -> bool
-    ensures { λ r. ⌜ r ≡ sameBytes (now (a .entry)) (now (b .entry)) ⌝ }
-{
-    if a.len() != b.len() {
-        return false;
-    }
-    let mut i = 0;
-    while i < a.len() {
-        if a[i] != b[i] {
-            return false;
-        }
-        i += 1;
-    }
-    true
 }
 
 // A reader's work, on its two parts.

@@ -18,20 +18,14 @@ add-if1 c = search needs
 returns : tie.Need-returns
 returns c is = absurd (false≢true is)
 
+add-if2 : tie.Need-add-if2
+add-if2 c = search needs
+
 shared-slice-read-if2 : tie.Need-shared-slice-read-if2
 shared-slice-read-if2 c = search needs
 
 returns-2 : tie.Need-returns-2
 returns-2 c is = absurd (false≢true is)
-
-add-if3 : tie.Need-add-if3
-add-if3 c = search needs
-
-shared-slice-read-if3 : tie.Need-shared-slice-read-if3
-shared-slice-read-if3 c = search needs
-
-returns-3 : tie.Need-returns-3
-returns-3 c is = absurd (false≢true is)
 
 sub-rest : tie.Need-sub-rest
 sub-rest c = search needs
@@ -51,14 +45,14 @@ slice-aggregate-same-2 c = search needs
 same-requires : tie.Need-same-requires
 same-requires c κs = search needs
 
-returns-4 : tie.Need-returns-4
+returns-3 : tie.Need-returns-3
 unfolding tableTerms
-returns-4 c is =
+returns-3 c is =
     let d = c .before .before .before .before in
-    let s = d .before .before .before .before .before .before in
+    let s = d .before .before .before .before in
     let at = s .args .at in
     let same = same-bytes-iff _ tableTerms .0 (true-holds (sym (c .same .ensures) ∙ is)) in
-    names-there at (omega arith) (rw (to-end at (s .args .text .now)) at same) (d .if3 .left)
+    names-there at (omega arith) (rw (to-end at (s .args .text .now)) at same) (d .if2 .left)
 
 pub names-at-spec : {M : Type 1} → statement M
 names-at-spec =
@@ -66,15 +60,13 @@ names-at-spec =
     (tie.spec
     add-if1
     returns
+    add-if2
     shared-slice-read-if2
     returns-2
-    add-if3
-    shared-slice-read-if3
-    returns-3
     sub-rest
     part-rest-start
     part-rest-end
     slice-aggregate-same
     slice-aggregate-same-2
     same-requires
-    returns-4)
+    returns-3)
