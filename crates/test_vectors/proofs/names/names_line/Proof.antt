@@ -1,38 +1,35 @@
--- `names_line`: the loop's counter, which is all that it asks for.
-use Prim.Native.Nat.{_-_, _≤_}
+-- `names_line` ends.
+use Prim.Native.Nat.{_-_}
 use native.Mathlib.Omega.{arith}
 use Rattle.test_vectors.proofs.names.names_line.Statement.{statement}
 use Rattle.test_vectors.proofs.names.names_line.Tie as tie
 
 abbrev Inv-loop : tie.InvT-loop
-Inv-loop start kind text at bytes line n₀ k₀ n k = k ≤ bytes
+Inv-loop start kind text at end line n₀ i₀ n i = Unit {0}
 
 abbrev μ-loop : tie.MeasureT-loop
-μ-loop start kind text at bytes line n₀ k₀ n k = bytes - k
+μ-loop start kind text at end line n₀ i₀ n i = end - i
 
 loop-holds : tie.Need-loop-holds Inv-loop μ-loop
-loop-holds c = omega arith
-
-add-altered : tie.Need-add-altered Inv-loop μ-loop
-add-altered c = omega arith
+loop-holds c = tt
 
 altered-requires : tie.Need-altered-requires Inv-loop μ-loop
 altered-requires c κs = omega arith
 
-add-altered-2 : tie.Need-add-altered-2 Inv-loop μ-loop
-add-altered-2 c = omega arith
-
 altered-requires-2 : tie.Need-altered-requires-2 Inv-loop μ-loop
 altered-requires-2 c κs = omega arith
 
-add-k : tie.Need-add-k Inv-loop μ-loop
-add-k c = omega arith
+exchanged-with-requires : tie.Need-exchanged-with-requires Inv-loop μ-loop
+exchanged-with-requires c κs = omega arith
+
+add-i : tie.Need-add-i Inv-loop μ-loop
+add-i c = omega arith
 
 loop-less : tie.Need-loop-less Inv-loop μ-loop
 loop-less c = omega arith
 
 loop-again : tie.Need-loop-again Inv-loop μ-loop
-loop-again c = omega arith
+loop-again c = tt
 
 returns : tie.Need-returns Inv-loop μ-loop
 returns c = tt
@@ -44,11 +41,10 @@ names-line-spec =
     Inv-loop
     μ-loop
     loop-holds
-    add-altered
     altered-requires
-    add-altered-2
     altered-requires-2
-    add-k
+    exchanged-with-requires
+    add-i
     loop-less
     loop-again
     returns)
