@@ -7,7 +7,7 @@ use Rattle.text.specs.LittleEndian.{littleEndian}
 use Rattle.rules.specs.Rule.{Name, Arg, variable, number}
 use Rattle.rules.specs.Text.{isName}
 
--- the bytes as digits, the first the lowest
+-- a name as one number
 abbrev pub key : Name → ℕ
 key = littleEndian
 

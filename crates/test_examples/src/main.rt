@@ -11,11 +11,11 @@ fn main() {
     let n = files::read_file(b"cases.txt", &mut names);
     let folders = folders::run_all(&names[..n]);
     let limits = limits::run_all();
-    let names = names::run_all();
+    let altered = names::run_all();
     io::print_decimal(1, folders);
     io::write_all(1, b" examples\n");
     io::print_decimal(1, limits);
     io::write_all(1, b" limits\n");
-    io::print_decimal(1, names);
+    io::print_decimal(1, altered);
     io::write_all(1, b" names lines\n");
 }

@@ -1,6 +1,6 @@
 // Document 01's edges and refusals, each with the number and line that document 01 lays down: the cases of the two files of `data/`,
-// names lines altered in one byte, and texts as long as the limits. A line is printed for each case in which the desk says another and
-// for each line of a file that is malformed, and at the end the number of cases.
+// names lines altered in one byte or two, and texts as long as the limits. A line is printed for each case in which the desk says
+// another and for each line of a file that is malformed, and at the end the number of cases.
 
 mod cases;
 mod expect;

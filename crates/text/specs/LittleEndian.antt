@@ -1,4 +1,4 @@
--- Bytes as one number, which the code compares in their place.
+-- "a word of eight bytes at a time": bytes as one number, which the code compares in their place.
 use mathlib.Core.List.{List, [], _∷_}
 use Prim.Native.Nat.{ℕ, _+_, _*_}
 use lib.ListN.{getD}

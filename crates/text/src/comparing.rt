@@ -9,6 +9,7 @@ ghost use Rattle.text.specs.LittleEndian.{littleEndian, eightAt};
 // How many bytes a word has.
 const WORD: usize = 8;
 
+// A byte, known to be below 256, so that the sum of eight fits.
 fn wide(b: u8) -> u64
     ensures { λ r. ⌜ r ≡ b ⌝ }
     ensures { λ r. ⌜ r < 256 ⌝ }
