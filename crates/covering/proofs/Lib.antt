@@ -7,5 +7,3 @@ pub mod Columns
 pub mod Views
 pub mod Masks
 pub mod Prepared
--- The order of labels.
-pub mod Halves

@@ -1,4 +1,3 @@
-pub mod Order
 pub mod Free
 pub mod Rules
 pub mod Views

@@ -1,4 +1,4 @@
-// Which views cover a line, the line's label, and the order of labels.
+// Which views cover a line, and the line's label.
 
 mod preparing;
 
@@ -11,7 +11,6 @@ ghost use Rattle.model.specs.Rows.{queryRowsLong, HasRow, laidTable};
 ghost use Rattle.covering.specs.Rules.{Obeys, CoversRow};
 ghost use Rattle.covering.specs.Prepared.{preparedLong, Tabled};
 ghost use Rattle.covering.specs.Labelled.{LabelGiven};
-ghost use Rattle.covering.specs.Order.{atOrBelow};
 use model::CONSTANT;
 use model::HIDDEN;
 use model::QueryRows;
@@ -116,16 +115,4 @@ pub fn label_line(ready: &Prepared, lines: &QueryRows, a: usize) -> LineLabel
         label: words::join(table, word),
         grants,
     }
-}
-
-// ---- the order of labels
-
-// Whether label `x` is at or below label `y`.
-pub fn at_or_below(x: u64, y: u64) -> bool
-    ensures { λ r. ⌜ r ≡ atOrBelow x y ⌝ }
-{
-    if words::low_half(x) != words::low_half(y) {
-        return false;
-    }
-    words::includes(words::high_half(x), words::high_half(y))
 }

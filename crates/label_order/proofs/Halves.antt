@@ -7,7 +7,7 @@ use borrow.Author.Tests.{eq-eqb, ne-eqb}
 use Rattle.words.specs.Bits.{halfBits}
 use Rattle.words.specs.Sets.{include}
 use Rattle.words.proofs.Tests.{include-iff}
-use Rattle.covering.specs.Order.{atOrBelow}
+use Rattle.label_order.specs.Order.{atOrBelow}
 use Rattle.words.proofs.Answers.{same-answer}
 use Rattle.words.proofs.Bits.{bit-within}
 

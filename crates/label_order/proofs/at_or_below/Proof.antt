@@ -2,9 +2,9 @@
 use mathlib.Core.Path.{sym, ap₂, _∙_}
 use borrow.Author.Needs.{needs}
 use Rattle.words.specs.Sets.{include}
-use Rattle.covering.proofs.Halves.{other-table, same-table}
-use Rattle.covering.proofs.at_or_below.Statement.{statement}
-use Rattle.covering.proofs.at_or_below.Tie as tie
+use Rattle.label_order.proofs.Halves.{other-table, same-table}
+use Rattle.label_order.proofs.at_or_below.Statement.{statement}
+use Rattle.label_order.proofs.at_or_below.Tie as tie
 
 low-half-requires : tie.Need-low-half-requires
 low-half-requires c κs = search needs
