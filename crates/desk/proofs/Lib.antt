@@ -22,6 +22,7 @@ pub mod Copied
 pub mod Listed
 pub mod Rewriting
 pub mod OneOrder
+pub mod Compared
 -- Explanations.
 pub mod Narrow
 pub mod Explained

@@ -1,17 +1,15 @@
 -- The labels of a query, as the definition gives them, mean rewriting, and are those of every reduced form, in ascending order.
-use mathlib.Core.Path.{subst}
-use mathlib.Core.List.{map, Memᴰ·of-map, List·Permᴰ·trans}
+use mathlib.Core.List.{map, List·Permᴰ·trans}
 use Prim.Native.Nat.{_^_, _<_}
 use native.Mathlib.Omega.{arith}
 use Rattle.words.specs.Bits.{halfBits}
-use Rattle.theory.specs.Query.{over, Line, Query, NoClash, Fits}
+use Rattle.theory.specs.Query.{Line, Query, NoClash, Fits}
 use Rattle.theory.specs.Archive.{AllFit}
 use Rattle.theory.specs.Executable.Reduce.{reduce}
-use Rattle.theory.specs.Executable.Show.{showTerm, show}
+use Rattle.theory.specs.Executable.Show.{show}
 use Rattle.theory.specs.Executable.Label.{label, labels}
 use Rattle.theory.proofs.Lists.{pointwise-of}
-use Rattle.theory.proofs.Executable.Show.{show-is-shown}
-use Rattle.theory.proofs.Tuples.{fits-over}
+use Rattle.theory.proofs.Executable.Show.{show-is-shown, shown-fits}
 use Rattle.theory.proofs.Fixed.{labels-of-any-form}
 use Rattle.theory.proofs.Reduce.{reduced-answers, reduced-reduced, reduced-fits}
 use Rattle.theory.proofs.Label.{label-says-rewriting}
@@ -39,9 +37,7 @@ module _ (d : Declared) (good : WellFormed d) where
   labels-of-form R fits = record {
     shown = show R;
     shows = show-is-shown R;
-    each = pointwise-of (label (d .views)) (show R) (λ A m.
-        let (B, i, e) = Memᴰ·of-map (over (showTerm R)) R m in
-        label-of A (subst (Fits (d .widths)) e (fits-over (showTerm R) B (fits B i))));
+    each = pointwise-of (label (d .views)) (show R) (λ A m. label-of A (shown-fits (show-is-shown R) fits A m));
   }
 
   pub labels-rewrite : (Q : Query) → NoClash Q → AllFit (d .widths) Q → LabelsOf d Q (ascending (labels (d .views) Q))

@@ -7,6 +7,7 @@ pub mod Buffer
 pub mod Listing
 pub mod Rewriting
 pub mod OneOrder
+pub mod Comparing
 pub mod Explaining
 pub mod HoldsLabels
 pub mod Outcomes

@@ -7,8 +7,12 @@ ghost use Rattle.label_order.specs.Order.{atOrBelow};
 pub fn at_or_below(x: u64, y: u64) -> bool
     ensures { λ r. ⌜ r ≡ atOrBelow x y ⌝ }
 {
+    let views = words::high_half(y);
+    if views == 0 {
+        return true;
+    }
     if words::low_half(x) != words::low_half(y) {
         return false;
     }
-    words::includes(words::high_half(x), words::high_half(y))
+    words::includes(words::high_half(x), views)
 }

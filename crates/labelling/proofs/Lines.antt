@@ -1,20 +1,21 @@
 -- A line of a query in its row: its table and width, the partitions that answer it, and the rows of a query shown.
 use mathlib.Core.Path.{_≡_, sym, ap, _∙_, subst}
 use mathlib.Core.Bool.{true}
-use mathlib.Core.List.{List, [], Memᴰ·of-map}
+use mathlib.Core.List.{List, []}
 use mathlib.Core.Option.{some, Option·some-injective}
 use Prim.Native.Nat.{ℕ, _+_, _-_, _≤_, _<_}
 use native.Mathlib.Omega.{arith}
 use lib.Dec.{T}
 use lib.ListN.{length, getD, getElem?}
 use borrow.Author.Tests.{eqb-true}
-use Rattle.theory.specs.Query.{Term, Line, Query, Fits, over, _∈_}
+use Rattle.theory.specs.Query.{Term, Line, Query, over, _∈_}
 use Rattle.theory.specs.Archive.{AllFit}
 use Rattle.theory.specs.Executable.Reduce.{reduce}
 use Rattle.theory.specs.Executable.Show.{showTerm, show}
 use Rattle.theory.proofs.Lists.{at-place, place-below, there}
-use Rattle.theory.proofs.Reduce.{reduced-subset}
+use Rattle.theory.proofs.Reduce.{reduced-fits}
 use Rattle.theory.proofs.Executable.Reduce.{reduce-reduces}
+use Rattle.theory.proofs.Executable.Show.{show-is-shown, shown-fits}
 use Rattle.theory.proofs.Tuples.{getD-mem, fits-over}
 use Rattle.words.specs.Bits.{bit, isSet}
 use Rattle.model.specs.Limits.{mostTables, mostColumns}
@@ -107,13 +108,9 @@ answering {d} {r = r} {A} {w} ready reached = record { bits = λ i ns at. (reach
 
 -- ---- the lines of a query, shown
 
--- the lines that are left are lines of the query, and showing keeps their tables and widths
-pub shown-fits : (widths : List ℕ) (Q : Query) → AllFit widths Q → AllFit widths (show (reduce Q))
-unfolding show
-shown-fits widths Q f B m =
-    let R = reduce Q in
-    let a = Memᴰ·of-map (over (showTerm R)) R m in
-    subst (λ (C : Line). Fits widths C) (a .2) (fits-over (showTerm R) (a .0) (f (a .0) (reduced-subset (reduce-reduces Q) (a .0) (a .1))))
+-- the lines that are labelled fit where the query does
+pub labelled-fits : (widths : List ℕ) (Q : Query) → AllFit widths Q → AllFit widths (show (reduce Q))
+labelled-fits widths Q f = shown-fits (show-is-shown (reduce Q)) (reduced-fits (reduce-reduces Q) f)
 
 -- the line in row i, shown by a word
 module _ {d : Declared} {Q : Query} {w : ℕ} {lines : List ℕ} (r : Rows d Q w lines) (i : ℕ) (h : i < length Q) where

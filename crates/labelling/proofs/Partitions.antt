@@ -34,7 +34,7 @@ use Rattle.words.proofs.Answers.{true-holds, holds-true}
 use Rattle.entering.specs.Agree.{lineAt}
 use Rattle.labelling.specs.Settled.{holdsOne, settled, granted, answers, Known, HasNumber}
 use Rattle.labelling.proofs.Granted.{covering-answers, answers-covering}
-use Rattle.labelling.proofs.Lines.{shown-fits}
+use Rattle.labelling.proofs.Lines.{labelled-fits}
 
 -- ---- one label
 
@@ -70,7 +70,7 @@ pub label-views : (d : Declared) → WellFormed d → (Q : Query) → AllFit (d 
 unfolding labels label
 label-views d good Q fits w m =
     let (A, i, e) = Memᴰ·of-map (label (d .views)) (show (reduce Q)) m in
-    let small : A .table < 2 ^ halfBits = omega (arith, shown-fits (d .widths) Q fits A i .last, good .tables .few) in
+    let small : A .table < 2 ^ halfBits = omega (arith, labelled-fits (d .widths) Q fits A i .last, good .tables .few) in
     let views = ap (λ (x : ℕ). x / 2 ^ halfBits) (sym e) ∙ high-part halfBits (viewBits (d .views) A) small in
     subst (λ (x : ℕ). x < 2 ^ length (d .views)) (sym views) (tests-below (λ v. covers v A) (d .views))
 
@@ -83,7 +83,7 @@ module _ (d : Declared) (good : WellFormed d) (ns : List ℕ) (known : Known (d 
       ∙ all-same (λ A. meet 64 (label (d .views) A / 2 ^ halfBits) (viewsWord ns)) (λ A. any (λ v. covers v A) (granted (d .views) ns))
       (show (reduce Q))
       (λ A m.
-      let f = shown-fits (d .widths) Q fits A m in
+      let f = labelled-fits (d .widths) Q fits A m in
       holds-granted (d .views) ns (good .views .few) known A (omega (arith, f .last, good .tables .few)))
 
   -- "A partition determines a query …": any two archives that agree on its views agree on the query

@@ -1,6 +1,6 @@
 -- Facts on lists that the kit's libraries lack: places, lists place by place, a list without one of its places, lists without
 -- repeats.
-use mathlib.Core.Path.{_≡_, refl, sym, ap, _∙_}
+use mathlib.Core.Path.{_≡_, refl, sym, ap, subst, _∙_}
 use mathlib.Core.Logic.{_⊎_, inl, inr, ⊎-elim, _≢_}
 use mathlib.Core.Option.{Option, none, some, Option·some-injective}
 use mathlib.Core.List.{List, [], _∷_, _++_, map, List·Memᴰ·head, List·Memᴰ·tail, List·Memᴰ·not-nil, List·Memᴰ·cases-cons}
@@ -140,6 +140,17 @@ module _ {X : Type 0} where
       (List·Memᴰ·cases-cons (from z (without-subset (p .0) ys m))))))
       (permuted-out ys (p .0) (p .1))
 
+-- an element of a list is one of the list in another order
+pub permuted-in : {X : Type 0} {x : X} {l m : List X} → List·Permᴰ l m → x ∈ l → x ∈ m
+permuted-in List·Permᴰ·nil i = i
+permuted-in (List·Permᴰ·cons e p) i =
+    ⊎-elim (λ here. List·Memᴰ·head (here ∙ e)) (λ t. List·Memᴰ·tail (permuted-in p t)) (List·Memᴰ·cases-cons i)
+permuted-in (List·Permᴰ·swap e f) i =
+    ⊎-elim (λ here. List·Memᴰ·tail (List·Memᴰ·head (here ∙ e)))
+    (λ t. ⊎-elim (λ here. List·Memᴰ·head (here ∙ f)) (λ u. List·Memᴰ·tail (List·Memᴰ·tail u)) (List·Memᴰ·cases-cons t))
+    (List·Memᴰ·cases-cons i)
+permuted-in (List·Permᴰ·trans p q) i = permuted-in q (permuted-in p i)
+
 -- two lists without repeats and without a common element
 pub append-no-repeats : {X : Type 0} (k l : List X) → NoRepeats k → NoRepeats l → ((x : X) → x ∈ k → x ∈ l → ⊥) → NoRepeats (k ++ l)
 append-no-repeats [] l r q apart = q
@@ -185,3 +196,11 @@ pub pointwise-once : {X Y : Type 0} {P : X → Y → Type 0} → ((x : X) (y z :
     → {l : List X} {m k : List Y} → Pointwise P l m → Pointwise P l k → m ≡ k
 pointwise-once h ends ends = refl
 pointwise-once h (next {x = x} {y = y} p rest) (next {y = z} q others) = cc (h x y z p q, pointwise-once h rest others)
+
+-- what stands beside an element
+pub pointwise-in : {X Y : Type 0} {P : X → Y → Type 0} {l : List X} {m : List Y} {y : Y} → Pointwise P l m → y ∈ m
+    → (x : X) × (x ∈ l) × P x y
+pointwise-in ends i = absurd (List·Memᴰ·not-nil i)
+pointwise-in {P = P} (next {x = x} p rest) i =
+    ⊎-elim (λ here. (x, List·Memᴰ·head refl, subst (P x) (sym here) p))
+    (λ t. let (z, m, q) = pointwise-in rest t in (z, List·Memᴰ·tail m, q)) (List·Memᴰ·cases-cons i)

@@ -3,17 +3,19 @@ use mathlib.Core.Path.{_≡_, refl, sym, ap, subst, _∙_}
 use mathlib.Core.Logic.{_↔_, _⊎_, inl, inr, ⊎-elim, _≢_}
 use mathlib.Core.Bool.{Bool, true, false, cond, _&&_}
 use mathlib.Core.Option.{some, Option·some-injective}
-use mathlib.Core.List.{List, [], _∷_, Memᴰ·cast}
+use mathlib.Core.List.{List, [], _∷_, Memᴰ·cast, Memᴰ·of-map}
 use Prim.Native.Nat.{ℕ, zero, suc}
 use native.Mathlib.Nat.{suc-inj, suc-ne-zero}
 use lib.Dec.{T}
 use lib.ListN.{getElem?}
 use mir.Facts.{and-yes, yes-and, or-yes}
-use Rattle.theory.specs.Query.{Term, constant, shown, hidden, over, Line, Query, _∈_}
+use Rattle.theory.specs.Query.{Term, constant, shown, hidden, over, Line, Query, _∈_, Fits}
+use Rattle.theory.specs.Archive.{AllFit}
 use Rattle.theory.specs.Show.{Shared, Shows, Shown}
 use Rattle.theory.specs.Executable.Test.{any, same}
 use Rattle.theory.specs.Executable.Show.{standsIn, shared, showTerm, show}
 use Rattle.theory.proofs.Lists.{none≢some, place, at-place, pointwise-of, pointwise-is-map}
+use Rattle.theory.proofs.Tuples.{fits-over}
 use Rattle.theory.proofs.Executable.Test.{or-iff, any-iff, same-iff}
 
 -- the test of "t is one of the terms"
@@ -130,3 +132,10 @@ unfolding show
 shown-is-show R s =
     pointwise-is-map (over (showTerm R))
     (λ A B h. λ i. record { table = h .0 i; columns = pointwise-is-map (showTerm R) (shows-only R) (h .1) i }) s
+
+-- showing keeps tables and widths
+pub shown-fits : {widths : List ℕ} {R S : Query} → Shown R S → AllFit widths R → AllFit widths S
+unfolding show
+shown-fits {widths} {R} shows fits A m =
+    let (B, i, e) = Memᴰ·of-map (over (showTerm R)) R (subst (λ (X : Query). A ∈ X) (shown-is-show R shows) m) in
+    subst (Fits widths) e (fits-over (showTerm R) B (fits B i))
