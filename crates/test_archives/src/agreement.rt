@@ -4,8 +4,7 @@ ghost use mathlib.Core.Path.{_≡_};
 ghost use Prim.Native.Nat.{_<_};
 ghost use lib.ListN.{length};
 use crate::answers;
-use crate::family::NONE;
-use crate::family::Query;
+use crate::family::as_query;
 
 // The first archive on which both views answer as on this one.
 fn first_alike(v: &[u16; 512], w: &[u16; 512], archive: usize) -> usize
@@ -19,15 +18,6 @@ fn first_alike(v: &[u16; 512], w: &[u16; 512], archive: usize) -> usize
         k += 1;
     }
     archive
-}
-
-// "A view's answers are those of a query with that one line."
-fn as_query(view: u64) -> Query {
-    Query {
-        first: view,
-        second: NONE,
-        third: NONE,
-    }
 }
 
 // For each archive the first that agrees with it on both views. NONE answers the same on every archive.

@@ -29,6 +29,15 @@ pub fn query_of(code: u64) -> Query {
     }
 }
 
+// The query of one line. "A view's answers are those of a query with that one line."
+pub fn as_query(line: u64) -> Query {
+    Query {
+        first: line,
+        second: NONE,
+        third: NONE,
+    }
+}
+
 // Whether both terms are among the first four: `#0`, `!1`, `?3` and `?4`.
 fn of_few_terms(line: u64) -> bool {
     line / 6 < 4 && line % 6 < 4

@@ -1,12 +1,13 @@
 // Every small query under every small partition: what the desk says, beside what all small archives say. A partition
 // determines a query when no two archives that agree on its views tell the query apart. Values, rows and archives are so few
 // that all are gone through, by document 01's definitions; the desk's labels, and what they are made with, are not used. Then the desk's
-// labels are set beside the same answers.
+// labels are set beside the same answers, and their order beside what single views determine.
 
 mod agreement;
 mod answers;
 mod family;
 mod labels;
+mod order;
 mod tally;
 mod texts;
 
@@ -130,4 +131,5 @@ fn main() {
     let p = texts::every_view();
     let l = labels::try_all(p, &codes, &table);
     labels::print(l);
+    order::print(order::try_all());
 }
