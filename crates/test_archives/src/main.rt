@@ -10,6 +10,7 @@ mod labels;
 mod order;
 mod tally;
 mod texts;
+mod two_tables;
 
 ghost use mathlib.Core.Path.{_≡_};
 ghost use lib.ListN.{length};
@@ -131,5 +132,6 @@ fn main() {
     let p = texts::every_view();
     let l = labels::try_all(p, &codes, &table);
     labels::print(l);
-    order::print(order::try_all());
+    order::print(b"pairs of lines ", order::try_all());
+    order::print(b"pairs of lines of two tables ", two_tables::try_all());
 }

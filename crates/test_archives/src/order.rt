@@ -1,6 +1,6 @@
 // The order of labels beside archives. One line's label is at or below another's exactly when each view of the policy that determines the
 // other line determines this one. A view determines a line when no two archives that agree on the view tell the line apart: which do is
-// taken from archives alone. All lines are of one table, so labels of two tables are not compared here.
+// taken from archives alone. Here are the lines of one table.
 
 ghost use Prim.Native.Nat.{_<_};
 use crate::agreement;
@@ -12,7 +12,7 @@ use crate::texts;
 use model::Policy;
 
 // How many lines there are. A view is a line too.
-const LINES: usize = 36;
+pub const LINES: usize = 36;
 
 // Of the ordered pairs of lines under one policy those that are at or below by the archives, and of these those whose second line no view
 // of the policy determines. Those that only the desk puts at or below, or only the archives, count against the desk.
@@ -24,7 +24,7 @@ pub struct Compared {
     pub archives_alone: u64,
 }
 
-fn zero() -> Compared {
+pub fn zero() -> Compared {
     Compared {
         pairs: 0,
         below: 0,
@@ -112,23 +112,39 @@ fn count(t: Compared, a: Line, b: Line) -> Compared {
     next
 }
 
+// Every pair of the first `lines` lines, which have these labels under the policy of two views.
+pub fn compare(
+    t: Compared,
+    determined: &[bool; 1296],
+    labels: &[u64; 36],
+    lines: usize,
+    first: usize,
+    second: usize,
+) -> Compared
+    requires { ⌜ (first < 36) × (second < 36) ⌝ }
+{
+    let mut next = t;
+    let mut pair = 0;
+    while pair < LINES * LINES {
+        let i = pair / LINES;
+        let j = pair % LINES;
+        if i < lines && j < lines {
+            let a = line_under(labels[i], determined, first, second, i);
+            let b = line_under(labels[j], determined, first, second, j);
+            next = count(next, a, b);
+        }
+        pair += 1;
+    }
+    next
+}
+
 // Every pair of lines under the policy of two views.
 fn try_policy(t: Compared, determined: &[bool; 1296], first: usize, second: usize) -> Compared
     requires { ⌜ (first < 36) × (second < 36) ⌝ }
 {
     let mut labels = [0; 36];
     fill_labels(texts::policy(first as u64, second as u64), &mut labels);
-    let mut next = t;
-    let mut pair = 0;
-    while pair < LINES * LINES {
-        let i = pair / LINES;
-        let j = pair % LINES;
-        let a = line_under(labels[i], determined, first, second, i);
-        let b = line_under(labels[j], determined, first, second, j);
-        next = count(next, a, b);
-        pair += 1;
-    }
-    next
+    compare(t, determined, &labels, LINES, first, second)
 }
 
 // Every policy of two views, which ascend and may be equal.
@@ -148,8 +164,8 @@ pub fn try_all() -> Compared {
     t
 }
 
-pub fn print(t: Compared) {
-    tally::print_count(b"pairs of lines ", t.pairs);
+pub fn print(name: &[u8], t: Compared) {
+    tally::print_count(name, t.pairs);
     tally::print_count(b", at or below by the archives ", t.below);
     tally::print_count(
         b", of these with a second line that no view determines ",

@@ -1,20 +1,14 @@
--- `try_policy` ends: `pair` comes nearer to 1296.
+-- `compare` ends: `pair` comes nearer to 1296.
 use Prim.Native.Nat.{_-_, _≤_}
 use borrow.Author.Needs.{needs}
-use Rattle.test_archives.proofs.order.try_policy.Statement.{statement}
-use Rattle.test_archives.proofs.order.try_policy.Tie as tie
+use Rattle.test_archives.proofs.order.compare.Statement.{statement}
+use Rattle.test_archives.proofs.order.compare.Tie as tie
 
 abbrev Inv-loop : tie.InvT-loop
-Inv-loop determined first second labels next₀ pair₀ next pair = pair ≤ 1296
+Inv-loop determined labels lines first second next₀ pair₀ next pair = pair ≤ 1296
 
 abbrev μ-loop : tie.MeasureT-loop
-μ-loop determined first second labels next₀ pair₀ next pair = 1296 - pair
-
-policy-requires : tie.Need-policy-requires Inv-loop μ-loop
-policy-requires c κs = search needs
-
-fill-labels-requires : tie.Need-fill-labels-requires Inv-loop μ-loop
-fill-labels-requires c κs = search needs
+μ-loop determined labels lines first second next₀ pair₀ next pair = 1296 - pair
 
 loop-holds : tie.Need-loop-holds Inv-loop μ-loop
 loop-holds c = search needs
@@ -25,8 +19,8 @@ mul-loop c = search needs
 mul-line-under : tie.Need-mul-line-under Inv-loop μ-loop
 mul-line-under c = search needs
 
-array-read-line-under : tie.Need-array-read-line-under Inv-loop μ-loop
-array-read-line-under c = search needs
+element-copy-out-line-under : tie.Need-element-copy-out-line-under Inv-loop μ-loop
+element-copy-out-line-under c = search needs
 
 line-under-requires : tie.Need-line-under-requires Inv-loop μ-loop
 line-under-requires c κs = search needs
@@ -34,8 +28,8 @@ line-under-requires c κs = search needs
 mul-line-under-2 : tie.Need-mul-line-under-2 Inv-loop μ-loop
 mul-line-under-2 c = search needs
 
-array-read-line-under-2 : tie.Need-array-read-line-under-2 Inv-loop μ-loop
-array-read-line-under-2 c = search needs
+element-copy-out-line-under-2 : tie.Need-element-copy-out-line-under-2 Inv-loop μ-loop
+element-copy-out-line-under-2 c = search needs
 
 line-under-requires-2 : tie.Need-line-under-requires-2 Inv-loop μ-loop
 line-under-requires-2 c κs = search needs
@@ -55,21 +49,19 @@ loop-again c = search needs
 returns : tie.Need-returns Inv-loop μ-loop
 returns c = search needs
 
-pub try-policy-spec : {M : Type 1} → statement M
-try-policy-spec =
+pub compare-spec : {M : Type 1} → statement M
+compare-spec =
     tie.close
     (tie.spec
     Inv-loop
     μ-loop
-    policy-requires
-    fill-labels-requires
     loop-holds
     mul-loop
     mul-line-under
-    array-read-line-under
+    element-copy-out-line-under
     line-under-requires
     mul-line-under-2
-    array-read-line-under-2
+    element-copy-out-line-under-2
     line-under-requires-2
     count-requires
     add-pair
