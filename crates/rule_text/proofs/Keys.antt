@@ -12,9 +12,9 @@ use lib.ListN.{length}
 use mir.Facts.{and-yes}
 use Rattle.theory.specs.Query.{_∈_}
 use Rattle.theory.proofs.Executable.Test.{same-test}
+use Rattle.little_endian.proofs.LittleEndian.{lowest-byte}
 use Rattle.text.specs.Lines.{sameBytes}
 use Rattle.text.specs.Numeral.{isDigit, allDigits}
-use Rattle.text.proofs.LittleEndian.{lowest-byte}
 use Rattle.text.proofs.Names.{same-bytes-iff}
 use Rattle.rules.specs.Text.{isName, lower}
 use Rattle.rule_text.specs.Keys.{key, nameValue}

@@ -3,7 +3,7 @@ use mathlib.Core.Bool.{cond}
 use mathlib.Core.List.{List}
 use Prim.Native.Nat.{ℕ}
 use Rattle.theory.specs.Query.{Term, constant, hidden}
-use Rattle.text.specs.LittleEndian.{littleEndian}
+use Rattle.little_endian.specs.LittleEndian.{littleEndian}
 use Rattle.rules.specs.Rule.{Name, Arg, variable, number}
 use Rattle.rules.specs.Text.{isName}
 

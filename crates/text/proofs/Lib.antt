@@ -1,6 +1,5 @@
 -- The laws of the definitions in specs/, and of what the loops keep.
 pub mod Lines
-pub mod LittleEndian
 pub mod Names
 pub mod Numerals
 pub mod Parts

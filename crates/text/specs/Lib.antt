@@ -1,7 +1,6 @@
 -- Document 01, "The texts": what every text is made of.
 pub mod Cursors
 pub mod Lines
-pub mod LittleEndian
 pub mod Names
 pub mod Numeral
 pub mod Print

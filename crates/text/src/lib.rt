@@ -12,7 +12,6 @@ ghost use Rattle.text.specs.Lines.{before};
 ghost use Rattle.text.specs.Numeral.{leads};
 ghost use Rattle.text.specs.Value.{limited, numeralValue};
 pub use comparing::same;
-pub use comparing::word_at;
 
 // The most digits of a numeral.
 pub const MOST_DIGITS: usize = 20;

@@ -4,7 +4,7 @@ use Prim.Native.Nat.{_-_, _≤_}
 use native.Mathlib.Omega.{arith}
 use lib.ListN.{length, drop}
 use Rattle.text.specs.Lines.{sameBytes}
-use Rattle.text.proofs.LittleEndian.{WordIff, word-iff}
+use Rattle.little_endian.proofs.LittleEndian.{WordIff, word-iff}
 use Rattle.text.proofs.Names.{same-false, same-behind, apart-here}
 use Rattle.text.proofs.comparing.same.Statement.{statement}
 use Rattle.text.proofs.comparing.same.Tie as tie

@@ -8,7 +8,7 @@ use native.Mathlib.Decide.{decLt}
 use native.Mathlib.Omega.{arith}
 use lib.ListN.{length, getD, take, drop, length-drop}
 use lib.Seq.{drop-cons, getD-drop}
-use Rattle.text.specs.LittleEndian.{littleEndian, eightAt}
+use Rattle.little_endian.specs.LittleEndian.{littleEndian, eightAt}
 
 -- the lowest byte, and what stands above it
 pub lowest-byte : (b c k m : ℕ) → b < 256 → c < 256 → b + 256 * k ≡ c + 256 * m → (b ≡ c) × (k ≡ m)

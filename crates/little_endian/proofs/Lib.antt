@@ -1,0 +1,2 @@
+-- The laws of bytes as one number.
+pub mod LittleEndian
