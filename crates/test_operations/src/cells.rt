@@ -2,6 +2,7 @@
 
 ghost use mathlib.Core.Path.{_≡_};
 ghost use lib.ListN.{length};
+use text::Numeral;
 
 const BEFORE: u64 = 777777777;
 
@@ -20,41 +21,31 @@ pub fn untouched_32() -> [u32; 10]
 
 // A list at the head of the buffer: how many words it has, and the cells; those past it are as before.
 pub struct List {
-    pub count: u64,
+    pub count: usize,
     pub cells: [u64; 10],
 }
 
-pub fn one(a: u64) -> List {
-    let b = BEFORE;
-    List {
-        count: 1,
-        cells: [a, b, b, b, b, b, b, b, b, b],
+// A word; where it is none, the number that the cells hold before, which is none that a call writes.
+fn word(bytes: &[u8]) -> u64 {
+    match text::read_numeral(bytes) {
+        Numeral::Value(value) => value,
+        Numeral::Malformed => BEFORE,
+        Numeral::Large => BEFORE,
     }
 }
 
-pub fn two(a: u64, b: u64) -> List {
-    let c = BEFORE;
-    List {
-        count: 2,
-        cells: [a, b, c, c, c, c, c, c, c, c],
+// The list that is spelt with a space between two words, up to ten of them.
+pub fn headed(words: &[u8]) -> List {
+    let mut cells = untouched();
+    let mut count = 0;
+    let mut at = 0;
+    while at < words.len() && count < 10 {
+        let end = test_expect::place_of(words, at, b' ');
+        cells[count] = word(&words[at..end]);
+        count += 1;
+        at = end + 1;
     }
-}
-
-pub fn three(a: u64, b: u64, c: u64) -> List {
-    let d = BEFORE;
-    List {
-        count: 3,
-        cells: [a, b, c, d, d, d, d, d, d, d],
-    }
-}
-
-// Eight words, all of them equal but the last.
-pub fn eight(a: u64, last: u64) -> List {
-    let b = BEFORE;
-    List {
-        count: 8,
-        cells: [a, a, a, a, a, a, a, last, b, b],
-    }
+    List { count, cells }
 }
 
 // The cells of a buffer of 32-bit numbers.

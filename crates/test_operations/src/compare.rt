@@ -3,18 +3,20 @@
 
 ghost use Prim.Native.Nat.{_≤_};
 use crate::cells;
-use crate::cells::List;
 use desk::Explaining;
 use desk::Listing;
 use model::Policy;
 use test_expect::Said;
 
-fn compared(n: u64, got: Said, after: [u64; 10], expected: Said, cells: [u64; 10]) -> u64 {
+// One case more, and its number; it is printed where it is not as it should be.
+fn compared(n: u64, text: &[u8], got: Said, after: [u64; 10], said: Said, cells: [u64; 10]) -> u64 {
     let at = test_expect::counted(n);
-    if !test_expect::same(got, expected) || !cells::same(after, cells) {
+    if !test_expect::same(got, said) || !cells::same(after, cells) {
         test_expect::print_case(at, got);
         io::write_all(1, b", cells");
         cells::print(after);
+        io::write_all(1, b" of ");
+        io::write_all(1, text);
         io::write_all(1, b"\n");
     }
     at
@@ -29,28 +31,13 @@ fn told_labels(r: Listing) -> Said {
     }
 }
 
-fn listed(n: u64, p: Policy, text: &[u8], room: usize, said: Said, cells: [u64; 10]) -> u64
+// The call for labels says this, and leaves these cells.
+pub fn labels(n: u64, p: Policy, text: &[u8], room: usize, said: Said, cells: [u64; 10]) -> u64
     requires { ⌜ room ≤ 10 ⌝ }
 {
     let mut buffer = cells::untouched();
     let r = desk::labels(p, text, &mut buffer[..room]);
-    compared(n, told_labels(r), buffer, said, cells)
-}
-
-// The text has these labels.
-pub fn labels(n: u64, p: Policy, text: &[u8], room: usize, list: List) -> u64
-    requires { ⌜ room ≤ 10 ⌝ }
-{
-    let cells = list.cells;
-    listed(n, p, text, room, test_expect::given(list.count), cells)
-}
-
-// Its labels are refused with this number and line, and the buffer stays.
-pub fn no_labels(n: u64, p: Policy, text: &[u8], room: usize, number: u64, line: u64) -> u64
-    requires { ⌜ room ≤ 10 ⌝ }
-{
-    let said = test_expect::refused(number, line);
-    listed(n, p, text, room, said, cells::untouched())
+    compared(n, text, told_labels(r), buffer, said, cells)
 }
 
 // ---- explanations
@@ -63,7 +50,8 @@ fn told_words(r: Explaining) -> Said {
     }
 }
 
-fn explained(
+// The call for an explanation says this, and leaves these cells.
+pub fn words(
     n: u64,
     p: Policy,
     partition: u64,
@@ -76,39 +64,5 @@ fn explained(
 {
     let mut buffer = cells::untouched_32();
     let r = desk::explain(p, partition, text, &mut buffer[..room]);
-    compared(n, told_words(r), cells::widened(buffer), said, cells)
-}
-
-// The partition settles the query, by these words.
-pub fn settled(n: u64, p: Policy, partition: u64, text: &[u8], room: usize, list: List) -> u64
-    requires { ⌜ room ≤ 10 ⌝ }
-{
-    let said = test_expect::settled(list.count);
-    let cells = list.cells;
-    explained(n, p, partition, text, room, said, cells)
-}
-
-// The partition does not, and lacks these words.
-pub fn unsettled(n: u64, p: Policy, partition: u64, text: &[u8], room: usize, list: List) -> u64
-    requires { ⌜ room ≤ 10 ⌝ }
-{
-    let said = test_expect::unsettled(list.count);
-    let cells = list.cells;
-    explained(n, p, partition, text, room, said, cells)
-}
-
-// The explanation is refused with this number and line, and the buffer stays.
-pub fn no_words(
-    n: u64,
-    p: Policy,
-    partition: u64,
-    text: &[u8],
-    room: usize,
-    number: u64,
-    line: u64,
-) -> u64
-    requires { ⌜ room ≤ 10 ⌝ }
-{
-    let said = test_expect::refused(number, line);
-    explained(n, p, partition, text, room, said, cells::untouched())
+    compared(n, text, told_words(r), cells::widened(buffer), said, cells)
 }

@@ -1,4 +1,4 @@
-// The policies that the operations are called under.
+// The policies that the operations are called under: those of the cases, by number, and altered ones.
 
 ghost use Prim.Native.Nat.{_<_};
 ghost use Rattle.model.specs.Limits.{mostTables, mostColumns, mostViews};
@@ -7,7 +7,7 @@ use model::Term;
 
 // Three views of a table of three columns: one with its first two columns equal, one with the last two hidden and equal, and one
 // with these hidden. Partition n grants view n.
-pub fn equal_columns() -> Policy {
+fn equal_columns() -> Policy {
     let r = load::load(
         b"table columns\n1 3\nview table terms\n1 1 !1 !1 !2\n2 1 !1 ?2 ?2\n3 1 !1 ?2 ?3\npartition views\n1 1\n2 2\n3 3\n",
     );
@@ -15,7 +15,7 @@ pub fn equal_columns() -> Policy {
 }
 
 // Two views of a table of two columns, each with a constant past 32 bits. Partition n grants view n.
-pub fn long_constants() -> Policy {
+fn long_constants() -> Policy {
     let r = load::load(
         b"table columns\n1 2\nview table terms\n1 1 !1 #18446744073709551615\n2 1 !1 #4294967296\npartition views\n1 1\n2 2\n",
     );
@@ -23,7 +23,7 @@ pub fn long_constants() -> Policy {
 }
 
 // Two tables of one column, and one view: all rows of the first.
-pub fn single() -> Policy {
+fn single() -> Policy {
     let r = load::load(
         b"table columns\n1 1\n2 1\nview table terms\n1 1 !1\npartition views\n1 1\n",
     );
@@ -43,6 +43,19 @@ partition views\n1 1\n2 2\n3 3\n4 4\n5 5\n6 6\n7 7\n8 8\n9 9\n10 10\n11 11\n12 1
 ",
     );
     r.policy
+}
+
+pub fn policy(number: u64) -> Policy {
+    match number {
+        1 => test_expect::example(),
+        2 => test_expect::wider(),
+        3 => equal_columns(),
+        4 => long_constants(),
+        5 => single(),
+        6 => widest(),
+        7 => test_expect::altered(),
+        _ => load::empty_policy(),
+    }
 }
 
 // The policy with another count of tables, of views or of partitions.

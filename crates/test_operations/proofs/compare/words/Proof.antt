@@ -1,9 +1,9 @@
--- `explained`: as many cells are lent as there is room.
+-- `words`: as many cells are lent as there is room.
 use native.Mathlib.Omega.{arith}
 use lib.ListN.{length-take}
 use borrow.Author.Needs.{needs}
-use Rattle.test_operations.proofs.compare.explained.Statement.{statement}
-use Rattle.test_operations.proofs.compare.explained.Tie as tie
+use Rattle.test_operations.proofs.compare.words.Statement.{statement}
+use Rattle.test_operations.proofs.compare.words.Tie as tie
 
 untouched-32-requires : tie.Need-untouched-32-requires
 untouched-32-requires c κs = search needs
@@ -29,8 +29,8 @@ compared-requires c κs = search needs
 returns : tie.Need-returns
 returns c = search needs
 
-pub explained-spec : {M : Type 1} → statement M
-explained-spec =
+pub words-spec : {M : Type 1} → statement M
+words-spec =
     tie.close
     (tie.spec
     untouched-32-requires

@@ -1,9 +1,9 @@
--- `listed`: as many cells are lent as there is room.
+-- `labels`: as many cells are lent as there is room.
 use native.Mathlib.Omega.{arith}
 use lib.ListN.{length-take}
 use borrow.Author.Needs.{needs}
-use Rattle.test_operations.proofs.compare.listed.Statement.{statement}
-use Rattle.test_operations.proofs.compare.listed.Tie as tie
+use Rattle.test_operations.proofs.compare.labels.Statement.{statement}
+use Rattle.test_operations.proofs.compare.labels.Tie as tie
 
 untouched-requires : tie.Need-untouched-requires
 untouched-requires c κs = search needs
@@ -26,8 +26,8 @@ compared-requires c κs = search needs
 returns : tie.Need-returns
 returns c = search needs
 
-pub listed-spec : {M : Type 1} → statement M
-listed-spec =
+pub labels-spec : {M : Type 1} → statement M
+labels-spec =
     tie.close
     (tie.spec
     untouched-requires
