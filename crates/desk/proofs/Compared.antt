@@ -107,8 +107,8 @@ gave-listed false before ws {x = x} o (k, below, is) =
     sym (List·getD-append ws (drop (length ws) before) 0 k within) ∙ ap (λ (l : List ℕ). getD l k 0) (sym (o .buffer)) ∙ is in
     subst (λ (n : ℕ). n ∈ ws) cell (getD-mem ws k 0 within)
 
-labelled-fits : (d : Declared) (text : List ℕ) {A : Line} {x : ℕ} → LabelledLine d text A x → Fits (d .widths) A
-labelled-fits d text {A} l =
+line-fits : (d : Declared) (text : List ℕ) {A : Line} {x : ℕ} → LabelledLine d text A x → Fits (d .widths) A
+line-fits d text {A} l =
     let w = accepted-well-read (d .widths) text (l .query) (l .reads) in
     shown-fits (l .shows) (reduced-fits (l .reduces) (w .fits)) A (l .line)
 
@@ -147,6 +147,6 @@ order-over-archives = record {
         first = gave-label d good text (read (d .widths) text) refl before (one .loaded l) gx;
         second = gave-label d good other (read (d .widths) other) refl lent (two .loaded l) gy;
         exactly = λ A B a b.
-            order-of-lines d good A B (labelled-fits d text a) (labelled-fits d other b) x y (a .label) (b .label) r e;
+            order-of-lines d good A B (line-fits d text a) (line-fits d other b) x y (a .label) (b .label) r e;
       };
 }
