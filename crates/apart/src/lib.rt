@@ -6,5 +6,6 @@ mod telling;
 mod unsettled;
 mod writing;
 
+pub use telling::MOST_CELLS;
 pub use telling::Telling;
 pub use telling::tell_apart;

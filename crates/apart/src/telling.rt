@@ -18,7 +18,8 @@ use model::QueryRows;
 // "eight lines and one row for each of at most 32 views": of the odd row's table, so of one table
 const TABLE_VIEWS: usize = 32;
 
-const MOST_CELLS: usize = (MOST_LINES + TABLE_VIEWS) * ROW_CELLS;
+// "under 360 numbers": room for these rows
+pub const MOST_CELLS: usize = (MOST_LINES + TABLE_VIEWS) * ROW_CELLS;
 
 // Whether the partition settles the query, or how many rows tell it apart, or what turns the call back.
 pub enum Telling {

@@ -12,6 +12,7 @@ use model::Outcome;
 use model::Policy;
 
 // The partitions still open, partition n at bit n - 1.
+#[repr(C)]
 pub struct Session {
     pub mask: u64,
 }

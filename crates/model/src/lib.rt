@@ -49,18 +49,21 @@ pub const LAST_VARIABLE: u64 = 63;
 pub type QueryRows = [u64; MOST_LINES * ROW];
 
 // A mark and a number; an unused term is all 0.
+#[repr(C)]
 pub struct Term {
     pub mark: u64,
     pub number: u64,
 }
 
 // A line of a query, or a view: a table and its terms, unused ones behind them.
+#[repr(C)]
 pub struct Line {
     pub table: u64,
     pub terms: [Term; MOST_COLUMNS],
 }
 
 // The columns of each table, 0 behind the last.
+#[repr(C)]
 pub struct Tables {
     pub count: usize,
     pub columns: [u64; MOST_TABLES],
@@ -68,6 +71,7 @@ pub struct Tables {
 
 // The views behind the last are all unused. For each view the partitions that grant it, partition n at bit n - 1; 0 behind the last
 // view.
+#[repr(C)]
 pub struct Policy {
     pub tables: Tables,
     pub view_count: usize,

@@ -1,0 +1,2 @@
+-- Replies by their variants.
+pub mod Tags

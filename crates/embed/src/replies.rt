@@ -1,0 +1,138 @@
+// Replies in numbers.
+
+ghost use mathlib.Core.Path.{_≡_};
+ghost use Rattle.embed.specs.Replies.{refusal, worded, outcomeNumbers, replyNumbers, listingNumbers};
+ghost use Rattle.embed.specs.Replies.{explainingNumbers, tellingNumbers, grantingNumbers, importedNumbers};
+use apart::Telling;
+use desk::Explaining;
+use desk::Listing;
+use desk::Reply;
+use grants::Granting;
+use import::Imported;
+use model::Outcome;
+
+// A number for each word of a reply.
+const REFUSED: u64 = 0;
+
+const ACCEPTED: u64 = 1;
+
+const YES: u64 = 2;
+
+const NO: u64 = 3;
+
+const GIVEN: u64 = 4;
+
+const SETTLED: u64 = 5;
+
+const UNSETTLED: u64 = 6;
+
+const APART: u64 = 7;
+
+const NONE: u64 = 8;
+
+const WRITTEN: u64 = 9;
+
+// A reply: the number of its word, its count, and a refusal's number and line; what a word does not have is 0.
+#[repr(C)]
+pub struct PlainReply {
+    pub word: u64,
+    pub count: u64,
+    pub number: u64,
+    pub line: u64,
+}
+
+fn refused(number: u64, line: u64) -> PlainReply
+    ensures { λ r. ⌜ r ≡ refusal number line ⌝ }
+{
+    PlainReply {
+        word: REFUSED,
+        count: 0,
+        number,
+        line,
+    }
+}
+
+fn counted(word: u64, count: u64) -> PlainReply
+    ensures { λ r. ⌜ r ≡ worded word count ⌝ }
+{
+    PlainReply {
+        word,
+        count,
+        number: 0,
+        line: 0,
+    }
+}
+
+// Of loading and of opening.
+pub fn of_outcome(o: Outcome) -> PlainReply
+    ensures { λ r. ⌜ r ≡ outcomeNumbers o ⌝ }
+{
+    match o {
+        Outcome::Accepted => counted(ACCEPTED, 0),
+        Outcome::Refused { number, line } => refused(number, line),
+    }
+}
+
+// Of deciding.
+pub fn of_reply(o: Reply) -> PlainReply
+    ensures { λ r. ⌜ r ≡ replyNumbers o ⌝ }
+{
+    match o {
+        Reply::Yes { count } => counted(YES, count),
+        Reply::No { count } => counted(NO, count),
+        Reply::Refused { number, line } => refused(number, line),
+    }
+}
+
+// Of giving labels.
+pub fn of_listing(o: Listing) -> PlainReply
+    ensures { λ r. ⌜ r ≡ listingNumbers o ⌝ }
+{
+    match o {
+        Listing::Given { count } => counted(GIVEN, count),
+        Listing::Refused { number, line } => refused(number, line),
+    }
+}
+
+// Of explaining.
+pub fn of_explaining(o: Explaining) -> PlainReply
+    ensures { λ r. ⌜ r ≡ explainingNumbers o ⌝ }
+{
+    match o {
+        Explaining::Settled { count } => counted(SETTLED, count),
+        Explaining::Unsettled { count } => counted(UNSETTLED, count),
+        Explaining::Refused { number, line } => refused(number, line),
+    }
+}
+
+// Of telling apart.
+pub fn of_telling(o: Telling) -> PlainReply
+    ensures { λ r. ⌜ r ≡ tellingNumbers o ⌝ }
+{
+    match o {
+        Telling::Settled => counted(SETTLED, 0),
+        Telling::Apart { rows } => counted(APART, rows),
+        Telling::Refused { number, line } => refused(number, line),
+    }
+}
+
+// Of the smallest grant.
+pub fn of_granting(o: Granting) -> PlainReply
+    ensures { λ r. ⌜ r ≡ grantingNumbers o ⌝ }
+{
+    match o {
+        Granting::Given { count } => counted(GIVEN, count),
+        Granting::Nothing => counted(NONE, 0),
+        Granting::Refused { number, line } => refused(number, line),
+    }
+}
+
+// Of importing a rule.
+pub fn of_imported(o: Imported) -> PlainReply
+    ensures { λ r. ⌜ r ≡ importedNumbers o ⌝ }
+{
+    match o {
+        Imported::Written { bytes } => counted(WRITTEN, bytes),
+        Imported::Refused { number, line } => refused(number, line),
+    }
+}
