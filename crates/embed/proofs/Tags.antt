@@ -14,18 +14,18 @@ use Rattle.grants.specs.declared.granting.Granting.{Granting}
 use Rattle.grants.specs.declared.granting.Granting.the-variants.{Given, Nothing, Refused as NotGranted}
 use Rattle.grants.proofs.granting.Granting.{the-type as grantings}
 use Rattle.embed.specs.Words.{accepted, settled, none}
-use Rattle.embed.specs.Replies.{says, outcomeNumbers, tellingNumbers, grantingNumbers}
+use Rattle.embed.specs.Replies.{says, plainOutcome, plainTelling, plainGranting}
 
-pub tag-accepted : (o : Outcome) → OneOf (0 ∷ []) (Declared.tagOf outcomes o) → says accepted 0 ≡ outcomeNumbers o
+pub tag-accepted : (o : Outcome) → OneOf (0 ∷ []) (Declared.tagOf outcomes o) → says accepted 0 ≡ plainOutcome o
 tag-accepted Accepted h = refl
 tag-accepted (Refused n k) h = absurd (omega arith)
 
-pub tag-settled : (t : Telling) → OneOf (0 ∷ []) (Declared.tagOf tellings t) → says settled 0 ≡ tellingNumbers t
+pub tag-settled : (t : Telling) → OneOf (0 ∷ []) (Declared.tagOf tellings t) → says settled 0 ≡ plainTelling t
 tag-settled Settled h = refl
 tag-settled (Apart n) h = absurd (omega arith)
 tag-settled (NotTold n k) h = absurd (omega arith)
 
-pub tag-none : (g : Granting) → OneOf (1 ∷ []) (Declared.tagOf grantings g) → says none 0 ≡ grantingNumbers g
+pub tag-none : (g : Granting) → OneOf (1 ∷ []) (Declared.tagOf grantings g) → says none 0 ≡ plainGranting g
 tag-none Nothing h = refl
 tag-none (Given n) h = absurd (omega arith)
 tag-none (NotGranted n k) h = absurd (omega arith)

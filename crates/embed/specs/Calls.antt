@@ -22,8 +22,8 @@ use Rattle.grants.specs.declared.granting.Granting.{Granting}
 use Rattle.grants.specs.Granting.{GrantGiven}
 use Rattle.import.specs.declared.importing.Imported.{Imported}
 use Rattle.import.specs.Import.{ImportGiven}
-use Rattle.embed.specs.Replies.{outcomeNumbers, replyNumbers, listingNumbers, explainingNumbers}
-use Rattle.embed.specs.Replies.{tellingNumbers, grantingNumbers, importedNumbers}
+use Rattle.embed.specs.Replies.{plainOutcome, plainReply, plainListing, plainExplaining}
+use Rattle.embed.specs.Replies.{plainTelling, plainGranting, plainImported}
 use Rattle.embed.specs.declared.replies.PlainReply.{PlainReply}
 use Rattle.embed.specs.declared.operations.PlainLoading.{PlainLoading}
 use Rattle.embed.specs.declared.operations.PlainOpening.{PlainOpening}
@@ -31,37 +31,37 @@ use Rattle.embed.specs.declared.operations.PlainDecision.{PlainDecision}
 
 -- ---- replies with a policy or a session
 
-abbrev pub loadingNumbers : Loading → PlainLoading
-loadingNumbers l = record { reply = outcomeNumbers (l .outcome); policy = l .policy }
+abbrev pub plainLoading : Loading → PlainLoading
+plainLoading l = record { reply = plainOutcome (l .outcome); policy = l .policy }
 
-abbrev pub openingNumbers : Opening → PlainOpening
-openingNumbers o = record { reply = outcomeNumbers (o .outcome); session = o .session }
+abbrev pub plainOpening : Opening → PlainOpening
+plainOpening o = record { reply = plainOutcome (o .outcome); session = o .session }
 
-abbrev pub decisionNumbers : Decision → PlainDecision
-decisionNumbers d = record { reply = replyNumbers (d .reply); session = d .session }
+abbrev pub plainDecision : Decision → PlainDecision
+plainDecision d = record { reply = plainReply (d .reply); session = d .session }
 
 -- ---- the calls
 
 abbrev pub Loads : List ℕ → PlainLoading → Type 0
-Loads text r = r ≡ loadingNumbers (loadingValue (load text))
+Loads text r = r ≡ plainLoading (loadingValue (load text))
 
 abbrev pub Opens : Policy → PlainOpening → Type 0
-Opens p r = (o : Opening) × Opened p o × (r ≡ openingNumbers o)
+Opens p r = (o : Opening) × Opened p o × (r ≡ plainOpening o)
 
 abbrev pub Decides : Policy → Session → List ℕ → PlainDecision → Type 0
-Decides p s text r = (d : Decision) × Decided p s text d × (r ≡ decisionNumbers d)
+Decides p s text r = (d : Decision) × Decided p s text d × (r ≡ plainDecision d)
 
 abbrev pub ListsLabels : Policy → (text before : List ℕ) → PlainReply → List ℕ → Type 0
-ListsLabels p text before r after = (l : Listing) × LabelsGiven p text before l after × (r ≡ listingNumbers l)
+ListsLabels p text before r after = (l : Listing) × LabelsGiven p text before l after × (r ≡ plainListing l)
 
 abbrev pub Explains : Policy → ℕ → (text before : List ℕ) → PlainReply → List ℕ → Type 0
-Explains p n text before r after = (e : Explaining) × ExplanationGiven p n text before e after × (r ≡ explainingNumbers e)
+Explains p n text before r after = (e : Explaining) × ExplanationGiven p n text before e after × (r ≡ plainExplaining e)
 
 abbrev pub TellsApart : Policy → ℕ → (text before : List ℕ) → PlainReply → List ℕ → Type 0
-TellsApart p n text before r after = (t : Telling) × ArchivesGiven p n text before t after × (r ≡ tellingNumbers t)
+TellsApart p n text before r after = (t : Telling) × ArchivesGiven p n text before t after × (r ≡ plainTelling t)
 
 abbrev pub Grants : Policy → ℕ → (text before : List ℕ) → PlainReply → List ℕ → Type 0
-Grants p n text before r after = (g : Granting) × GrantGiven p n text before g after × (r ≡ grantingNumbers g)
+Grants p n text before r after = (g : Granting) × GrantGiven p n text before g after × (r ≡ plainGranting g)
 
 abbrev pub Imports : Policy → (rule : List ℕ) → ℕ → (before : List ℕ) → PlainReply → List ℕ → Type 0
-Imports p rule place before r after = (i : Imported) × ImportGiven p rule place before i after × (r ≡ importedNumbers i)
+Imports p rule place before r after = (i : Imported) × ImportGiven p rule place before i after × (r ≡ plainImported i)

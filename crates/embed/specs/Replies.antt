@@ -19,7 +19,7 @@ use Rattle.embed.specs.declared.replies.PlainReply.{PlainReply}
 
 -- document 01, "a count in the reply is 0"
 abbrev pub refusal : (number line : ℕ) → PlainReply
-refusal n k = record { word = 0; count = 0; number = n; line = k }
+refusal n k = record { word = wordNumber refused; count = 0; number = n; line = k }
 
 -- any other word, by its number: it has no refusal's number and no line
 abbrev pub worded : (word count : ℕ) → PlainReply
@@ -29,40 +29,40 @@ abbrev pub says : Word → ℕ → PlainReply
 says w n = worded (wordNumber w) n
 
 -- of loading and of opening
-abbrev pub outcomeNumbers : Outcome → PlainReply
-outcomeNumbers Accepted = says accepted 0
-outcomeNumbers (Refused n k) = refusal n k
+abbrev pub plainOutcome : Outcome → PlainReply
+plainOutcome Accepted = says accepted 0
+plainOutcome (Refused n k) = refusal n k
 
 -- of deciding, with the count of partitions still open
-abbrev pub replyNumbers : Reply → PlainReply
-replyNumbers (Yes n) = says yes n
-replyNumbers (No n) = says no n
-replyNumbers (NotDecided n k) = refusal n k
+abbrev pub plainReply : Reply → PlainReply
+plainReply (Yes n) = says yes n
+plainReply (No n) = says no n
+plainReply (NotDecided n k) = refusal n k
 
 -- of giving labels, with the list's length
-abbrev pub listingNumbers : Listing → PlainReply
-listingNumbers (Given n) = says given n
-listingNumbers (NotListed n k) = refusal n k
+abbrev pub plainListing : Listing → PlainReply
+plainListing (Given n) = says given n
+plainListing (NotListed n k) = refusal n k
 
 -- of explaining, with the list's length
-abbrev pub explainingNumbers : Explaining → PlainReply
-explainingNumbers (Settled n) = says settled n
-explainingNumbers (Unsettled n) = says unsettled n
-explainingNumbers (NotExplained n k) = refusal n k
+abbrev pub plainExplaining : Explaining → PlainReply
+plainExplaining (Settled n) = says settled n
+plainExplaining (Unsettled n) = says unsettled n
+plainExplaining (NotExplained n k) = refusal n k
 
 -- of telling apart, with the number of rows
-abbrev pub tellingNumbers : Telling → PlainReply
-tellingNumbers Settles = says settled 0
-tellingNumbers (Apart n) = says apart n
-tellingNumbers (NotTold n k) = refusal n k
+abbrev pub plainTelling : Telling → PlainReply
+plainTelling Settles = says settled 0
+plainTelling (Apart n) = says apart n
+plainTelling (NotTold n k) = refusal n k
 
 -- of the smallest grant, with the list's length
-abbrev pub grantingNumbers : Granting → PlainReply
-grantingNumbers (Grants n) = says given n
-grantingNumbers Nothing = says none 0
-grantingNumbers (NotGranted n k) = refusal n k
+abbrev pub plainGranting : Granting → PlainReply
+plainGranting (Grants n) = says given n
+plainGranting Nothing = says none 0
+plainGranting (NotGranted n k) = refusal n k
 
 -- of importing a rule, with the number of bytes written
-abbrev pub importedNumbers : Imported → PlainReply
-importedNumbers (Written n) = says written n
-importedNumbers (NotImported n k) = refusal n k
+abbrev pub plainImported : Imported → PlainReply
+plainImported (Written n) = says written n
+plainImported (NotImported n k) = refusal n k

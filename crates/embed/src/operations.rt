@@ -2,7 +2,6 @@
 
 ghost use mathlib.Core.Path.{_≡_};
 ghost use Rattle.label_order.specs.Order.{atOrBelow};
-ghost use Rattle.policy_text.specs.Text.{load as loadText};
 ghost use Rattle.embed.specs.Calls.{Loads, Opens, Decides, ListsLabels, Explains, TellsApart, Grants, Imports};
 use crate::replies::PlainReply;
 use crate::replies::of_explaining;

@@ -1,8 +1,8 @@
 // Replies in numbers.
 
 ghost use mathlib.Core.Path.{_≡_};
-ghost use Rattle.embed.specs.Replies.{refusal, worded, outcomeNumbers, replyNumbers, listingNumbers};
-ghost use Rattle.embed.specs.Replies.{explainingNumbers, tellingNumbers, grantingNumbers, importedNumbers};
+ghost use Rattle.embed.specs.Replies.{refusal, worded, plainOutcome, plainReply, plainListing};
+ghost use Rattle.embed.specs.Replies.{plainExplaining, plainTelling, plainGranting, plainImported};
 use apart::Telling;
 use desk::Explaining;
 use desk::Listing;
@@ -65,7 +65,7 @@ fn counted(word: u64, count: u64) -> PlainReply
 
 // Of loading and of opening.
 pub fn of_outcome(o: Outcome) -> PlainReply
-    ensures { λ r. ⌜ r ≡ outcomeNumbers o ⌝ }
+    ensures { λ r. ⌜ r ≡ plainOutcome o ⌝ }
 {
     match o {
         Outcome::Accepted => counted(ACCEPTED, 0),
@@ -75,7 +75,7 @@ pub fn of_outcome(o: Outcome) -> PlainReply
 
 // Of deciding.
 pub fn of_reply(o: Reply) -> PlainReply
-    ensures { λ r. ⌜ r ≡ replyNumbers o ⌝ }
+    ensures { λ r. ⌜ r ≡ plainReply o ⌝ }
 {
     match o {
         Reply::Yes { count } => counted(YES, count),
@@ -86,7 +86,7 @@ pub fn of_reply(o: Reply) -> PlainReply
 
 // Of giving labels.
 pub fn of_listing(o: Listing) -> PlainReply
-    ensures { λ r. ⌜ r ≡ listingNumbers o ⌝ }
+    ensures { λ r. ⌜ r ≡ plainListing o ⌝ }
 {
     match o {
         Listing::Given { count } => counted(GIVEN, count),
@@ -96,7 +96,7 @@ pub fn of_listing(o: Listing) -> PlainReply
 
 // Of explaining.
 pub fn of_explaining(o: Explaining) -> PlainReply
-    ensures { λ r. ⌜ r ≡ explainingNumbers o ⌝ }
+    ensures { λ r. ⌜ r ≡ plainExplaining o ⌝ }
 {
     match o {
         Explaining::Settled { count } => counted(SETTLED, count),
@@ -107,7 +107,7 @@ pub fn of_explaining(o: Explaining) -> PlainReply
 
 // Of telling apart.
 pub fn of_telling(o: Telling) -> PlainReply
-    ensures { λ r. ⌜ r ≡ tellingNumbers o ⌝ }
+    ensures { λ r. ⌜ r ≡ plainTelling o ⌝ }
 {
     match o {
         Telling::Settled => counted(SETTLED, 0),
@@ -118,7 +118,7 @@ pub fn of_telling(o: Telling) -> PlainReply
 
 // Of the smallest grant.
 pub fn of_granting(o: Granting) -> PlainReply
-    ensures { λ r. ⌜ r ≡ grantingNumbers o ⌝ }
+    ensures { λ r. ⌜ r ≡ plainGranting o ⌝ }
 {
     match o {
         Granting::Given { count } => counted(GIVEN, count),
@@ -129,7 +129,7 @@ pub fn of_granting(o: Granting) -> PlainReply
 
 // Of importing a rule.
 pub fn of_imported(o: Imported) -> PlainReply
-    ensures { λ r. ⌜ r ≡ importedNumbers o ⌝ }
+    ensures { λ r. ⌜ r ≡ plainImported o ⌝ }
 {
     match o {
         Imported::Written { bytes } => counted(WRITTEN, bytes),

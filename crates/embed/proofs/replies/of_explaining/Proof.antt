@@ -1,44 +1,32 @@
+-- `of_explaining`: the numbers of each reply.
 use borrow.Author.Needs.{needs}
 use Rattle.embed.proofs.replies.of_explaining.Statement.{statement}
 use Rattle.embed.proofs.replies.of_explaining.Tie as tie
-use Rattle.embed.proofs.replies.of_explaining.Reads as reads
-use Rattle.embed.proofs.replies.of_explaining.Lts as lts
-use Rattle.embed.proofs.replies.counted.Reads as counted-reads
-use Rattle.embed.proofs.replies.refused.Reads as refused-reads
 
--- src/replies.rt:102:31
 enum-known-o : tie.Need-enum-known-o
 enum-known-o c = search needs
 
--- src/replies.rt:102:42
 counted-requires : tie.Need-counted-requires
 counted-requires c κs = search needs
 
--- src/replies.rt:103:33
 enum-known-o-2 : tie.Need-enum-known-o-2
 enum-known-o-2 c = search needs
 
--- src/replies.rt:103:44
 counted-requires-2 : tie.Need-counted-requires-2
 counted-requires-2 c κs = search needs
 
--- src/replies.rt:104:31
 enum-known-o-3 : tie.Need-enum-known-o-3
 enum-known-o-3 c = search needs
 
--- src/replies.rt:104:49
 refused-requires : tie.Need-refused-requires
 refused-requires c κs = search needs
 
--- src/replies.rt:98:1
 returns : tie.Need-returns
 returns c = rw (c .before .before .o .given .1) (c .counted .ensures)
 
--- src/replies.rt:98:1
 returns-2 : tie.Need-returns-2
 returns-2 c = rw (c .before .before .o2 .given .1) (c .counted2 .ensures)
 
--- src/replies.rt:98:1
 returns-3 : tie.Need-returns-3
 returns-3 c = rw (c .before .before .o3 .given .1) (c .refused .ensures)
 

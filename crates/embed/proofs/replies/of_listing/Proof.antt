@@ -1,32 +1,23 @@
+-- `of_listing`: the numbers of each reply.
 use borrow.Author.Needs.{needs}
 use Rattle.embed.proofs.replies.of_listing.Statement.{statement}
 use Rattle.embed.proofs.replies.of_listing.Tie as tie
-use Rattle.embed.proofs.replies.of_listing.Reads as reads
-use Rattle.embed.proofs.replies.of_listing.Lts as lts
-use Rattle.embed.proofs.replies.counted.Reads as counted-reads
-use Rattle.embed.proofs.replies.refused.Reads as refused-reads
 
--- src/replies.rt:92:26
 enum-known-o : tie.Need-enum-known-o
 enum-known-o c = search needs
 
--- src/replies.rt:92:37
 counted-requires : tie.Need-counted-requires
 counted-requires c κs = search needs
 
--- src/replies.rt:93:28
 enum-known-o-2 : tie.Need-enum-known-o-2
 enum-known-o-2 c = search needs
 
--- src/replies.rt:93:46
 refused-requires : tie.Need-refused-requires
 refused-requires c κs = search needs
 
--- src/replies.rt:88:1
 returns : tie.Need-returns
 returns c = rw (c .before .before .o .given .1) (c .counted .ensures)
 
--- src/replies.rt:88:1
 returns-2 : tie.Need-returns-2
 returns-2 c = rw (c .before .before .o2 .given .1) (c .refused .ensures)
 

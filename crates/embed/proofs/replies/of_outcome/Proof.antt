@@ -1,34 +1,25 @@
+-- `of_outcome`: the numbers of each outcome.
 use mathlib.Core.Path.{_∙_}
 use borrow.Author.Needs.{needs}
 use Rattle.embed.proofs.Tags.{tag-accepted}
 use Rattle.embed.proofs.replies.of_outcome.Statement.{statement}
 use Rattle.embed.proofs.replies.of_outcome.Tie as tie
-use Rattle.embed.proofs.replies.of_outcome.Reads as reads
-use Rattle.embed.proofs.replies.of_outcome.Lts as lts
-use Rattle.embed.proofs.replies.counted.Reads as counted-reads
-use Rattle.embed.proofs.replies.refused.Reads as refused-reads
 
--- src/replies.rt:71:30
 enum-told : tie.Need-enum-told
 enum-told c = search needs
 
--- src/replies.rt:71:30
 counted-requires : tie.Need-counted-requires
 counted-requires c κs = search needs
 
--- src/replies.rt:72:28
 enum-known-o : tie.Need-enum-known-o
 enum-known-o c = search needs
 
--- src/replies.rt:72:46
 refused-requires : tie.Need-refused-requires
 refused-requires c κs = search needs
 
--- src/replies.rt:67:1
 returns : tie.Need-returns
 returns c = c .counted .ensures ∙ tag-accepted (c .before .before .before .args .o) (c .before .before .match .keys1)
 
--- src/replies.rt:67:1
 returns-2 : tie.Need-returns-2
 returns-2 c = rw (c .before .before .o .given .1) (c .refused .ensures)
 

@@ -1,46 +1,34 @@
+-- `of_telling`: the numbers of each reply.
 use mathlib.Core.Path.{_∙_}
 use borrow.Author.Needs.{needs}
 use Rattle.embed.proofs.Tags.{tag-settled}
 use Rattle.embed.proofs.replies.of_telling.Statement.{statement}
 use Rattle.embed.proofs.replies.of_telling.Tie as tie
-use Rattle.embed.proofs.replies.of_telling.Reads as reads
-use Rattle.embed.proofs.replies.of_telling.Lts as lts
-use Rattle.embed.proofs.replies.counted.Reads as counted-reads
-use Rattle.embed.proofs.replies.refused.Reads as refused-reads
 
--- src/replies.rt:113:29
 enum-told : tie.Need-enum-told
 enum-told c = search needs
 
--- src/replies.rt:113:29
 counted-requires : tie.Need-counted-requires
 counted-requires c κs = search needs
 
--- src/replies.rt:114:26
 enum-known-o : tie.Need-enum-known-o
 enum-known-o c = search needs
 
--- src/replies.rt:114:36
 counted-requires-2 : tie.Need-counted-requires-2
 counted-requires-2 c κs = search needs
 
--- src/replies.rt:115:28
 enum-known-o-2 : tie.Need-enum-known-o-2
 enum-known-o-2 c = search needs
 
--- src/replies.rt:115:46
 refused-requires : tie.Need-refused-requires
 refused-requires c κs = search needs
 
--- src/replies.rt:109:1
 returns : tie.Need-returns
 returns c = c .counted .ensures ∙ tag-settled (c .before .before .before .args .o) (c .before .before .match .keys1)
 
--- src/replies.rt:109:1
 returns-2 : tie.Need-returns-2
 returns-2 c = rw (c .before .before .o .given .1) (c .counted2 .ensures)
 
--- src/replies.rt:109:1
 returns-3 : tie.Need-returns-3
 returns-3 c = rw (c .before .before .o2 .given .1) (c .refused .ensures)
 
