@@ -3,6 +3,7 @@
 // then have is met by 8 and by 9.
 
 mod about;
+mod deciding;
 mod operations;
 mod replies;
 

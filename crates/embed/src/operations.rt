@@ -3,6 +3,7 @@
 ghost use mathlib.Core.Path.{_≡_};
 ghost use Rattle.label_order.specs.Order.{atOrBelow};
 ghost use Rattle.embed.specs.Calls.{Loads, Opens, Decides, ListsLabels, Explains, TellsApart, Grants, Imports};
+use crate::deciding::decide_checked;
 use crate::replies::PlainReply;
 use crate::replies::of_explaining;
 use crate::replies::of_granting;
@@ -64,7 +65,7 @@ pub extern "C" fn kolbrees_open(policy: Policy) -> PlainOpening
 pub extern "C" fn kolbrees_decide(policy: Policy, session: Session, text: &[u8]) -> PlainDecision
     ensures { λ r. ⌜ Decides policy session (now (text .entry)) r ⌝ }
 {
-    let d = desk::decide_checked(policy, session, text);
+    let d = decide_checked(policy, session, text);
     let said = d.reply;
     let reply = of_reply(said);
     let left = d.session;

@@ -17,7 +17,8 @@ use model::MOST_LINES;
 use model::Outcome;
 use model::ROW;
 use model::Tables;
-use next::decide_next;
+pub use next::NextDecision;
+pub use next::decide_next;
 
 // The most bytes of queries, and room for the output of any such: a query text behind the first has the 12 bytes of its names line at
 // least.

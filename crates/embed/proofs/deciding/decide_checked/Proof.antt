@@ -1,0 +1,40 @@
+-- `decide_checked`: 8 where no text loads to the value, else what `decide_text` gives.
+use mathlib.Core.Path.{refl}
+use borrow.Author.Needs.{needs}
+use Rattle.words.proofs.Answers.{passes, fails}
+use Rattle.labelling.proofs.Posing.{counted, ready}
+use Rattle.desk.specs.Reply.{said}
+use Rattle.desk.specs.Deciding.{turnedBack}
+use Rattle.desk.proofs.Loaded.{loaded-to}
+use Rattle.embed.proofs.deciding.decide_checked.Statement.{statement}
+use Rattle.embed.proofs.deciding.decide_checked.Tie as tie
+
+valid-requires : tie.Need-valid-requires
+valid-requires c κs = search needs
+
+returns : tie.Need-returns
+unfolding said turnedBack
+returns c = record {
+  unloaded = λ n. record { reply = refl; session = refl };
+  loaded = λ l. absurd (fails (c .before .valid .ensures) (c .if1 .taken) l);
+}
+
+prepare-requires : tie.Need-prepare-requires
+prepare-requires c κs = counted (loaded-to (passes (c .before .valid .ensures) (c .if1 .left)))
+
+decide-text-requires : tie.Need-decide-text-requires
+decide-text-requires c κs =
+    let made = c .before .before in
+    let l = passes (made .before .before .valid .ensures) (made .before .if1 .left) in
+    (l .declared, ready (loaded-to l) (made .prepare .ensures))
+
+returns-2 : tie.Need-returns-2
+returns-2 c =
+    let made = c .before .before .before in
+    record {
+      unloaded = λ n. absurd (n (passes (made .before .before .valid .ensures) (made .before .if1 .left)));
+      loaded = λ l. c .decide-text .ensures (l .declared) (ready (loaded-to l) (made .prepare .ensures));
+    }
+
+pub decide-checked-spec : {M : Type 1} → statement M
+decide-checked-spec = tie.close (tie.spec valid-requires returns prepare-requires decide-text-requires returns-2)
