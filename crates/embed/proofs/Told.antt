@@ -14,9 +14,9 @@ use Rattle.desk.specs.declared.listing.Listing.the-variants.{Given, Refused as 
 use Rattle.desk.specs.declared.explaining.Explaining.{Explaining}
 use Rattle.desk.specs.declared.explaining.Explaining.the-variants.{Settled, Unsettled, Refused as NotExplained}
 use Rattle.apart.specs.declared.telling.Telling.{Telling}
-use Rattle.apart.specs.declared.telling.Telling.the-variants.{Settled as Settles, Apart, Refused as NotTold}
+use Rattle.apart.specs.declared.telling.Telling.the-variants.{Settled as SettledTelling, Apart, Refused as NotTold}
 use Rattle.grants.specs.declared.granting.Granting.{Granting}
-use Rattle.grants.specs.declared.granting.Granting.the-variants.{Given as Grants, Nothing, Refused as NotGranted}
+use Rattle.grants.specs.declared.granting.Granting.the-variants.{Given as GivenGrant, Nothing, Refused as NotGranted}
 use Rattle.import.specs.declared.importing.Imported.{Imported}
 use Rattle.import.specs.declared.importing.Imported.the-variants.{Written, Refused as NotImported}
 use Rattle.embed.specs.Words.{Word, wordNumber, refused, accepted, yes, no, given, settled, unsettled, apart, none, written}
@@ -82,18 +82,18 @@ explanation-back (Unsettled n) = refl
 explanation-back (NotExplained n k) = refl
 
 abbrev telling : PlainReply → Telling
-telling r = either settled Settles (either apart (Apart (r .count)) (NotTold (r .number) (r .line)) r) r
+telling r = either settled SettledTelling (either apart (Apart (r .count)) (NotTold (r .number) (r .line)) r) r
 
 telling-back : (o : Telling) → telling (plainTelling o) ≡ o
-telling-back Settles = refl
+telling-back SettledTelling = refl
 telling-back (Apart n) = refl
 telling-back (NotTold n k) = refl
 
 abbrev granting : PlainReply → Granting
-granting r = either given (Grants (r .count)) (either none Nothing (NotGranted (r .number) (r .line)) r) r
+granting r = either given (GivenGrant (r .count)) (either none Nothing (NotGranted (r .number) (r .line)) r) r
 
 granting-back : (o : Granting) → granting (plainGranting o) ≡ o
-granting-back (Grants n) = refl
+granting-back (GivenGrant n) = refl
 granting-back Nothing = refl
 granting-back (NotGranted n k) = refl
 

@@ -42,26 +42,26 @@ plainDecision d = record { reply = plainReply (d .reply); session = d .session }
 
 -- ---- the calls
 
-abbrev pub Loads : List ℕ → PlainLoading → Type 0
-Loads text r = r ≡ plainLoading (loadingValue (load text))
+abbrev pub LoadCall : List ℕ → PlainLoading → Type 0
+LoadCall text r = r ≡ plainLoading (loadingValue (load text))
 
-abbrev pub Opens : Policy → PlainOpening → Type 0
-Opens p r = (o : Opening) × Opened p o × (r ≡ plainOpening o)
+abbrev pub OpenCall : Policy → PlainOpening → Type 0
+OpenCall p r = (o : Opening) × Opened p o × (r ≡ plainOpening o)
 
-abbrev pub Decides : Policy → Session → List ℕ → PlainDecision → Type 0
-Decides p s text r = (d : Decision) × Decided p s text d × (r ≡ plainDecision d)
+abbrev pub DecideCall : Policy → Session → List ℕ → PlainDecision → Type 0
+DecideCall p s text r = (d : Decision) × Decided p s text d × (r ≡ plainDecision d)
 
-abbrev pub ListsLabels : Policy → (text before : List ℕ) → PlainReply → List ℕ → Type 0
-ListsLabels p text before r after = (l : Listing) × LabelsGiven p text before l after × (r ≡ plainListing l)
+abbrev pub LabelsCall : Policy → (text before : List ℕ) → PlainReply → List ℕ → Type 0
+LabelsCall p text before r after = (l : Listing) × LabelsGiven p text before l after × (r ≡ plainListing l)
 
-abbrev pub Explains : Policy → ℕ → (text before : List ℕ) → PlainReply → List ℕ → Type 0
-Explains p n text before r after = (e : Explaining) × ExplanationGiven p n text before e after × (r ≡ plainExplaining e)
+abbrev pub ExplainCall : Policy → ℕ → (text before : List ℕ) → PlainReply → List ℕ → Type 0
+ExplainCall p n text before r after = (e : Explaining) × ExplanationGiven p n text before e after × (r ≡ plainExplaining e)
 
-abbrev pub TellsApart : Policy → ℕ → (text before : List ℕ) → PlainReply → List ℕ → Type 0
-TellsApart p n text before r after = (t : Telling) × ArchivesGiven p n text before t after × (r ≡ plainTelling t)
+abbrev pub ApartCall : Policy → ℕ → (text before : List ℕ) → PlainReply → List ℕ → Type 0
+ApartCall p n text before r after = (t : Telling) × ArchivesGiven p n text before t after × (r ≡ plainTelling t)
 
-abbrev pub Grants : Policy → ℕ → (text before : List ℕ) → PlainReply → List ℕ → Type 0
-Grants p n text before r after = (g : Granting) × GrantGiven p n text before g after × (r ≡ plainGranting g)
+abbrev pub GrantCall : Policy → ℕ → (text before : List ℕ) → PlainReply → List ℕ → Type 0
+GrantCall p n text before r after = (g : Granting) × GrantGiven p n text before g after × (r ≡ plainGranting g)
 
-abbrev pub Imports : Policy → (rule : List ℕ) → ℕ → (before : List ℕ) → PlainReply → List ℕ → Type 0
-Imports p rule place before r after = (i : Imported) × ImportGiven p rule place before i after × (r ≡ plainImported i)
+abbrev pub ImportCall : Policy → (rule : List ℕ) → ℕ → (before : List ℕ) → PlainReply → List ℕ → Type 0
+ImportCall p rule place before r after = (i : Imported) × ImportGiven p rule place before i after × (r ≡ plainImported i)

@@ -11,7 +11,7 @@ use Rattle.desk.specs.declared.opening.Session.{Session}
 use Rattle.desk.specs.Calls.{Call}
 use Rattle.desk.specs.Demands.{AsDemanded}
 use Rattle.embed.specs.Words.{wordNumber, accepted}
-use Rattle.embed.specs.Calls.{plainDecision, Loads, Opens, Decides}
+use Rattle.embed.specs.Calls.{plainDecision, LoadCall, OpenCall, DecideCall}
 use Rattle.embed.specs.declared.operations.PlainLoading.{PlainLoading}
 use Rattle.embed.specs.declared.operations.PlainOpening.{PlainOpening}
 use Rattle.embed.specs.declared.operations.PlainDecision.{PlainDecision}
@@ -24,7 +24,7 @@ pub record PlainCall : Type 0 where
 -- "Each call gets the session as the call before it left it, after a refusal too"
 pub data PlainCalls (p : Policy) : Session → List PlainCall → Session → Type 0 where
   none-left : {s : Session} → PlainCalls p s [] s
-  one-call : {s t : Session} {cs : List PlainCall} (c : PlainCall) → Decides p s (c .text) (c .gave)
+  one-call : {s t : Session} {cs : List PlainCall} (c : PlainCall) → DecideCall p s (c .text) (c .gave)
       → PlainCalls p (c .gave .session) cs t → PlainCalls p s (c ∷ cs) t
 
 -- a deciding call of the desk, in numbers
@@ -34,6 +34,6 @@ plainCall c = record { text = c .text; gave = plainDecision (c .gave) }
 -- the calls are deciding calls of the desk, in numbers, and what demand 3 claims holds of these
 abbrev pub Demanded : Type 0
 Demanded =
-    (text : List ℕ) (r : PlainLoading) → Loads text r → r .reply .word ≡ wordNumber accepted
-    → (o : PlainOpening) → Opens (r .policy) o → (cs : List PlainCall) (s : Session) → PlainCalls (r .policy) (o .session) cs s
+    (text : List ℕ) (r : PlainLoading) → LoadCall text r → r .reply .word ≡ wordNumber accepted
+    → (o : PlainOpening) → OpenCall (r .policy) o → (cs : List PlainCall) (s : Session) → PlainCalls (r .policy) (o .session) cs s
     → (d : Declared) × (load text ≡ acceptedPolicy d) × (calls : List Call) × (cs ≡ map plainCall calls) × AsDemanded d calls s

@@ -9,9 +9,9 @@ use Rattle.desk.specs.declared.listing.Listing.the-variants.{Given, Refused as 
 use Rattle.desk.specs.declared.explaining.Explaining.{Explaining}
 use Rattle.desk.specs.declared.explaining.Explaining.the-variants.{Settled, Unsettled, Refused as NotExplained}
 use Rattle.apart.specs.declared.telling.Telling.{Telling}
-use Rattle.apart.specs.declared.telling.Telling.the-variants.{Settled as Settles, Apart, Refused as NotTold}
+use Rattle.apart.specs.declared.telling.Telling.the-variants.{Settled as SettledTelling, Apart, Refused as NotTold}
 use Rattle.grants.specs.declared.granting.Granting.{Granting}
-use Rattle.grants.specs.declared.granting.Granting.the-variants.{Given as Grants, Nothing, Refused as NotGranted}
+use Rattle.grants.specs.declared.granting.Granting.the-variants.{Given as GivenGrant, Nothing, Refused as NotGranted}
 use Rattle.import.specs.declared.importing.Imported.{Imported}
 use Rattle.import.specs.declared.importing.Imported.the-variants.{Written, Refused as NotImported}
 use Rattle.embed.specs.Words.{Word, wordNumber, refused, accepted, yes, no, given, settled, unsettled, apart, none, written}
@@ -52,13 +52,13 @@ plainExplaining (NotExplained n k) = refusal n k
 
 -- of telling apart, with the number of rows
 abbrev pub plainTelling : Telling → PlainReply
-plainTelling Settles = says settled 0
+plainTelling SettledTelling = says settled 0
 plainTelling (Apart n) = says apart n
 plainTelling (NotTold n k) = refusal n k
 
 -- of the smallest grant, with the list's length
 abbrev pub plainGranting : Granting → PlainReply
-plainGranting (Grants n) = says given n
+plainGranting (GivenGrant n) = says given n
 plainGranting Nothing = says none 0
 plainGranting (NotGranted n k) = refusal n k
 

@@ -2,7 +2,7 @@
 
 ghost use mathlib.Core.Path.{_≡_};
 ghost use Rattle.label_order.specs.Order.{atOrBelow};
-ghost use Rattle.embed.specs.Calls.{Loads, Opens, Decides, ListsLabels, Explains, TellsApart, Grants, Imports};
+ghost use Rattle.embed.specs.Calls.{LoadCall, OpenCall, DecideCall, LabelsCall, ExplainCall, ApartCall, GrantCall, ImportCall};
 use crate::deciding::decide_checked;
 use crate::replies::PlainReply;
 use crate::replies::of_explaining;
@@ -39,7 +39,7 @@ pub struct PlainDecision {
 // The policy of a text.
 #[no_mangle]
 pub extern "C" fn kolbrees_load(text: &[u8]) -> PlainLoading
-    ensures { λ r. ⌜ Loads (now (text .entry)) r ⌝ }
+    ensures { λ r. ⌜ LoadCall (now (text .entry)) r ⌝ }
 {
     let l = load::load(text);
     let outcome = l.outcome;
@@ -51,7 +51,7 @@ pub extern "C" fn kolbrees_load(text: &[u8]) -> PlainLoading
 // A session under a policy.
 #[no_mangle]
 pub extern "C" fn kolbrees_open(policy: Policy) -> PlainOpening
-    ensures { λ r. ⌜ Opens policy r ⌝ }
+    ensures { λ r. ⌜ OpenCall policy r ⌝ }
 {
     let o = desk::open_session(policy);
     let outcome = o.outcome;
@@ -63,7 +63,7 @@ pub extern "C" fn kolbrees_open(policy: Policy) -> PlainOpening
 // A query text decided in a session.
 #[no_mangle]
 pub extern "C" fn kolbrees_decide(policy: Policy, session: Session, text: &[u8]) -> PlainDecision
-    ensures { λ r. ⌜ Decides policy session (now (text .entry)) r ⌝ }
+    ensures { λ r. ⌜ DecideCall policy session (now (text .entry)) r ⌝ }
 {
     let d = decide_checked(policy, session, text);
     let said = d.reply;
@@ -78,7 +78,7 @@ pub extern "C" fn kolbrees_decide(policy: Policy, session: Session, text: &[u8])
 // The labels of a query text.
 #[no_mangle]
 pub extern "C" fn kolbrees_labels(policy: Policy, text: &[u8], out: &mut [u64]) -> PlainReply
-    ensures { λ r. ⌜ ListsLabels policy (now (text .entry)) (now (out .entry)) r (now (out .exit)) ⌝ }
+    ensures { λ r. ⌜ LabelsCall policy (now (text .entry)) (now (out .entry)) r (now (out .exit)) ⌝ }
 {
     let l = desk::labels(policy, text, out);
     of_listing(l)
@@ -92,7 +92,7 @@ pub extern "C" fn kolbrees_explain(
     text: &[u8],
     out: &mut [u32],
 ) -> PlainReply
-    ensures { λ r. ⌜ Explains policy partition (now (text .entry)) (now (out .entry)) r (now (out .exit)) ⌝ }
+    ensures { λ r. ⌜ ExplainCall policy partition (now (text .entry)) (now (out .entry)) r (now (out .exit)) ⌝ }
 {
     let e = desk::explain(policy, partition, text, out);
     of_explaining(e)
@@ -114,7 +114,7 @@ pub extern "C" fn kolbrees_apart(
     text: &[u8],
     out: &mut [u64],
 ) -> PlainReply
-    ensures { λ r. ⌜ TellsApart policy partition (now (text .entry)) (now (out .entry)) r (now (out .exit)) ⌝ }
+    ensures { λ r. ⌜ ApartCall policy partition (now (text .entry)) (now (out .entry)) r (now (out .exit)) ⌝ }
 {
     let t = apart::tell_apart(policy, partition, text, out);
     of_telling(t)
@@ -128,7 +128,7 @@ pub extern "C" fn kolbrees_grant(
     text: &[u8],
     out: &mut [u32],
 ) -> PlainReply
-    ensures { λ r. ⌜ Grants policy partition (now (text .entry)) (now (out .entry)) r (now (out .exit)) ⌝ }
+    ensures { λ r. ⌜ GrantCall policy partition (now (text .entry)) (now (out .entry)) r (now (out .exit)) ⌝ }
 {
     let g = grants::smallest_grant(policy, partition, text, out);
     of_granting(g)
@@ -142,7 +142,7 @@ pub extern "C" fn kolbrees_import(
     out: &mut [u8],
     place: usize,
 ) -> PlainReply
-    ensures { λ r. ⌜ Imports policy (now (rule .entry)) place (now (out .entry)) r (now (out .exit)) ⌝ }
+    ensures { λ r. ⌜ ImportCall policy (now (rule .entry)) place (now (out .entry)) r (now (out .exit)) ⌝ }
 {
     let i = import::import_rule(policy, rule, out, place);
     of_imported(i)
