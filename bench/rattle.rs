@@ -1,7 +1,7 @@
 // The proved code, linked as a static library. A Rattle slice is a pointer and a length.
 
 extern "C" {
-    fn kolbrees_stream(
+    fn measure_run(
         policy: *const u8,
         policy_bytes: usize,
         queries: *const u8,
@@ -9,21 +9,21 @@ extern "C" {
         out: *mut u8,
         out_bytes: usize,
     ) -> u64;
-    fn kolbrees_label(
+    fn measure_label(
         policy: *const u8,
         policy_bytes: usize,
         query: *const u8,
         query_bytes: usize,
         times: u64,
     ) -> u64;
-    fn kolbrees_decide(
+    fn measure_decide(
         policy: *const u8,
         policy_bytes: usize,
         query: *const u8,
         query_bytes: usize,
         times: u64,
     ) -> u64;
-    fn kolbrees_grant(
+    fn measure_grant(
         policy: *const u8,
         policy_bytes: usize,
         n: u64,
@@ -31,14 +31,14 @@ extern "C" {
         query_bytes: usize,
         times: u64,
     ) -> u64;
-    fn kolbrees_check(policy: *const u8, policy_bytes: usize, times: u64) -> u64;
+    fn measure_check(policy: *const u8, policy_bytes: usize, times: u64) -> u64;
 }
 
 // The whole run over a file: the length of what it writes.
 pub fn run(policy: &[u8], queries: &[u8], out: &mut [u8]) -> usize {
     // SAFETY: each pointer and length are those of a live slice, and only `out` is written.
     unsafe {
-        kolbrees_stream(
+        measure_run(
             policy.as_ptr(),
             policy.len(),
             queries.as_ptr(),
@@ -53,7 +53,7 @@ pub fn run(policy: &[u8], queries: &[u8], out: &mut [u8]) -> usize {
 pub fn label(policy: &str, query: &str, times: u64) -> u64 {
     // SAFETY: each pointer and length are those of a live string.
     unsafe {
-        kolbrees_label(
+        measure_label(
             policy.as_ptr(),
             policy.len(),
             query.as_ptr(),
@@ -67,7 +67,7 @@ pub fn label(policy: &str, query: &str, times: u64) -> u64 {
 pub fn decide(policy: &str, query: &str, times: u64) -> u64 {
     // SAFETY: each pointer and length are those of a live string.
     unsafe {
-        kolbrees_decide(
+        measure_decide(
             policy.as_ptr(),
             policy.len(),
             query.as_ptr(),
@@ -81,7 +81,7 @@ pub fn decide(policy: &str, query: &str, times: u64) -> u64 {
 pub fn grant(policy: &str, n: u64, query: &str, times: u64) -> u64 {
     // SAFETY: each pointer and length are those of a live string.
     unsafe {
-        kolbrees_grant(
+        measure_grant(
             policy.as_ptr(),
             policy.len(),
             n,
@@ -95,5 +95,5 @@ pub fn grant(policy: &str, n: u64, query: &str, times: u64) -> u64 {
 // How often the policy is found valid in so many checks.
 pub fn check(policy: &str, times: u64) -> u64 {
     // SAFETY: the pointer and the length are those of a live string.
-    unsafe { kolbrees_check(policy.as_ptr(), policy.len(), times) }
+    unsafe { measure_check(policy.as_ptr(), policy.len(), times) }
 }

@@ -6,6 +6,10 @@ use Rattle.policy_text.specs.Text.{mostPolicyBytes}
 use Rattle.apart.specs.Archives.{mostCells}
 use Rattle.embed.specs.declared.about.About.{About}
 
+-- of the functions and structs that C sees
+abbrev pub version : ℕ
+version = 1
+
 -- every field has 64 bits
 abbrev pub cell : ℕ
 cell = 8
@@ -27,7 +31,7 @@ policySize = cell + mostTables * cell + cell + mostViews * lineSize + cell + mos
 abbrev pub about : About
 about =
     record {
-      version = 1;
+      version = version;
       «policy_size» = policySize;
       «session_size» = sessionSize;
       «reply_size» = replySize;

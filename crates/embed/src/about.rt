@@ -1,8 +1,7 @@
 // What the library was built with, so that a header or a binding that was written for another one is found out.
 
 ghost use mathlib.Core.Path.{_≡_};
-ghost use Rattle.embed.specs.About.{about};
-use freezing::ROW_CELLS;
+ghost use Rattle.embed.specs.About.{version, about};
 use model::MOST_COLUMNS;
 use model::MOST_LINES;
 use model::MOST_PARTITIONS;
@@ -40,6 +39,14 @@ pub struct About {
     pub most_partitions: u64,
     pub most_policy_bytes: u64,
     pub most_apart_cells: u64,
+}
+
+// The version alone, for a caller whose structs may be those of another one.
+#[no_mangle]
+pub extern "C" fn kolbrees_version() -> u64
+    ensures { λ r. ⌜ r ≡ version ⌝ }
+{
+    VERSION
 }
 
 #[no_mangle]

@@ -9,6 +9,7 @@ mod replies;
 
 pub use about::About;
 pub use about::kolbrees_about;
+pub use about::kolbrees_version;
 pub use operations::PlainDecision;
 pub use operations::PlainLoading;
 pub use operations::PlainOpening;

@@ -43,7 +43,7 @@ fn prepare_and_decide(p: Policy, text: &[u8], times: u64) -> u64
 
 // The text decided so many times under the policy of a text, as a run over a file does: the policy is known to be loaded.
 #[no_mangle]
-pub extern "C" fn kolbrees_decide(policy: &[u8], query: &[u8], times: u64) -> u64 {
+pub extern "C" fn measure_decide(policy: &[u8], query: &[u8], times: u64) -> u64 {
     let r = load::load(policy);
     let outcome = r.outcome;
     match outcome {

@@ -42,7 +42,7 @@ fn grant_again(p: Policy, n: u64, text: &[u8], times: u64) -> u64 {
 // The grant for partition n and the query of a text so many times under the policy of a text: the sum of all replies and of the views
 // given modulo 2^64. The policy is read once.
 #[no_mangle]
-pub extern "C" fn kolbrees_grant(policy: &[u8], n: u64, query: &[u8], times: u64) -> u64 {
+pub extern "C" fn measure_grant(policy: &[u8], n: u64, query: &[u8], times: u64) -> u64 {
     let r = load::load(policy);
     let outcome = r.outcome;
     match outcome {

@@ -53,7 +53,7 @@ fn read_and_label(p: Policy, query: &[u8], times: u64) -> u64
 // The query of a text labelled so many times under the policy of a text: the sum of all the words modulo 2^64. Policy and
 // query are read once.
 #[no_mangle]
-pub extern "C" fn kolbrees_label(policy: &[u8], query: &[u8], times: u64) -> u64 {
+pub extern "C" fn measure_label(policy: &[u8], query: &[u8], times: u64) -> u64 {
     let r = load::load(policy);
     let outcome = r.outcome;
     match outcome {

@@ -9,8 +9,8 @@ mod granting;
 mod labels;
 mod running;
 
-pub use checking::kolbrees_check;
-pub use deciding::kolbrees_decide;
-pub use granting::kolbrees_grant;
-pub use labels::kolbrees_label;
-pub use running::kolbrees_stream;
+pub use checking::measure_check;
+pub use deciding::measure_decide;
+pub use granting::measure_grant;
+pub use labels::measure_label;
+pub use running::measure_run;

@@ -1,8 +1,8 @@
--- `kolbrees_label`: the policy that the query is read under is loaded.
+-- `measure_label`: the policy that the query is read under is loaded.
 use borrow.Author.Needs.{needs}
 use Rattle.load.proofs.Accepted.{loaded-policy}
-use Rattle.measure.proofs.labels.kolbrees_label.Statement.{statement}
-use Rattle.measure.proofs.labels.kolbrees_label.Tie as tie
+use Rattle.measure.proofs.labels.measure_label.Statement.{statement}
+use Rattle.measure.proofs.labels.measure_label.Tie as tie
 
 load-requires : tie.Need-load-requires
 load-requires c κs = search needs
@@ -26,7 +26,7 @@ returns c = search needs
 returns-2 : tie.Need-returns-2
 returns-2 c = search needs
 
-pub kolbrees-label-spec : {M : Type 1} → statement M
-kolbrees-label-spec =
+pub measure-label-spec : {M : Type 1} → statement M
+measure-label-spec =
     tie.close
     (tie.spec load-requires enum-told read-and-label-requires enum-told-2 returns returns-2)

@@ -1,8 +1,8 @@
--- `kolbrees_decide`: the policy that the text is decided under is loaded.
+-- `measure_decide`: the policy that the text is decided under is loaded.
 use borrow.Author.Needs.{needs}
 use Rattle.load.proofs.Accepted.{loaded-policy}
-use Rattle.measure.proofs.deciding.kolbrees_decide.Statement.{statement}
-use Rattle.measure.proofs.deciding.kolbrees_decide.Tie as tie
+use Rattle.measure.proofs.deciding.measure_decide.Statement.{statement}
+use Rattle.measure.proofs.deciding.measure_decide.Tie as tie
 
 load-requires : tie.Need-load-requires
 load-requires c κs = search needs
@@ -26,7 +26,7 @@ returns c = search needs
 returns-2 : tie.Need-returns-2
 returns-2 c = search needs
 
-pub kolbrees-decide-spec : {M : Type 1} → statement M
-kolbrees-decide-spec =
+pub measure-decide-spec : {M : Type 1} → statement M
+measure-decide-spec =
     tie.close
     (tie.spec load-requires enum-told prepare-and-decide-requires enum-told-2 returns returns-2)
