@@ -3,7 +3,7 @@ use Rattle.embed.proofs.operations.kolbrees_decide.Statement.{statement
 use Rattle.embed.proofs.operations.kolbrees_decide.Tie as tie
 use Rattle.embed.proofs.operations.kolbrees_decide.Reads as reads
 use Rattle.embed.proofs.operations.kolbrees_decide.Lts as lts
-use Rattle.desk.proofs.decide_checked.Reads as decide-checked-reads
+use Rattle.decisions.proofs.decide_checked.Reads as decide-checked-reads
 use Rattle.embed.proofs.replies.of_reply.Reads as of-reply-reads
 
 -- src/operations.rt:68:9

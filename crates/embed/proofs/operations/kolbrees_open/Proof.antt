@@ -3,7 +3,7 @@ use Rattle.embed.proofs.operations.kolbrees_open.Statement.{statement}
 use Rattle.embed.proofs.operations.kolbrees_open.Tie as tie
 use Rattle.embed.proofs.operations.kolbrees_open.Reads as reads
 use Rattle.embed.proofs.operations.kolbrees_open.Lts as lts
-use Rattle.desk.proofs.open_session.Reads as open-session-reads
+use Rattle.sessions.proofs.open_session.Reads as open-session-reads
 use Rattle.embed.proofs.replies.of_outcome.Reads as of-outcome-reads
 
 -- src/operations.rt:56:9
