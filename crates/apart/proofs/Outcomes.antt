@@ -27,8 +27,8 @@ use Rattle.policy_text.specs.Policy.{viewsWord}
 use Rattle.validity.specs.Loadable.{Loadable}
 use Rattle.labelling.specs.Settled.{settled}
 use Rattle.labelling.proofs.Partitions.{settled-iff-partition}
+use Rattle.labelling.proofs.Loaded.{loaded-to}
 use Rattle.desk.specs.Outcomes.{explainingNumbers}
-use Rattle.desk.proofs.Loaded.{loaded-to}
 use Rattle.desk.proofs.Unique.{either-way, both?}
 use Rattle.apart.specs.declared.telling.Telling.{Telling}
 use Rattle.apart.specs.Archives.{Word, says-settled, says-apart, says-refused, SaidTelling, saidTelling}

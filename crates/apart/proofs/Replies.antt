@@ -22,8 +22,8 @@ use Rattle.covering.specs.Prepared.{Prepared}
 use Rattle.labelling.specs.Posed.{PosedRows}
 use Rattle.labelling.specs.Settled.{settled}
 use Rattle.labelling.proofs.Posing.{ready}
-use Rattle.desk.proofs.Loaded.{loaded-to}
-use Rattle.desk.proofs.Explained.{declared-place}
+use Rattle.labelling.proofs.Loaded.{loaded-to}
+use Rattle.explanations.proofs.Explained.{declared-place}
 use Rattle.apart.specs.Archives.{refusal, settlement, archives, mostCells, saidTelling, owedFor, owed, Gives, ArchivesGiven}
 use Rattle.apart.specs.declared.telling.Telling.{Telling}
 use Rattle.apart.specs.declared.telling.Telling.the-variants.{Refused}

@@ -18,7 +18,7 @@ use Rattle.model.specs.Value.{pad}
 use Rattle.model.proofs.Pad.{pad-take}
 use Rattle.freezing.specs.Cells.{rowCells, cellsOf, allCells}
 use Rattle.freezing.proofs.RowCells.{cells-long}
-use Rattle.desk.specs.Buffer.{headed}
+use Rattle.label_lists.specs.Buffer.{headed}
 use Rattle.apart.specs.Archives.{mostRows, mostCells}
 use Rattle.apart.specs.Buffer.{cellsAt, PutAt, StandsBetween, Narrow, Holds}
 

@@ -17,7 +17,7 @@ use Rattle.policy_text.specs.Policy.{viewsWord}
 use Rattle.validity.specs.Loadable.{Loadable}
 use Rattle.labelling.specs.Settled.{settled}
 use Rattle.freezing.specs.Cells.{rowCells, allCells}
-use Rattle.desk.specs.Buffer.{headed}
+use Rattle.label_lists.specs.Buffer.{headed}
 use Rattle.apart.specs.declared.telling.Telling.{Telling}
 use Rattle.apart.specs.declared.telling.Telling.the-variants.{Settled, Apart, Refused}
 

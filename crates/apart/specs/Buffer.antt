@@ -8,7 +8,7 @@ use Rattle.theory.specs.Query.{_∈_}
 use Rattle.theory.specs.Archive.{Row}
 use Rattle.model.specs.Limits.{mostColumns}
 use Rattle.freezing.specs.Cells.{rowCells, allCells}
-use Rattle.desk.specs.Buffer.{headed}
+use Rattle.label_lists.specs.Buffer.{headed}
 use Rattle.apart.specs.Archives.{mostCells}
 
 -- room for every row

@@ -12,10 +12,10 @@ use Rattle.policy_text.specs.Policy.{policyValue}
 use Rattle.validity.specs.Loadable.{Loadable}
 use Rattle.load.specs.Value.{loadingValue}
 use Rattle.load.specs.declared.Loading.{Loading}
-use Rattle.desk.specs.declared.opening.Session.{Session}
+use Rattle.labelling.proofs.Loaded.{loaded-to}
+use Rattle.sessions.specs.declared.opening.Session.{Session}
 use Rattle.desk.specs.Calls.{Call, Calls, none-left, one-call}
 use Rattle.desk.specs.Demands.{Right}
-use Rattle.desk.proofs.Loaded.{loaded-to}
 use Rattle.desk.proofs.Held.{Held, held-step}
 use Rattle.desk.proofs.Steps.{steps, counted, step-right}
 

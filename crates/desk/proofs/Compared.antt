@@ -29,12 +29,12 @@ use Rattle.policy_text.specs.Declared.{Declared}
 use Rattle.policy_text.specs.WellFormed.{WellFormed}
 use Rattle.label_order.specs.Order.{atOrBelow}
 use Rattle.label_order.proofs.Halves.{Includes, below-iff}
-use Rattle.desk.specs.Buffer.{tooShort}
-use Rattle.desk.specs.declared.listing.Listing.{Listing}
-use Rattle.desk.specs.Listing.{SaidListing, notListed, given, listed, listReading, Lists}
+use Rattle.labelling.proofs.Loaded.{loaded-to}
+use Rattle.label_lists.specs.Buffer.{tooShort}
+use Rattle.label_lists.specs.declared.Listing.{Listing}
+use Rattle.label_lists.specs.Listing.{SaidListing, notListed, given, listed, listReading, Lists}
 use Rattle.desk.specs.Rewriting.{LabelOf}
 use Rattle.desk.specs.Comparing.{Gave, DeterminedWith, LabelledLine, OverArchives}
-use Rattle.desk.proofs.Loaded.{loaded-to}
 use Rattle.desk.proofs.Rewriting.{labels-rewrite}
 
 -- ---- two lines and their labels

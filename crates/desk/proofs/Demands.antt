@@ -11,18 +11,18 @@ use Rattle.policy_text.specs.Text.{load}
 use Rattle.policy_text.proofs.Loaded.{loaded-well-formed}
 use Rattle.policy_text.proofs.Loads.{loads-exactly}
 use Rattle.validity.specs.Loadable.{Loadable}
-use Rattle.desk.specs.declared.opening.Session.{Session}
-use Rattle.desk.specs.declared.opening.Opening.{Opening}
-use Rattle.desk.specs.Opening.{allOpen}
+use Rattle.labelling.proofs.Loaded.{loaded-to}
+use Rattle.sessions.specs.declared.opening.Session.{Session}
+use Rattle.sessions.specs.declared.opening.Opening.{Opening}
+use Rattle.sessions.specs.Opening.{allOpen}
+use Rattle.decisions.proofs.Masks.{open-count}
+use Rattle.label_lists.proofs.Listed.{labels-listed}
 use Rattle.desk.specs.Demands.{Demand1, Demand2, Demand3}
-use Rattle.desk.proofs.Loaded.{loaded-to}
-use Rattle.desk.proofs.Masks.{open-count}
 use Rattle.desk.proofs.Held.{Held, fresh}
 use Rattle.desk.proofs.Calls.{chain, loaded}
 use Rattle.desk.proofs.Unique.{opened-unique, decided-unique, labels-unique, explanation-unique}
 use Rattle.desk.proofs.Stays.{yes-or-no, session-stays, labels-buffer-stays, explaining-buffer-stays}
 use Rattle.desk.proofs.Numbers.{loading-numbers, opening-numbers, deciding-numbers, labels-numbers, explaining-numbers}
-use Rattle.desk.proofs.Listed.{labels-listed}
 use Rattle.desk.proofs.Rewriting.{labels-rewrite}
 
 pub demand-1 : Demand1

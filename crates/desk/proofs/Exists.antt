@@ -11,12 +11,12 @@ use Rattle.policy_text.specs.Abstract.{declaredBy}
 use Rattle.policy_text.proofs.Bridge.{stands-for}
 use Rattle.policy_text.proofs.Loaded.{loaded-well-formed}
 use Rattle.validity.specs.Loadable.{Loadable}
-use Rattle.desk.specs.declared.opening.Session.{Session}
-use Rattle.desk.specs.declared.deciding.Reply.the-variants.{Yes, No, Refused}
-use Rattle.desk.specs.declared.deciding.Decision.{Decision}
-use Rattle.desk.specs.Reply.{said}
-use Rattle.desk.specs.Session.{openCount}
-use Rattle.desk.specs.Deciding.{unfit, stillOpen, narrowed, Verdict, turnedBack, answered, decideQuery, decideUnder, Gives, Decided}
+use Rattle.sessions.specs.declared.opening.Session.{Session}
+use Rattle.sessions.specs.declared.replies.Reply.the-variants.{Yes, No, Refused}
+use Rattle.sessions.specs.declared.replies.Decision.{Decision}
+use Rattle.sessions.specs.Reply.{said}
+use Rattle.sessions.specs.Session.{openCount}
+use Rattle.sessions.specs.Deciding.{unfit, stillOpen, narrowed, Verdict, turnedBack, answered, decideQuery, decideUnder, Gives, Decided}
 use Rattle.desk.specs.Calls.{Call, Calls, none-left, one-call}
 use Rattle.desk.specs.Demands.{Demand3Met}
 

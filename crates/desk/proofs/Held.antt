@@ -24,12 +24,12 @@ use Rattle.policy_text.specs.Declared.{Declared, PartitionDetermines}
 use Rattle.policy_text.specs.WellFormed.{WellFormed}
 use Rattle.labelling.specs.Settled.{granted as viewsOf}
 use Rattle.labelling.proofs.Partitions.{settles-iff-partition}
-use Rattle.desk.specs.declared.opening.Session.{Session}
-use Rattle.desk.specs.Reply.{yes, no, refused}
-use Rattle.desk.specs.Opening.{allOpen}
-use Rattle.desk.specs.Deciding.{unfit, stillOpen}
+use Rattle.sessions.specs.declared.opening.Session.{Session}
+use Rattle.sessions.specs.Reply.{yes, no, refused}
+use Rattle.sessions.specs.Opening.{allOpen}
+use Rattle.sessions.specs.Deciding.{unfit, stillOpen}
+use Rattle.decisions.proofs.Masks.{passing-iff, passing-below}
 use Rattle.desk.specs.Calls.{Call, Says, Asks, DeterminesAll}
-use Rattle.desk.proofs.Masks.{passing-iff, passing-below}
 use Rattle.desk.proofs.ReplyWords.{no-yes, turned-yes}
 
 -- ---- a step

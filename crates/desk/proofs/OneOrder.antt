@@ -20,11 +20,11 @@ use Rattle.query_text.proofs.Accepted.{accepted-well-read}
 use Rattle.policy_text.specs.Declared.{Declared}
 use Rattle.word_list.specs.Order.{ascending}
 use Rattle.word_list.proofs.Sorted.{ascending-same, ascending-only}
-use Rattle.desk.specs.Listing.{Listed, listed, Lists}
+use Rattle.labelling.proofs.Loaded.{loaded-to}
+use Rattle.label_lists.specs.Listing.{Listed, listed, Lists}
+use Rattle.label_lists.proofs.Listed.{labels-listed}
 use Rattle.desk.specs.Rewriting.{LabelOf, LabelsOfForm, LabelsOf}
 use Rattle.desk.specs.OneOrder.{InOneOrder}
-use Rattle.desk.proofs.Loaded.{loaded-to}
-use Rattle.desk.proofs.Listed.{labels-listed}
 use Rattle.desk.proofs.Rewriting.{labels-of-form}
 use Rattle.desk.proofs.Unique.{said-listing-apart}
 

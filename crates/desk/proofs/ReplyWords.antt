@@ -2,7 +2,7 @@
 use mathlib.Core.Path.{_≡_, sym, ap, _∙_}
 use Prim.Native.Nat.{ℕ}
 use native.Mathlib.Omega.{arith}
-use Rattle.desk.specs.Reply.{Word, yes, no, refused}
+use Rattle.sessions.specs.Reply.{Word, yes, no, refused}
 
 number : Word → ℕ
 number yes = 0

@@ -17,11 +17,11 @@ use Rattle.policy_text.specs.Declared.{Declared}
 use Rattle.policy_text.specs.Policy.{viewsWord}
 use Rattle.labelling.specs.Settled.{settled}
 use Rattle.labelling.proofs.Partitions.{settled-iff-partition}
+use Rattle.labelling.proofs.Loaded.{loaded-to}
 use Rattle.explain.specs.Explanation.{explained}
-use Rattle.desk.specs.Buffer.{tooShort}
-use Rattle.desk.specs.Explaining.{SaidExplaining, saidExplaining, notExplained, explainedBy, explainReading, explainUnder, Explained}
+use Rattle.label_lists.specs.Buffer.{tooShort}
+use Rattle.explanations.specs.Explaining.{SaidExplaining, saidExplaining, notExplained, explainedBy, explainReading, explainUnder, Explained}
 use Rattle.desk.specs.Outcomes.{SettledExactly}
-use Rattle.desk.proofs.Loaded.{loaded-to}
 
 module _ (d : Declared) (n : ℕ) (text before : List ℕ) (Q : Query) (reads : read (d .widths) text ≡ accepted Q) where
   abbrev is-settled : Bool

@@ -13,11 +13,11 @@ use Rattle.query_text.specs.Text.{Reading, refused, accepted, read}
 use Rattle.query_text.proofs.Accepted.{refused≢accepted}
 use Rattle.policy_text.specs.Declared.{Declared}
 use Rattle.policy_text.specs.WellFormed.{WellFormed}
-use Rattle.desk.specs.declared.opening.Session.{Session}
-use Rattle.desk.specs.Reply.{Said, said}
-use Rattle.desk.specs.Reply.{yes as affirmed, no as negated}
-use Rattle.desk.specs.Session.{openCount}
-use Rattle.desk.specs.Deciding.{unfit, stillOpen, Verdict, turnedBack, answered, decideQuery, decideUnder, Gives}
+use Rattle.sessions.specs.declared.opening.Session.{Session}
+use Rattle.sessions.specs.Reply.{Said, said}
+use Rattle.sessions.specs.Reply.{yes as affirmed, no as negated}
+use Rattle.sessions.specs.Session.{openCount}
+use Rattle.sessions.specs.Deciding.{unfit, stillOpen, Verdict, turnedBack, answered, decideQuery, decideUnder, Gives}
 use Rattle.desk.specs.Calls.{Call, Says, Asks, Answerable}
 use Rattle.desk.specs.Demands.{Right}
 use Rattle.desk.proofs.Held.{Step, passed, denied, granted, asks-once}

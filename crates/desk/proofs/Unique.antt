@@ -10,21 +10,21 @@ use Rattle.model.specs.declared.Policy.{Policy}
 use Rattle.model.specs.declared.Outcome.{Outcome}
 use Rattle.model.specs.declared.Outcome.the-variants.{Accepted, Refused as TurnedBack}
 use Rattle.validity.specs.Loadable.{Loadable}
-use Rattle.desk.specs.declared.opening.Session.{Session}
-use Rattle.desk.specs.declared.opening.Opening.{Opening}
-use Rattle.desk.specs.declared.deciding.Reply.{Reply}
-use Rattle.desk.specs.declared.deciding.Reply.the-variants.{Yes, No, Refused}
-use Rattle.desk.specs.declared.deciding.Decision.{Decision}
-use Rattle.desk.specs.declared.listing.Listing.{Listing}
-use Rattle.desk.specs.declared.listing.Listing.the-variants.{Given, Refused as NotListed}
-use Rattle.desk.specs.declared.explaining.Explaining.{Explaining}
-use Rattle.desk.specs.declared.explaining.Explaining.the-variants.{Settled, Unsettled, Refused as NotExplained}
-use Rattle.desk.specs.Reply.{Word, Said, said}
-use Rattle.desk.specs.Reply.{yes as affirmed, no as denied, refused as turned}
-use Rattle.desk.specs.Opening.{Opened}
-use Rattle.desk.specs.Deciding.{Decided}
-use Rattle.desk.specs.Listing.{SaidListing, saidListing, LabelsGiven}
-use Rattle.desk.specs.Explaining.{SaidExplaining, saidExplaining, ExplanationGiven}
+use Rattle.sessions.specs.declared.opening.Session.{Session}
+use Rattle.sessions.specs.declared.opening.Opening.{Opening}
+use Rattle.sessions.specs.declared.replies.Reply.{Reply}
+use Rattle.sessions.specs.declared.replies.Reply.the-variants.{Yes, No, Refused}
+use Rattle.sessions.specs.declared.replies.Decision.{Decision}
+use Rattle.sessions.specs.Reply.{Word, Said, said}
+use Rattle.sessions.specs.Reply.{yes as affirmed, no as denied, refused as turned}
+use Rattle.sessions.specs.Opening.{Opened}
+use Rattle.sessions.specs.Deciding.{Decided}
+use Rattle.label_lists.specs.declared.Listing.{Listing}
+use Rattle.label_lists.specs.declared.Listing.the-variants.{Given, Refused as NotListed}
+use Rattle.label_lists.specs.Listing.{SaidListing, saidListing, LabelsGiven}
+use Rattle.explanations.specs.declared.Explaining.{Explaining}
+use Rattle.explanations.specs.declared.Explaining.the-variants.{Settled, Unsettled, Refused as NotExplained}
+use Rattle.explanations.specs.Explaining.{SaidExplaining, saidExplaining, ExplanationGiven}
 
 -- ---- values that a list of numbers tells apart
 

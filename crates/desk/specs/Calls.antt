@@ -7,10 +7,10 @@ use Rattle.theory.specs.Query.{Query, _∈_}
 use Rattle.model.specs.declared.Policy.{Policy}
 use Rattle.query_text.specs.Text.{accepted, read}
 use Rattle.policy_text.specs.Declared.{Declared, PartitionDetermines}
-use Rattle.desk.specs.declared.opening.Session.{Session}
-use Rattle.desk.specs.declared.deciding.Decision.{Decision}
-use Rattle.desk.specs.Reply.{Word, said, yes}
-use Rattle.desk.specs.Deciding.{Decided}
+use Rattle.sessions.specs.declared.opening.Session.{Session}
+use Rattle.sessions.specs.declared.replies.Decision.{Decision}
+use Rattle.sessions.specs.Reply.{Word, said, yes}
+use Rattle.sessions.specs.Deciding.{Decided}
 
 -- a deciding call: "any bytes as its query text", and what it gave
 pub record Call : Type 0 where

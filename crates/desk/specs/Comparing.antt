@@ -16,8 +16,8 @@ use Rattle.policy_text.specs.Declared.{Declared}
 use Rattle.policy_text.specs.WellFormed.{WellFormed}
 use Rattle.validity.specs.Loadable.{Loadable}
 use Rattle.label_order.specs.Order.{atOrBelow}
-use Rattle.desk.specs.declared.listing.Listing.{Listing}
-use Rattle.desk.specs.Listing.{saidListing, LabelsGiven}
+use Rattle.label_lists.specs.declared.Listing.{Listing}
+use Rattle.label_lists.specs.Listing.{saidListing, LabelsGiven}
 use Rattle.desk.specs.Rewriting.{LabelOf}
 
 -- x is one of the words that a call of `labels` gave: a cell before the reply's count

@@ -17,17 +17,17 @@ use Rattle.policy_text.specs.Declared.{Declared}
 use Rattle.validity.specs.Loadable.{Loadable}
 use Rattle.load.specs.Value.{loadingValue}
 use Rattle.load.specs.declared.Loading.{Loading}
-use Rattle.desk.specs.declared.opening.Session.{Session}
-use Rattle.desk.specs.declared.opening.Opening.{Opening}
-use Rattle.desk.specs.declared.deciding.Decision.{Decision}
-use Rattle.desk.specs.declared.listing.Listing.{Listing}
-use Rattle.desk.specs.Reply.{said, yes, no}
-use Rattle.desk.specs.Session.{openCount}
+use Rattle.sessions.specs.declared.opening.Session.{Session}
+use Rattle.sessions.specs.declared.opening.Opening.{Opening}
+use Rattle.sessions.specs.declared.replies.Decision.{Decision}
+use Rattle.sessions.specs.Reply.{said, yes, no}
+use Rattle.sessions.specs.Session.{openCount}
+use Rattle.sessions.specs.Opening.{Opened}
+use Rattle.sessions.specs.Deciding.{Decided}
+use Rattle.label_lists.specs.declared.Listing.{Listing}
+use Rattle.label_lists.specs.Listing.{listed, Lists, LabelsGiven}
 use Rattle.desk.specs.Outcomes.{Outcomes}
-use Rattle.desk.specs.Opening.{Opened}
-use Rattle.desk.specs.Deciding.{Decided}
 use Rattle.desk.specs.Calls.{Call, Calls, Says, Asks, DeterminesAll, Answerable}
-use Rattle.desk.specs.Listing.{listed, Lists, LabelsGiven}
 use Rattle.desk.specs.Rewriting.{LabelsOf}
 
 -- ---- demand 1

@@ -1,14 +1,6 @@
-pub mod Reply
-pub mod Session
-pub mod Opening
-pub mod Deciding
 pub mod Calls
-pub mod Buffer
-pub mod Listing
 pub mod Rewriting
 pub mod OneOrder
 pub mod Comparing
-pub mod Explaining
-pub mod HoldsLabels
 pub mod Outcomes
 pub mod Demands

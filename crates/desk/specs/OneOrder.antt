@@ -11,8 +11,8 @@ use Rattle.query_text.specs.Text.{accepted as readAs}
 use Rattle.policy_text.specs.Declared.{Declared}
 use Rattle.validity.specs.Loadable.{Loadable}
 use Rattle.word_list.specs.Order.{ascending}
-use Rattle.desk.specs.declared.listing.Listing.{Listing}
-use Rattle.desk.specs.Listing.{listed, Lists, LabelsGiven}
+use Rattle.label_lists.specs.declared.Listing.{Listing}
+use Rattle.label_lists.specs.Listing.{listed, Lists, LabelsGiven}
 use Rattle.desk.specs.Rewriting.{LabelsOfForm, LabelsOf}
 
 pub record InOneOrder : Type 0 where

@@ -19,16 +19,16 @@ use Rattle.policy_text.specs.Print.{print}
 use Rattle.validity.specs.Loadable.{Loadable}
 use Rattle.load.specs.Value.{loadingValue}
 use Rattle.load.specs.declared.Loading.{Loading}
-use Rattle.desk.specs.declared.opening.Session.{Session}
-use Rattle.desk.specs.declared.opening.Opening.{Opening}
-use Rattle.desk.specs.declared.deciding.Decision.{Decision}
-use Rattle.desk.specs.declared.listing.Listing.{Listing}
-use Rattle.desk.specs.declared.explaining.Explaining.{Explaining}
-use Rattle.desk.specs.Reply.{said, yes, no, refused}
-use Rattle.desk.specs.Deciding.{unfit, Decided}
-use Rattle.desk.specs.Opening.{Opened}
-use Rattle.desk.specs.Listing.{saidListing, LabelsGiven}
-use Rattle.desk.specs.Explaining.{saidExplaining, ExplanationGiven}
+use Rattle.sessions.specs.declared.opening.Session.{Session}
+use Rattle.sessions.specs.declared.opening.Opening.{Opening}
+use Rattle.sessions.specs.declared.replies.Decision.{Decision}
+use Rattle.sessions.specs.Reply.{said, yes, no, refused}
+use Rattle.sessions.specs.Deciding.{unfit, Decided}
+use Rattle.sessions.specs.Opening.{Opened}
+use Rattle.label_lists.specs.declared.Listing.{Listing}
+use Rattle.label_lists.specs.Listing.{saidListing, LabelsGiven}
+use Rattle.explanations.specs.declared.Explaining.{Explaining}
+use Rattle.explanations.specs.Explaining.{saidExplaining, ExplanationGiven}
 
 -- "Deciding. 8. Then 9 … Then the text"
 abbrev pub decidingNumbers : List ℕ

@@ -8,8 +8,8 @@ use Rattle.model.specs.declared.Outcome.the-variants.{Accepted, Refused}
 use Rattle.policy_text.specs.Text.{load}
 use Rattle.load.specs.Value.{loadingValue}
 use Rattle.load.specs.declared.Loading.{Loading}
-use Rattle.desk.specs.declared.opening.Session.{Session}
-use Rattle.desk.specs.Opening.{Opened}
+use Rattle.sessions.specs.declared.opening.Session.{Session}
+use Rattle.sessions.specs.Opening.{Opened}
 use Rattle.desk.specs.Calls.{Call, Calls}
 use Rattle.desk.specs.Calls.{none-left as no-call, one-call as and-call}
 use Rattle.desk.proofs.Demands.{demand-3}

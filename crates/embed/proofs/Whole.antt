@@ -6,9 +6,9 @@ use native.Mathlib.Omega.{arith}
 use lib.ListN.{length, take}
 use lib.Seq.{take-all}
 use Rattle.policy_text.specs.Declared.{Declared}
-use Rattle.desk.specs.declared.opening.Session.{Session}
-use Rattle.desk.specs.declared.deciding.Decision.{Decision}
-use Rattle.desk.specs.Deciding.{decideUnder, Gives}
+use Rattle.sessions.specs.declared.opening.Session.{Session}
+use Rattle.sessions.specs.declared.replies.Decision.{Decision}
+use Rattle.sessions.specs.Deciding.{decideUnder, Gives}
 
 pub whole : (d : Declared) (s : Session) {o : Decision} (n : ℕ) (text : List ℕ) → n ≡ length text
     → Gives o (decideUnder d s (take n text)) → Gives o (decideUnder d s text)

@@ -7,7 +7,7 @@ use Rattle.model.specs.declared.Policy.{Policy}
 use Rattle.policy_text.specs.Text.{load}
 use Rattle.policy_text.specs.Text.{accepted as acceptedPolicy}
 use Rattle.policy_text.specs.Declared.{Declared}
-use Rattle.desk.specs.declared.opening.Session.{Session}
+use Rattle.sessions.specs.declared.opening.Session.{Session}
 use Rattle.desk.specs.Calls.{Call}
 use Rattle.desk.specs.Demands.{AsDemanded}
 use Rattle.embed.specs.Words.{wordNumber, accepted}

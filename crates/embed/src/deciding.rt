@@ -2,7 +2,7 @@
 
 ghost use Rattle.policy_text.specs.Declared.{Declared};
 ghost use Rattle.labelling.specs.Posed.{Ready, SomeReady};
-ghost use Rattle.desk.specs.Deciding.{decideUnder, Gives, Decided};
+ghost use Rattle.sessions.specs.Deciding.{decideUnder, Gives, Decided};
 use covering::Prepared;
 use desk::Decision;
 use desk::Reply;

@@ -23,10 +23,10 @@ use Rattle.policy_text.specs.Policy.{viewsWord}
 use Rattle.policy_text.specs.Abstract.{grantedAt}
 use Rattle.validity.specs.Loadable.{Loadable}
 use Rattle.labelling.specs.declared.Asked.{Asked}
-use Rattle.desk.specs.HoldsLabels.{HoldsLabels}
-use Rattle.desk.proofs.Loaded.{loaded-to, partition-word}
-use Rattle.desk.proofs.Asked.{Labelled}
-use Rattle.desk.proofs.Explained.{declared-place}
+use Rattle.labelling.proofs.Loaded.{loaded-to, partition-word}
+use Rattle.label_lists.specs.HoldsLabels.{HoldsLabels}
+use Rattle.label_lists.proofs.Asked.{Labelled}
+use Rattle.explanations.proofs.Explained.{declared-place}
 use Rattle.grants.specs.declared.granting.Granting.{Granting}
 use Rattle.grants.specs.declared.granting.Granting.the-variants.{Refused}
 use Rattle.grants.specs.Granting.{someBare, nothing, list, owedFor, owed, Gives, GrantGiven}

@@ -20,8 +20,8 @@ use Rattle.theory.proofs.Executable.Test.{any-iff}
 use Rattle.words.proofs.Answers.{true-holds}
 use Rattle.explain.specs.Explanation.{viewsOf, lacking}
 use Rattle.hitting.specs.Best.{Numbered}
-use Rattle.desk.specs.HoldsLabels.{HoldsLabels}
-use Rattle.desk.proofs.Copied.{Copied}
+use Rattle.label_lists.specs.HoldsLabels.{HoldsLabels}
+use Rattle.label_lists.proofs.Copied.{Copied}
 use Rattle.grants.specs.declared.granting.Granting.{Granting}
 use Rattle.grants.specs.declared.granting.Granting.the-variants.{Given, Nothing, Refused}
 use Rattle.grants.specs.Searching.{hitsOf, noCosts, BestFor, LabelsGranted, Lacking}

@@ -14,7 +14,7 @@ use Rattle.query_text.specs.Text.{Reading, refused, accepted, read}
 use Rattle.policy_text.specs.Declared.{Declared}
 use Rattle.validity.specs.Loadable.{Loadable}
 use Rattle.explain.specs.Explanation.{viewsOf}
-use Rattle.desk.specs.Buffer.{headed}
+use Rattle.label_lists.specs.Buffer.{headed}
 use Rattle.grants.specs.Smallest.{Smallest, Hopeless}
 use Rattle.grants.specs.declared.granting.Granting.{Granting}
 use Rattle.grants.specs.declared.granting.Granting.the-variants.{Given, Nothing, Refused}

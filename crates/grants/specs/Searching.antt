@@ -12,7 +12,7 @@ use Rattle.word_list.specs.Value.{wordsValue}
 use Rattle.word_list.specs.declared.Words.{Words}
 use Rattle.explain.specs.Explanation.{lacking}
 use Rattle.hitting.specs.Best.{Numbered, Best, HoldsBest}
-use Rattle.desk.specs.HoldsLabels.{HoldsLabels}
+use Rattle.label_lists.specs.HoldsLabels.{HoldsLabels}
 use Rattle.grants.specs.declared.granting.Granting.{Granting}
 use Rattle.grants.specs.Granting.{saidNone, someBare, Replies, Written}
 

@@ -4,7 +4,7 @@ ghost use mathlib.Core.Path.{_≡_};
 ghost use mathlib.Core.List.{List};
 ghost use Prim.Native.Nat.{ℕ};
 ghost use Rattle.word_list.specs.Value.{wordsValue};
-ghost use Rattle.desk.specs.HoldsLabels.{HoldsLabels};
+ghost use Rattle.label_lists.specs.HoldsLabels.{HoldsLabels};
 ghost use Rattle.grants.specs.Granting.{Written, GrantGiven};
 ghost use Rattle.grants.specs.Searching.{SomeLabels, LabelsGranted, SomeNumbers};
 use crate::searching::best_views;

@@ -6,3 +6,5 @@ pub mod Posing
 pub mod Readings
 -- What settling means.
 pub mod Partitions
+-- What a loaded policy holds.
+pub mod Loaded

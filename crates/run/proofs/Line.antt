@@ -7,10 +7,10 @@ use denote.Enum.Declared
 use types.Run.{OneOf}
 use Rattle.text.specs.Lines.{space, newline}
 use Rattle.text.specs.Print.{decimal}
-use Rattle.desk.specs.declared.deciding.Reply.{Reply}
-use Rattle.desk.specs.declared.deciding.Reply.the-variants.{Yes, No, Refused}
-use Rattle.desk.proofs.deciding.Reply.{the-type}
-use Rattle.desk.specs.Reply.{Word, yes, no, refused, said}
+use Rattle.sessions.specs.declared.replies.Reply.{Reply}
+use Rattle.sessions.specs.declared.replies.Reply.the-variants.{Yes, No, Refused}
+use Rattle.sessions.proofs.replies.Reply.{the-type}
+use Rattle.sessions.specs.Reply.{Word, yes, no, refused, said}
 use Rattle.writing.specs.Wrote.{Wrote}
 use Rattle.writing.proofs.Wrote.{wrote-as, wrote-more}
 use Rattle.run.specs.Output.{wordBytes, outputLine}

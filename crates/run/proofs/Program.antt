@@ -10,11 +10,11 @@ use Rattle.policy_text.specs.Text.{accepted as acceptedPolicy}
 use Rattle.policy_text.specs.Policy.{policyValue}
 use Rattle.validity.specs.Loadable.{Loadable}
 use Rattle.load.specs.Value.{loadingValue}
-use Rattle.desk.specs.declared.opening.Session.{Session}
-use Rattle.desk.specs.declared.opening.Opening.{Opening}
-use Rattle.desk.specs.declared.deciding.Decision.{Decision}
-use Rattle.desk.specs.Opening.{allOpen, Opened}
-use Rattle.desk.specs.Deciding.{Verdict, decideUnder, Gives}
+use Rattle.sessions.specs.declared.opening.Session.{Session}
+use Rattle.sessions.specs.declared.opening.Opening.{Opening}
+use Rattle.sessions.specs.declared.replies.Decision.{Decision}
+use Rattle.sessions.specs.Opening.{allOpen, Opened}
+use Rattle.sessions.specs.Deciding.{Verdict, decideUnder, Gives}
 use Rattle.desk.specs.Calls.{Call, Calls, none-left, one-call}
 use Rattle.desk.specs.Demands.{AsDemanded}
 use Rattle.desk.proofs.Exists.{declared-once, decided-exists}

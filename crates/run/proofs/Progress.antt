@@ -12,9 +12,9 @@ use Rattle.words.specs.Bits.{onesBelow}
 use Rattle.model.specs.declared.Tables.{Tables}
 use Rattle.policy_text.specs.Declared.{Declared}
 use Rattle.labelling.specs.Posed.{Ready}
-use Rattle.desk.specs.declared.opening.Session.{Session}
-use Rattle.desk.specs.declared.deciding.Decision.{Decision}
-use Rattle.desk.specs.Deciding.{Verdict, decideUnder, Gives}
+use Rattle.sessions.specs.declared.opening.Session.{Session}
+use Rattle.sessions.specs.declared.replies.Decision.{Decision}
+use Rattle.sessions.specs.Deciding.{Verdict, decideUnder, Gives}
 use Rattle.writing.specs.Wrote.{Wrote}
 use Rattle.writing.proofs.Wrote.{wrote-as, wrote-none, wrote-more}
 use Rattle.cutting.specs.Cut.{cut}

@@ -13,8 +13,8 @@ use Rattle.load.specs.Value.{loadingValue}
 use Rattle.load.specs.declared.Loading.{Loading}
 use Rattle.labelling.specs.Text.{LoadedTo}
 use Rattle.labelling.proofs.Readings.{Tag}
-use Rattle.desk.specs.Reply.{refused}
-use Rattle.desk.specs.Opening.{allOpen}
+use Rattle.sessions.specs.Reply.{refused}
+use Rattle.sessions.specs.Opening.{allOpen}
 use Rattle.writing.specs.Wrote.{Wrote}
 use Rattle.writing.proofs.Wrote.{wrote-as, wrote-more}
 use Rattle.cutting.specs.Cut.{cut}

@@ -5,8 +5,8 @@ use lib.ListN.{take}
 use Rattle.model.specs.declared.Tables.{Tables}
 use Rattle.policy_text.specs.Declared.{Declared}
 use Rattle.labelling.specs.Posed.{Ready}
-use Rattle.desk.specs.declared.opening.Session.{Session}
-use Rattle.desk.specs.Deciding.{decideUnder, Gives}
+use Rattle.sessions.specs.declared.opening.Session.{Session}
+use Rattle.sessions.specs.Deciding.{decideUnder, Gives}
 use Rattle.cutting.specs.NextCut.{NextCut}
 use Rattle.run.specs.declared.next.NextDecision.{NextDecision}
 

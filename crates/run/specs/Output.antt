@@ -5,7 +5,7 @@ use Prim.Native.Nat.{ℕ}
 use Rattle.text.specs.Names.{bytes}
 use Rattle.text.specs.Lines.{space, newline}
 use Rattle.text.specs.Print.{decimal}
-use Rattle.desk.specs.Reply.{Word, yes, no, refused}
+use Rattle.sessions.specs.Reply.{Word, yes, no, refused}
 
 unfoldable pub outputNames : List ℕ
 unfolding bytes

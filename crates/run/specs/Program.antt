@@ -7,11 +7,11 @@ use Rattle.policy_text.specs.Text.{load}
 use Rattle.policy_text.specs.Declared.{Declared}
 use Rattle.policy_text.specs.Text.{refused as refusedPolicy, accepted as acceptedPolicy}
 use Rattle.policy_text.specs.Policy.{policyValue}
-use Rattle.desk.specs.declared.opening.Session.{Session}
-use Rattle.desk.specs.declared.opening.Opening.{Opening}
-use Rattle.desk.specs.Reply.{said, refused}
-use Rattle.desk.specs.Session.{openCount}
-use Rattle.desk.specs.Opening.{Opened}
+use Rattle.sessions.specs.declared.opening.Session.{Session}
+use Rattle.sessions.specs.declared.opening.Opening.{Opening}
+use Rattle.sessions.specs.Reply.{said, refused}
+use Rattle.sessions.specs.Session.{openCount}
+use Rattle.sessions.specs.Opening.{Opened}
 use Rattle.desk.specs.Calls.{Call, Calls}
 use Rattle.desk.specs.Demands.{AsDemanded}
 use Rattle.cutting.specs.Cut.{cut}

@@ -5,11 +5,11 @@ use Rattle.text.specs.Lines.{newline}
 use Rattle.policy_text.specs.Text.{Loading, load}
 use Rattle.policy_text.specs.Declared.{Declared}
 use Rattle.policy_text.specs.Text.{refused as refusedPolicy, accepted as acceptedPolicy}
-use Rattle.desk.specs.declared.opening.Session.{Session}
-use Rattle.desk.specs.Reply.{refused}
-use Rattle.desk.specs.Session.{openCount}
-use Rattle.desk.specs.Opening.{allOpen}
-use Rattle.desk.specs.Deciding.{Verdict, decideUnder}
+use Rattle.sessions.specs.declared.opening.Session.{Session}
+use Rattle.sessions.specs.Reply.{refused}
+use Rattle.sessions.specs.Session.{openCount}
+use Rattle.sessions.specs.Opening.{allOpen}
+use Rattle.sessions.specs.Deciding.{Verdict, decideUnder}
 use Rattle.cutting.specs.Cut.{cut}
 use Rattle.run.specs.Output.{outputNames, outputLine}
 

@@ -5,9 +5,9 @@ use Prim.Native.Nat.{ℕ}
 use Rattle.model.specs.declared.Tables.{Tables}
 use Rattle.policy_text.specs.Declared.{Declared}
 use Rattle.labelling.specs.Posed.{Ready}
-use Rattle.desk.specs.Reply.{Word, said}
-use Rattle.desk.specs.declared.opening.Session.{Session}
-use Rattle.desk.specs.declared.deciding.Reply.{Reply}
+use Rattle.sessions.specs.Reply.{Word, said}
+use Rattle.sessions.specs.declared.opening.Session.{Session}
+use Rattle.sessions.specs.declared.replies.Reply.{Reply}
 use Rattle.writing.specs.Wrote.{Wrote}
 use Rattle.cutting.specs.Cut.{cut}
 use Rattle.run.specs.Output.{wordBytes, outputLine}

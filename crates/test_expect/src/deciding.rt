@@ -1,6 +1,6 @@
 // A decision compared with the reply and the session that document 01 lays down.
 
-ghost use Rattle.desk.specs.Deciding.{Decided};
+ghost use Rattle.sessions.specs.Deciding.{Decided};
 use crate::said::Said;
 use crate::said::counted;
 use crate::said::no;

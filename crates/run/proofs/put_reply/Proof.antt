@@ -1,7 +1,7 @@
 -- The line of each kind of reply.
 use mathlib.Core.Path.{refl}
 use borrow.Author.Needs.{needs}
-use Rattle.desk.specs.Reply.{yes, no, refused}
+use Rattle.sessions.specs.Reply.{yes, no, refused}
 use Rattle.run.specs.Output.{wordBytes}
 use Rattle.writing.proofs.Wrote.{wrote-as}
 use Rattle.run.proofs.Line.{line-yes, line-no, line-refused}

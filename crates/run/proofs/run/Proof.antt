@@ -6,7 +6,7 @@ use lib.ListN.{length}
 use Rattle.policy_text.specs.Text.{load, accepted}
 use Rattle.policy_text.specs.Declared.{Declared}
 use Rattle.labelling.specs.Text.{LoadedTo}
-use Rattle.desk.specs.Reply.{refused}
+use Rattle.sessions.specs.Reply.{refused}
 use Rattle.labelling.proofs.Posing.{counted, ready}
 use Rattle.run.specs.Sizes.{mostOutput, namesLong}
 use Rattle.run.specs.Output.{outputNames, wordBytes}

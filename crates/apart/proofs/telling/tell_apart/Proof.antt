@@ -10,8 +10,8 @@ use Rattle.validity.specs.Loadable.{Loadable}
 use Rattle.labelling.specs.Posed.{Posed}
 use Rattle.labelling.proofs.Readings.{read-accepted, reading-refused}
 use Rattle.labelling.proofs.Posing.{counted, tables-of, posed, posed-few, posed-rows}
-use Rattle.desk.proofs.Loaded.{loaded-to}
-use Rattle.desk.proofs.Explained.{partition-place}
+use Rattle.labelling.proofs.Loaded.{loaded-to}
+use Rattle.explanations.proofs.Explained.{partition-place}
 use Rattle.apart.proofs.Replies.{not-loaded, no-partition, text-turned, too-short, asked, told}
 use Rattle.apart.proofs.telling.tell_apart.Statement.{statement}
 use Rattle.apart.proofs.telling.tell_apart.Tie as tie

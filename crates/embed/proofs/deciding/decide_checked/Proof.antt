@@ -3,9 +3,9 @@ use mathlib.Core.Path.{refl}
 use borrow.Author.Needs.{needs}
 use Rattle.words.proofs.Answers.{passes, fails}
 use Rattle.labelling.proofs.Posing.{counted, ready}
-use Rattle.desk.specs.Reply.{said}
-use Rattle.desk.specs.Deciding.{turnedBack}
-use Rattle.desk.proofs.Loaded.{loaded-to}
+use Rattle.sessions.specs.Reply.{said}
+use Rattle.sessions.specs.Deciding.{turnedBack}
+use Rattle.labelling.proofs.Loaded.{loaded-to}
 use Rattle.embed.proofs.deciding.decide_checked.Statement.{statement}
 use Rattle.embed.proofs.deciding.decide_checked.Tie as tie
 

@@ -4,8 +4,8 @@ use mathlib.Core.List.{List}
 use Prim.Native.Nat.{ℕ}
 use borrow.Author.Needs.{needs}
 use Rattle.explain.specs.Explanation.{lacking as lackingViews}
-use Rattle.desk.specs.HoldsLabels.{HoldsLabels}
-use Rattle.desk.proofs.Asked.{labels-held}
+use Rattle.label_lists.specs.HoldsLabels.{HoldsLabels}
+use Rattle.label_lists.proofs.Asked.{labels-held}
 use Rattle.grants.specs.Granting.{someBare}
 use Rattle.grants.specs.Searching.{Lacking}
 use Rattle.grants.proofs.Replies.{lacking-count, bare-is, none-best, lacking-some, written-nothing, granted-none, granted-list}

@@ -7,9 +7,9 @@ use borrow.Author.Needs.{needs}
 use Rattle.words.proofs.Answers.{passes, fails, passing, failing}
 use Rattle.model.specs.Limits.{mostPartitions, upTo}
 use Rattle.validity.specs.Loadable.{Loadable}
-use Rattle.desk.proofs.Loaded.{loaded-to}
-use Rattle.desk.proofs.Asked.{text-accepted, text-turned}
-use Rattle.desk.proofs.Explained.{partition-place}
+use Rattle.labelling.proofs.Loaded.{loaded-to}
+use Rattle.label_lists.proofs.Asked.{text-accepted, text-turned}
+use Rattle.explanations.proofs.Explained.{partition-place}
 use Rattle.grants.proofs.Contract.{not-loaded, no-partition, text-refused, text-granted}
 use Rattle.grants.proofs.granting.smallest_grant.Statement.{statement}
 use Rattle.grants.proofs.granting.smallest_grant.Tie as tie

@@ -46,22 +46,22 @@ use denote.Triple.Walked.{says, Stays, stay-dropped, walkOf, goes-dropped, ends-
 use Rattle.model.specs.declared.Policy.{Policy}
 use Rattle.model.proofs.Policy as P
 use Rattle.model.proofs.Policy.Laws as P′
-use Rattle.desk.specs.declared.opening.Session.{Session}
-use Rattle.desk.specs.declared.deciding.Reply.{Reply}
-use Rattle.desk.specs.declared.deciding.Decision.{Decision}
-use Rattle.desk.specs.Deciding.{Decided}
-use Rattle.desk.proofs.MachineValues.{policy-val, session-val, decision-val, IsPolicy, IsSession, IsDecision, session-only}
-use Rattle.desk.proofs.MachineValues.{reply-only, session-at, reply-at, decision-of, policy-typed, session-typed, reply-typed}
-use Rattle.desk.proofs.MachineValues.{decision-typed, policy-made, session-made, decision-made}
-use Rattle.desk.proofs.opening.Session as S
-use Rattle.desk.proofs.opening.Session.Laws as S′
-use Rattle.desk.proofs.deciding.Decision as D
-use Rattle.desk.proofs.deciding.Reply as Y
-use Rattle.desk.proofs.deciding.Reply.Laws as Y′
-use Rattle.desk.proofs.decide as decide
-use Rattle.desk.proofs.decide.Symbol as decide-def
-use Rattle.desk.proofs.decide.Symbol.{name as #decide}
-use Rattle.desk.proofs.decide.Met as decide-thm
+use Rattle.sessions.specs.declared.opening.Session.{Session}
+use Rattle.sessions.specs.declared.replies.Reply.{Reply}
+use Rattle.sessions.specs.declared.replies.Decision.{Decision}
+use Rattle.sessions.specs.Deciding.{Decided}
+use Rattle.sessions.proofs.opening.Session as S
+use Rattle.sessions.proofs.opening.Session.Laws as S′
+use Rattle.sessions.proofs.replies.Decision as D
+use Rattle.sessions.proofs.replies.Reply as Y
+use Rattle.sessions.proofs.replies.Reply.Laws as Y′
+use Rattle.decisions.proofs.MachineValues.{policy-val, session-val, decision-val, IsPolicy, IsSession, IsDecision, session-only}
+use Rattle.decisions.proofs.MachineValues.{reply-only, session-at, reply-at, decision-of, policy-typed, session-typed, reply-typed}
+use Rattle.decisions.proofs.MachineValues.{decision-typed, policy-made, session-made, decision-made}
+use Rattle.decisions.proofs.decide as decide
+use Rattle.decisions.proofs.decide.Symbol as decide-def
+use Rattle.decisions.proofs.decide.Symbol.{name as #decide}
+use Rattle.decisions.proofs.decide.Met as decide-thm
 use Rattle.test_expect.proofs.deciding.call.Key.{name as #call}
 use Rattle.test_expect.proofs.deciding.call as call
 use Rattle.test_expect.proofs.deciding.call.Statement as stated
@@ -230,5 +230,5 @@ call-spec 𝓤 H 𝓜 𝓖 𝓡 =
     entered 𝓤 H (tripleOf 𝓤 H (𝓖 .A) call.signature (call.spec 𝓤 H (𝓖 .A) (𝓜 .mem) (𝓡 .run)))
     (tables 𝓤 H 𝓜 𝓡 code.env .C) (tables 𝓤 H 𝓜 𝓡 code.env .Λ) #call code.function (code.unfolded 𝓤 H 𝓜 𝓡)
     (call-meets 𝓤 H (𝓖 .A) (givenOf 𝓤 H 𝓜 𝓖) (𝓜 .mem) (𝓡 .run) (tablesOf 𝓤 H 𝓜 (tables 𝓤 H 𝓜 𝓡 code.env))
-    (cited 𝓤 H (Decide 𝓤 H (𝓖 .A) (𝓜 .mem) (𝓡 .run)) 𝓜 𝓡 code.env #decide decide-def.routine code.calls-desk·decide
+    (cited 𝓤 H (Decide 𝓤 H (𝓖 .A) (𝓜 .mem) (𝓡 .run)) 𝓜 𝓡 code.env #decide decide-def.routine code.calls-decisions·decide
     (decide-thm.met 𝓤 H 𝓜 𝓖 𝓡)))

@@ -1,0 +1,4 @@
+pub mod Reply
+pub mod Session
+pub mod Opening
+pub mod Deciding
