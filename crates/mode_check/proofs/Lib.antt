@@ -1,0 +1,2 @@
+-- The page of `check`.
+pub mod Checked
