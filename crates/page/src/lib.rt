@@ -13,6 +13,7 @@ pub use views::ViewNumbers;
 pub use views::put_numbers;
 pub use views::put_spaced;
 pub use views::views_of;
+pub use views::wide;
 
 // Room for any page.
 pub const MOST_PAGE: usize = 65536;

@@ -33,7 +33,8 @@ pub fn views_of(word: u64) -> ViewNumbers
     ViewNumbers { count, numbers }
 }
 
-fn wide(n: u32) -> u64
+// A number of 32 bits as one of 64.
+pub fn wide(n: u32) -> u64
     ensures { λ r. ⌜ r ≡ n ⌝ }
 {
     n as u64
