@@ -1,8 +1,7 @@
 -- The page of `check`, from the pieces that it is written in and the policy that is loaded.
-use mathlib.Core.Path.{_≡_, refl, sym, ap, _∙_}
+use mathlib.Core.Path.{_≡_}
 use mathlib.Core.List.{List, [], _∷_, _++_, append-assoc, append-nil}
 use Prim.Native.Nat.{ℕ}
-use lib.ListN.{length}
 use Rattle.text.specs.Lines.{space, newline}
 use Rattle.text.specs.Names.{bytes}
 use Rattle.text.specs.Print.{decimal}

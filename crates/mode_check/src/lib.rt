@@ -1,6 +1,5 @@
 // The mode `check`: a policy alone.
 
-ghost use mathlib.Core.Path.{_≡_};
 ghost use mathlib.Core.List.{[], _∷_};
 ghost use Prim.Native.Nat.{_≤_};
 ghost use lib.ListN.{length};
@@ -29,11 +28,22 @@ pub fn check_page(policy: &[u8], out: &mut [u8]) -> usize
     let l = load::load(policy);
     let outcome = l.outcome;
     match outcome {
-        Outcome::Refused { number, line } => page::refusal_page(b"policy refused ", policy, number, line, out),
+        Outcome::Refused { number, line } => page::refusal_page(
+            b"policy refused ",
+            policy,
+            number,
+            line,
+            out,
+        ),
         Outcome::Accepted => {
             let p = l.policy;
             let tables = p.tables;
-            put_counts(out, tables.count as u64, p.view_count as u64, p.partition_count as u64)
+            put_counts(
+                out,
+                tables.count as u64,
+                p.view_count as u64,
+                p.partition_count as u64,
+            )
         }
     }
 }

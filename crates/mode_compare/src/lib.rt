@@ -1,6 +1,5 @@
 // The mode `compare`: whether one label is at or below another. It looks at no policy.
 
-ghost use mathlib.Core.Path.{_≡_};
 ghost use Prim.Native.Nat.{_≤_};
 ghost use lib.ListN.{length};
 ghost use Rattle.writing.specs.Wrote.{Wrote};

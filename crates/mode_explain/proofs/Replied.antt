@@ -26,7 +26,7 @@ use Rattle.labelling.specs.Settled.{settled}
 use Rattle.labelling.proofs.Partitions.{label-views}
 use Rattle.labelling.proofs.Posing.{few-labels}
 use Rattle.explain.specs.Explanation.{explained}
-use Rattle.desk.specs.Explaining.{SaidExplaining, saidExplaining, Explained, notExplained, explainedBy, explainReading, Explains, ExplanationGiven}
+use Rattle.desk.specs.Explaining.{saidExplaining, Explained, notExplained, explainedBy, explainReading, ExplanationGiven}
 use Rattle.desk.specs.Explaining.{explainUnder as explainsUnder}
 use Rattle.desk.specs.declared.explaining.Explaining.{Explaining}
 use Rattle.desk.specs.declared.explaining.Explaining.the-variants.{Settled, Unsettled, Refused}

@@ -1,7 +1,6 @@
 // The mode `explain`: why a partition settles a query or not, by views and their own text.
 
-ghost use mathlib.Core.Path.{_≡_};
-ghost use Prim.Native.Nat.{_+_, _*_, _≤_};
+ghost use Prim.Native.Nat.{_+_, _≤_};
 ghost use lib.ListN.{length};
 ghost use Rattle.model.specs.Limits.{mostLines};
 ghost use Rattle.validity.specs.Loadable.{Loadable};
@@ -71,7 +70,13 @@ fn explain_under(p: Policy, n: u64, query: &[u8], out: &mut [u8]) -> usize
             let end = count as usize;
             put_explanation(out, false, p, &cells[..end])
         }
-        Explaining::Refused { number, line } => page::refusal_page(b"refused ", query, number, line, out),
+        Explaining::Refused { number, line } => page::refusal_page(
+            b"refused ",
+            query,
+            number,
+            line,
+            out,
+        ),
     }
 }
 
@@ -83,7 +88,13 @@ pub fn explain_page(policy: &[u8], n: u64, query: &[u8], out: &mut [u8]) -> usiz
     let l = load::load(policy);
     let outcome = l.outcome;
     match outcome {
-        Outcome::Refused { number, line } => page::refusal_page(b"policy refused ", policy, number, line, out),
+        Outcome::Refused { number, line } => page::refusal_page(
+            b"policy refused ",
+            policy,
+            number,
+            line,
+            out,
+        ),
         Outcome::Accepted => explain_under(l.policy, n, query, out),
     }
 }

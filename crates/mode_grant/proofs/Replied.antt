@@ -1,5 +1,5 @@
 -- What the reply of `smallest_grant` says of what is owed, and the page that follows from it.
-use mathlib.Core.Path.{_≡_, refl, sym, ap, subst, _∙_}
+use mathlib.Core.Path.{_≡_, refl, sym, ap, subst}
 use mathlib.Core.Bool.{Bool, true, false, cond}
 use mathlib.Core.List.{List, [], _∷_, _++_}
 use mathlib.Core.Logic.{inl}
@@ -18,7 +18,6 @@ use Rattle.model.specs.declared.Policy.{Policy}
 use Rattle.model.proofs.Limits.{up-to-iff}
 use Rattle.query_text.specs.Text.{Reading, refused, accepted, read}
 use Rattle.policy_text.specs.Declared.{Declared as Declares}
-use Rattle.policy_text.specs.WellFormed.{WellFormed}
 use Rattle.policy_text.specs.Text.{load}
 use Rattle.policy_text.specs.Text.{refused as refusedPolicy, accepted as acceptedPolicy}
 use Rattle.policy_text.proofs.Sizes.{partition-size}
@@ -34,7 +33,7 @@ use Rattle.page.specs.Sizes.{Shown}
 use Rattle.page.specs.Refusal.{policyRefused, queryRefused}
 use Rattle.page.proofs.Texts.{query-shown}
 use Rattle.view_texts.specs.ViewTexts.{InRange, viewList}
-use Rattle.mode_grant.specs.GrantPage.{grantLines, noneLine, PageOf, GrantUnder, GrantLoaded, GrantPage}
+use Rattle.mode_grant.specs.GrantPage.{grantLines, noneLine, PageOf, GrantUnder, GrantPage}
 
 -- ---- the words of a reply
 
@@ -97,12 +96,14 @@ module _ {p : Policy} {n : ℕ} {text before after : List ℕ} {r : Granting} (g
   known-few : {Q : Query} {added : List ℕ} → Smallest d (n - 1) Q added → InRange added × (length added ≤ mostViews)
   known-few {added = added} s =
       let few = loaded-to l .good .views .few in
-      let ranged : InRange added = λ v m. let k = s .known v m in (k .0, omega (arith, k .1, few)) in
-      (ranged, partition-size (length (d .views)) added (record {
-        within = λ v m. up-to-iff mostViews v .1 (ranged v m);
-        ascending = s .ascending;
-        declared = λ v m. s .known v m .1;
-      }) .most)
+      let ranged : InRange added = λ v m. let k = s .known v m in (k .0, omega (arith, k .1, few)) in (
+        ranged,
+        partition-size (length (d .views)) added (record {
+          within = λ v m. up-to-iff mostViews v .1 (ranged v m);
+          ascending = s .ascending;
+          declared = λ v m. s .known v m .1;
+        }) .most,
+      )
 
   -- what is given, as the list of what is owed
   pub record Adds (count : ℕ) (o : Owed) : Type 0 where

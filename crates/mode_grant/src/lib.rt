@@ -1,6 +1,5 @@
 // The mode `grant`: the fewest views that make a partition settle a query, by their numbers and their own text.
 
-ghost use mathlib.Core.Path.{_≡_};
 ghost use Prim.Native.Nat.{_≤_};
 ghost use lib.ListN.{length};
 ghost use Rattle.model.specs.Limits.{mostViews};
@@ -39,7 +38,13 @@ fn grant_under(p: Policy, n: u64, query: &[u8], out: &mut [u8]) -> usize
             put_grant(out, p, &cells[..end])
         }
         Granting::Nothing => writing::put_bytes(out, 0, b"none\n"),
-        Granting::Refused { number, line } => page::refusal_page(b"refused ", query, number, line, out),
+        Granting::Refused { number, line } => page::refusal_page(
+            b"refused ",
+            query,
+            number,
+            line,
+            out,
+        ),
     }
 }
 
@@ -51,7 +56,13 @@ pub fn grant_page(policy: &[u8], n: u64, query: &[u8], out: &mut [u8]) -> usize
     let l = load::load(policy);
     let outcome = l.outcome;
     match outcome {
-        Outcome::Refused { number, line } => page::refusal_page(b"policy refused ", policy, number, line, out),
+        Outcome::Refused { number, line } => page::refusal_page(
+            b"policy refused ",
+            policy,
+            number,
+            line,
+            out,
+        ),
         Outcome::Accepted => grant_under(l.policy, n, query, out),
     }
 }

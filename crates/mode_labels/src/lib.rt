@@ -1,6 +1,5 @@
 // The mode `labels`: the labels of a query, a line for each.
 
-ghost use mathlib.Core.Path.{_≡_};
 ghost use Prim.Native.Nat.{_+_, _≤_};
 ghost use lib.ListN.{length};
 ghost use Rattle.model.specs.Limits.{mostLines};
@@ -55,7 +54,13 @@ fn labels_under(p: Policy, query: &[u8], out: &mut [u8]) -> usize
             let end = count as usize;
             put_labels(out, &cells[..end])
         }
-        Listing::Refused { number, line } => page::refusal_page(b"refused ", query, number, line, out),
+        Listing::Refused { number, line } => page::refusal_page(
+            b"refused ",
+            query,
+            number,
+            line,
+            out,
+        ),
     }
 }
 
@@ -67,7 +72,13 @@ pub fn labels_page(policy: &[u8], query: &[u8], out: &mut [u8]) -> usize
     let l = load::load(policy);
     let outcome = l.outcome;
     match outcome {
-        Outcome::Refused { number, line } => page::refusal_page(b"policy refused ", policy, number, line, out),
+        Outcome::Refused { number, line } => page::refusal_page(
+            b"policy refused ",
+            policy,
+            number,
+            line,
+            out,
+        ),
         Outcome::Accepted => labels_under(l.policy, query, out),
     }
 }

@@ -3,7 +3,6 @@
 ghost use mathlib.Core.Path.{_≡_};
 ghost use Prim.Native.Nat.{_+_, _*_, _≤_};
 ghost use lib.ListN.{length};
-ghost use Rattle.writing.specs.Wrote.{Wrote};
 ghost use Rattle.view_texts.specs.ViewTexts.{mostViewText, mostList, mostTitle, InRange, ViewPut, ViewsPut, ListPut};
 use model::Line;
 use model::Policy;

@@ -24,7 +24,7 @@ slice-aggregate-refusal-page : tie.Need-slice-aggregate-refusal-page
 slice-aggregate-refusal-page c = search needs
 
 refusal-page-requires : tie.Need-refusal-page-requires
-refusal-page-requires c κs = 
+refusal-page-requires c κs =
     let o = c .before .before .before in
     let a = o .before .before in
     let e = loads-not (load _) (a .load .result) _ _ (a .load .ensures) (o .outcome .given .1) in
@@ -42,7 +42,7 @@ same-length c = search needs
 
 returns : tie.Need-returns
 unfolding policyRefused bytes
-returns c = 
+returns c =
     let r = c .before .before in
     let o = r .before .before .before .before in
     let a = o .before .before in
@@ -53,7 +53,7 @@ same-length-2 : tie.Need-same-length-2
 same-length-2 c = search needs
 
 returns-2 : tie.Need-returns-2
-returns-2 c = 
+returns-2 c =
     let r = c .before .before in
     let m = r .before .before .before .before .before in
     let (d, e, l) = loads-to _ (m .before .load .result) (m .before .load .ensures) (m .match .keys2) in

@@ -29,7 +29,7 @@ same-length c = search needs
 
 returns : tie.Need-returns
 unfolding bytes
-returns c = 
+returns c =
     let e = c .before .before in
     let p = e .before .before .before .before in
     let v = p .before .before .before .before in

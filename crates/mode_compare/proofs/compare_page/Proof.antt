@@ -43,7 +43,7 @@ same-length c = search needs
 
 returns : tie.Need-returns
 unfolding withNumber queryRefused bytes
-returns c = 
+returns c =
     let r = c .before .before in
     let m = r .before .before .before .before in
     wrote-as (first-read _ _ (m .before .read-numeral .ensures) (is-malformed _ (m .match .keys1))) (r .refusal-page .ensures)
@@ -53,7 +53,7 @@ same-length-2 c = search needs
 
 returns-2 : tie.Need-returns-2
 unfolding withNumber queryRefused bytes
-returns-2 c = 
+returns-2 c =
     let r = c .before .before in
     let m = r .before .before .before .before in
     wrote-as (first-read _ _ (m .before .read-numeral .ensures) (is-large _ (m .match .keys2))) (r .refusal-page2 .ensures)
@@ -63,7 +63,7 @@ same-length-3 c = search needs
 
 returns-3 : tie.Need-returns-3
 unfolding withNumber
-returns-3 c = 
+returns-3 c =
     let r = c .before .before in
     let v = r .before .before .before in
     wrote-as (first-read _ _ (v .before .before .read-numeral .ensures) (v .value .given .1)) (r .compare-with .ensures)

@@ -46,7 +46,7 @@ same-length c = search needs
 
 returns : tie.Need-returns
 unfolding withNumber queryRefused bytes
-returns c = 
+returns c =
     let r = c .before .before in
     let m = r .before .before .before .before in
     wrote-as (second-read _ _ (m .before .read-numeral .ensures) (is-malformed _ (m .match .keys1))) (r .refusal-page .ensures)
@@ -56,7 +56,7 @@ same-length-2 c = search needs
 
 returns-2 : tie.Need-returns-2
 unfolding withNumber queryRefused bytes
-returns-2 c = 
+returns-2 c =
     let r = c .before .before in
     let m = r .before .before .before .before in
     wrote-as (second-read _ _ (m .before .read-numeral .ensures) (is-large _ (m .match .keys2))) (r .refusal-page2 .ensures)
@@ -66,7 +66,7 @@ same-length-3 c = search needs
 
 returns-3 : tie.Need-returns-3
 unfolding withNumber
-returns-3 c = 
+returns-3 c =
     let r = c .before .before in
     let b = r .before in
     let v = b .before .before .before in

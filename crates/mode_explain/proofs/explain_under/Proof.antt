@@ -73,7 +73,7 @@ slice-aggregate-put-explanation : tie.Need-slice-aggregate-put-explanation
 slice-aggregate-put-explanation c = let k = c .before .before .before in sym (length-take-le _ _ (settles k (begun (of-count k) .pre .0) .1))
 
 put-explanation-requires : tie.Need-put-explanation-requires
-put-explanation-requires c κs = 
+put-explanation-requires c κs =
     let k = c .before .before .before in
     let s = begun (of-count k) in
     let t = settles k (s .pre .0) in
@@ -89,7 +89,7 @@ slice-aggregate-put-explanation-2 : tie.Need-slice-aggregate-put-explanation-2
 slice-aggregate-put-explanation-2 c = let k = c .before .before .before in sym (length-take-le _ _ (settles-not k (begun (of-count2 k) .pre .0) .1))
 
 put-explanation-requires-2 : tie.Need-put-explanation-requires-2
-put-explanation-requires-2 c κs = 
+put-explanation-requires-2 c κs =
     let k = c .before .before .before in
     let s = begun (of-count2 k) in
     let t = settles-not k (s .pre .0) in
@@ -102,7 +102,7 @@ slice-aggregate-refusal-page : tie.Need-slice-aggregate-refusal-page
 slice-aggregate-refusal-page c = search needs
 
 refusal-page-requires : tie.Need-refusal-page-requires
-refusal-page-requires c κs = 
+refusal-page-requires c κs =
     let k = c .before .before .before in
     let s = begun (of-number k) in
     (omega arith, s .pre .1, refuses k (s .pre .0) .0)
@@ -111,14 +111,14 @@ same-length : tie.Need-same-length
 same-length c = search needs
 
 returns : tie.Need-returns
-returns c = 
+returns c =
     λ l. let r = c .before .before in wrote-as (settles (r .before .before .before .before) l .2) (r .put-explanation .ensures l)
 
 same-length-2 : tie.Need-same-length-2
 same-length-2 c = search needs
 
 returns-2 : tie.Need-returns-2
-returns-2 c = 
+returns-2 c =
     λ l. let r = c .before .before in wrote-as (settles-not (r .before .before .before .before) l .2) (r .put-explanation2 .ensures l)
 
 same-length-3 : tie.Need-same-length-3
@@ -126,7 +126,7 @@ same-length-3 c = search needs
 
 returns-3 : tie.Need-returns-3
 unfolding queryRefused bytes
-returns-3 c = 
+returns-3 c =
     λ l. let r = c .before .before in wrote-as (refuses (r .before .before .before .before) l .1) (r .refusal-page .ensures)
 
 pub explain-under-spec : {M : Type 1} → statement M

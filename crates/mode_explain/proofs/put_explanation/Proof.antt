@@ -19,7 +19,7 @@ same-length c = search needs
 
 returns : tie.Need-returns
 unfolding bytes
-returns c = 
+returns c =
     λ l.
     let w = c .before .before in
     let b = w .before .before .before .before in
@@ -40,7 +40,7 @@ same-length-2 c = search needs
 
 returns-2 : tie.Need-returns-2
 unfolding bytes
-returns-2 c = 
+returns-2 c =
     λ l.
     let w = c .before .before in
     let b = w .before .before .before .before in

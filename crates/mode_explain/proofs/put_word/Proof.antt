@@ -44,7 +44,7 @@ same-length c = search needs
 
 returns : tie.Need-returns
 unfolding bytes
-returns c = 
+returns c =
     let b = c .before .before in
     let t = b .before .before .before in
     let v = t .before .before in
@@ -63,7 +63,7 @@ slice-aggregate-put-list-2 : tie.Need-slice-aggregate-put-list-2
 slice-aggregate-put-list-2 c = sym (listed (c .before .before .before .before .before))
 
 put-list-requires : tie.Need-put-list-requires
-put-list-requires c κs = 
+put-list-requires c κs =
     let v = c .before .before .before .before .before in (
       omega arith,
       omega (arith, listed v, v .views-of .ensures .few, v .before .before .before .pre),
@@ -75,7 +75,7 @@ same-length-2 c = search needs
 
 returns-2 : tie.Need-returns-2
 unfolding bytes
-returns-2 c = 
+returns-2 c =
     let b = c .before .before in
     let t = b .before .before .before .before in
     let v = t .before .before in (

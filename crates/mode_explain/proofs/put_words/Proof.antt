@@ -14,7 +14,7 @@ use Rattle.mode_explain.proofs.put_words.Statement.{statement}
 use Rattle.mode_explain.proofs.put_words.Tie as tie
 
 abbrev Inv-loop : tie.InvT-loop
-Inv-loop out₀ start p words to₀ i₀ out to i = 
+Inv-loop out₀ start p words to₀ i₀ out to i =
     (to ≤ start + i * mostWord) × (i ≤ length words) × (length out ≡ length out₀)
     × ((l : Loadable p) → Wrote out₀ start (wordLines (l .declared .views) (take i words)) out to)
 
@@ -32,7 +32,7 @@ shared-slice-read-put-word : tie.Need-shared-slice-read-put-word Inv-loop μ-loo
 shared-slice-read-put-word c = search needs
 
 put-word-requires : tie.Need-put-word-requires Inv-loop μ-loop
-put-word-requires c κs = 
+put-word-requires c κs =
     let t = c .before .before in
     let l = t .before in
     let s = l .before .before .before in
@@ -46,7 +46,7 @@ loop-less : tie.Need-loop-less Inv-loop μ-loop
 loop-less c = omega arith
 
 loop-again : tie.Need-loop-again Inv-loop μ-loop
-loop-again c = 
+loop-again c =
     let w = c .before .before in
     let t = w .before .before .before in
     let inv = t .before .loop .inv in
@@ -61,7 +61,7 @@ same-length : tie.Need-same-length Inv-loop μ-loop
 same-length c = c .before .loop .inv .2
 
 returns : tie.Need-returns Inv-loop μ-loop
-returns c = 
+returns c =
     λ l. wrote-as (ap (wordLines (l .declared .views)) (take-all _ _ (c .loop-test .left))) (c .before .loop .inv .3 l)
 
 pub put-words-spec : {M : Type 1} → statement M

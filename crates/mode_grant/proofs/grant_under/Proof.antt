@@ -1,5 +1,5 @@
 -- `grant_under`: the list that the desk gives, that there is none, or its refusal.
-use mathlib.Core.Path.{_≡_, sym}
+use mathlib.Core.Path.{sym}
 use Prim.Native.Nat.{_≤_}
 use native.Mathlib.Omega.{arith}
 use borrow.Author.Needs.{needs}
@@ -62,7 +62,7 @@ slice-aggregate-put-grant : tie.Need-slice-aggregate-put-grant
 slice-aggregate-put-grant c = let k = c .before .before .before in sym (length-take-le _ _ (adds k (begun (of-count k) .pre .0) .1))
 
 put-grant-requires : tie.Need-put-grant-requires
-put-grant-requires c κs = 
+put-grant-requires c κs =
     let k = c .before .before .before in
     let s = begun (of-count k) in
     let t = adds k (s .pre .0) in
@@ -84,7 +84,7 @@ slice-aggregate-refusal-page : tie.Need-slice-aggregate-refusal-page
 slice-aggregate-refusal-page c = search needs
 
 refusal-page-requires : tie.Need-refusal-page-requires
-refusal-page-requires c κs = 
+refusal-page-requires c κs =
     let k = c .before .before .before in
     let s = begun (of-number k) in
     (omega arith, s .pre .1, refuses k (s .pre .0) .0)
@@ -93,7 +93,7 @@ same-length : tie.Need-same-length
 same-length c = search needs
 
 returns : tie.Need-returns
-returns c = 
+returns c =
     λ l.
     let r = c .before .before in
     record { page = _; is-page = adds (r .before .before .before .before) l .3; wrote = r .put-grant .ensures l }
@@ -103,7 +103,7 @@ same-length-2 c = search needs
 
 returns-2 : tie.Need-returns-2
 unfolding noneLine bytes
-returns-2 c = 
+returns-2 c =
     λ l.
     let r = c .before .before in
     let m = r .before .before .before .before in
@@ -115,7 +115,7 @@ same-length-3 c = search needs
 
 returns-3 : tie.Need-returns-3
 unfolding queryRefused bytes
-returns-3 c = 
+returns-3 c =
     λ l.
     let r = c .before .before in
     record { page = _; is-page = refuses (r .before .before .before .before) l .1; wrote = r .refusal-page .ensures }

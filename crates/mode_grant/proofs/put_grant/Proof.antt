@@ -18,7 +18,7 @@ same-length c = search needs
 
 returns : tie.Need-returns
 unfolding bytes
-returns c = 
+returns c =
     λ l.
     let b = c .before .before in
     wrote-as (none-added (l .declared .views) _ (b .before .before .before .if1 .taken)) (b .put-bytes .ensures)
@@ -34,7 +34,7 @@ same-length-2 c = search needs
 
 returns-2 : tie.Need-returns-2
 unfolding bytes
-returns-2 c = 
+returns-2 c =
     λ l.
     let b = c .before .before in
     wrote-as (some-added (l .declared .views) _ (b .before .before .before .if1 .left)) (b .put-list .ensures .0 (l .declared) (loaded-to l))

@@ -9,7 +9,7 @@ use Rattle.text.specs.Names.{bytes}
 use Rattle.model.specs.Limits.{mostLines}
 use Rattle.validity.specs.Loadable.{Loadable}
 use Rattle.writing.proofs.Wrote.{wrote-as}
-use Rattle.page.specs.Sizes.{mostPage, Shown}
+use Rattle.page.specs.Sizes.{Shown}
 use Rattle.page.specs.Refusal.{queryRefused}
 use Rattle.mode_labels.specs.LabelLines.{labelLines, labelsUnder}
 use Rattle.mode_labels.proofs.Replied.{labels-told, labels-untold}
@@ -59,7 +59,7 @@ slice-aggregate-put-labels : tie.Need-slice-aggregate-put-labels
 slice-aggregate-put-labels c = let k = c .before .before .before in sym (length-take-le _ _ (told k (begun (of-count k) .pre .0) .1))
 
 put-labels-requires : tie.Need-put-labels-requires
-put-labels-requires c κs = 
+put-labels-requires c κs =
     let k = c .before .before .before in
     let t = told k (begun (of-count k) .pre .0) in
     (simp length-take (omega (arith, t .0)), begun (of-count k) .pre .1)
@@ -71,7 +71,7 @@ slice-aggregate-refusal-page : tie.Need-slice-aggregate-refusal-page
 slice-aggregate-refusal-page c = search needs
 
 refusal-page-requires : tie.Need-refusal-page-requires
-refusal-page-requires c κs = 
+refusal-page-requires c κs =
     let k = c .before .before .before in
     (omega arith, begun (of-number k) .pre .1, untold k (begun (of-number k) .pre .0) .0)
 
@@ -79,7 +79,7 @@ same-length : tie.Need-same-length
 same-length c = search needs
 
 returns : tie.Need-returns
-returns c = 
+returns c =
     λ l.
     let r = c .before .before in
     wrote-as (told (r .before .before .before .before) l .2) (r .put-labels .ensures)
@@ -89,7 +89,7 @@ same-length-2 c = search needs
 
 returns-2 : tie.Need-returns-2
 unfolding queryRefused bytes
-returns-2 c = 
+returns-2 c =
     λ l.
     let r = c .before .before in
     wrote-as (untold (r .before .before .before .before) l .1) (r .refusal-page .ensures)

@@ -96,37 +96,45 @@ placed c =
     )
 
 array-share-prefix-numbers : tie.Need-array-share-prefix-numbers
-array-share-prefix-numbers c = 
+array-share-prefix-numbers c =
     let v = c .before .before .before in
     within (viewed (tabled (worded (said v))))
 
 slice-aggregate-put-numbers : tie.Need-slice-aggregate-put-numbers
-slice-aggregate-put-numbers c = 
+slice-aggregate-put-numbers c =
     let v = c .before .before .before .before in
     sym (listed (viewed (tabled (worded (said v)))))
 
 put-numbers-requires : tie.Need-put-numbers-requires
-put-numbers-requires c κs = 
+put-numbers-requires c κs =
     let v = c .before .before .before .before in
     let g = viewed (tabled (worded (said v))) in
     let (near, same) = placed v in
     omega (arith, near, same, listed g, g .views-of .ensures .few, g .before .before .before .pre)
 
 put-byte-requires : tie.Need-put-byte-requires
-put-byte-requires c κs = 
+put-byte-requires c κs =
     let n = c .before .before .before in
     let v = n .before .before .before .before .before in
     let g = viewed (tabled (worded (said v))) in
     let (near, same) = placed v in
-    omega (arith, near, same, listed g, g .views-of .ensures .few, g .before .before .before .pre, n .put-numbers .ensures .1,
-    n .put-numbers .ensures .0 .size)
+    omega (
+      arith,
+      near,
+      same,
+      listed g,
+      g .views-of .ensures .few,
+      g .before .before .before .pre,
+      n .put-numbers .ensures .1,
+      n .put-numbers .ensures .0 .size,
+    )
 
 same-length : tie.Need-same-length
 same-length c = search needs
 
 returns : tie.Need-returns
 unfolding bytes
-returns c = 
+returns c =
     let e = c .before .before in
     let n = e .before .before .before .before in
     let v = n .before .before .before .before .before in

@@ -13,7 +13,7 @@ use Rattle.mode_labels.proofs.put_labels.Statement.{statement}
 use Rattle.mode_labels.proofs.put_labels.Tie as tie
 
 abbrev Inv-loop : tie.InvT-loop
-Inv-loop out₀ labels to₀ i₀ out to i = 
+Inv-loop out₀ labels to₀ i₀ out to i =
     Wrote out₀ 0 (labelLines (take i labels)) out to × (to ≤ i * mostLabel) × (i ≤ length labels)
 
 abbrev μ-loop : tie.MeasureT-loop
@@ -30,7 +30,7 @@ shared-slice-read-put-label : tie.Need-shared-slice-read-put-label Inv-loop μ-l
 shared-slice-read-put-label c = search needs
 
 put-label-requires : tie.Need-put-label-requires Inv-loop μ-loop
-put-label-requires c κs = 
+put-label-requires c κs =
     let t = c .before .before in
     let l = t .before in
     let s = l .before .before .before in
@@ -44,7 +44,7 @@ loop-less : tie.Need-loop-less Inv-loop μ-loop
 loop-less c = omega arith
 
 loop-again : tie.Need-loop-again Inv-loop μ-loop
-loop-again c = 
+loop-again c =
     let p = c .before .before in
     let t = p .before .before .before in
     let inv = t .before .loop .inv in (

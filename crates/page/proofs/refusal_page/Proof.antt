@@ -16,21 +16,31 @@ put-field-requires-2 : tie.Need-put-field-requires-2
 put-field-requires-2 c κs = search needs
 
 put-below-requires : tie.Need-put-below-requires
-put-below-requires c κs = 
+put-below-requires c κs =
     λ some.
     let l = c .before .before .before in
     let n = l .before .before .before .before in
     let w = n .before .before .before .before in
     let (said, room, shown) = w .before .before .before .before .before .pre in
     ⊎-elim (λ z. absurd (some z))
-    (λ h. omega (arith, said, room, h, w .put-bytes .ensures .next, w .put-bytes .ensures .size, n .put-field .ensures .1,
-    n .put-field .ensures .0 .size, l .put-field2 .ensures .1, l .put-field2 .ensures .0 .size)) shown
+    (λ h. omega (
+      arith,
+      said,
+      room,
+      h,
+      w .put-bytes .ensures .next,
+      w .put-bytes .ensures .size,
+      n .put-field .ensures .1,
+      n .put-field .ensures .0 .size,
+      l .put-field2 .ensures .1,
+      l .put-field2 .ensures .0 .size,
+    )) shown
 
 same-length : tie.Need-same-length
 same-length c = search needs
 
 returns : tie.Need-returns
-returns c = 
+returns c =
     let b = c .before .before in
     let l = b .before .before .before .before in
     let n = l .before .before .before .before in

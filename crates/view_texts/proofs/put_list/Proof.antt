@@ -22,7 +22,7 @@ same-length : tie.Need-same-length
 same-length c = search needs
 
 returns : tie.Need-returns
-returns c = 
+returns c =
     let v = c .before .before in
     let e = v .before .before .before .before in
     let n = e .before .before .before .before in

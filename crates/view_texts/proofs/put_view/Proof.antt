@@ -23,7 +23,7 @@ same-length : tie.Need-same-length
 same-length c = search needs
 
 returns : tie.Need-returns
-returns c = 
+returns c =
     let l = c .before .before in
     let f = l .before .before .before .before in
     let s = f .before .before .before .before in

@@ -17,7 +17,7 @@ use Rattle.view_texts.proofs.put_views.Statement.{statement}
 use Rattle.view_texts.proofs.put_views.Tie as tie
 
 abbrev Inv-loop : tie.InvT-loop
-Inv-loop out₀ start numbers p to₀ i₀ out to i = 
+Inv-loop out₀ start numbers p to₀ i₀ out to i =
     (to ≤ start + i * mostViewText) × (i ≤ length numbers) × (length out ≡ length out₀)
     × ((d : Declared) → LoadedTo p d → Wrote out₀ start (viewTexts (d .views) (take i numbers)) out to)
 
@@ -54,7 +54,7 @@ element-copy-out-view : tie.Need-element-copy-out-view Inv-loop μ-loop
 element-copy-out-view c = omega (arith, ranged c)
 
 put-view-requires : tie.Need-put-view-requires Inv-loop μ-loop
-put-view-requires c κs = 
+put-view-requires c κs =
     let t = c .before .before .before .before in
     let l = t .before in
     let s = l .before .before .before in
@@ -68,7 +68,7 @@ loop-less : tie.Need-loop-less Inv-loop μ-loop
 loop-less c = omega arith
 
 loop-again : tie.Need-loop-again Inv-loop μ-loop
-loop-again c = 
+loop-again c =
     let v = c .before .before in
     let w = v .before .before .before in
     let t = w .before .before in
@@ -86,7 +86,7 @@ same-length : tie.Need-same-length Inv-loop μ-loop
 same-length c = c .before .loop .inv .2
 
 returns : tie.Need-returns Inv-loop μ-loop
-returns c = 
+returns c =
     let inv = c .before .loop .inv in
     let e : c .before .loop .i ≡ length (c .before .before .before .before .args .numbers .now) = omega (arith, inv .1, c .loop-test .left) in (
       λ d l. wrote-as (ap (viewTexts (d .views)) (take-all _ _ (c .loop-test .left))) (inv .3 d l),

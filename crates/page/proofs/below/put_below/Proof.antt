@@ -18,7 +18,7 @@ abbrev μ-loop : tie.MeasureT-loop
 μ-loop out₀ start text line left₀ at₀ out left at = length text - at
 
 returns : tie.Need-returns Inv-loop μ-loop
-returns c = 
+returns c =
     wrote-nothing refl (sym (rw (c .if1 .taken) (below-zero _)))
 
 loop-holds : tie.Need-loop-holds Inv-loop μ-loop
@@ -37,13 +37,13 @@ first-requires : tie.Need-first-requires Inv-loop μ-loop
 first-requires c κs = search needs
 
 slice-aggregate-put-indented : tie.Need-slice-aggregate-put-indented Inv-loop μ-loop
-slice-aggregate-put-indented c = 
+slice-aggregate-put-indented c =
     let f = c .before .before .before in
     let l = f .before .before .before in
     sym (length-take-le _ _ (first-within (l .loop .inv .0) _ (f .first .ensures)))
 
 put-indented-requires : tie.Need-put-indented-requires Inv-loop μ-loop
-put-indented-requires c κs = 
+put-indented-requires c κs =
     let f = c .before .before .before in
     let l = f .before .before .before in
     let s = l .before .before .before .before in
@@ -56,7 +56,7 @@ same-length c =
     p .put-indented .ensures .size ∙ ap length (l .loop .inv .1)
 
 returns-2 : tie.Need-returns-2 Inv-loop μ-loop
-returns-2 c = 
+returns-2 c =
     let p = c .before .before in
     let t = p .before .before .before in
     let f = t .before in
@@ -68,37 +68,37 @@ same-length-2 : tie.Need-same-length-2 Inv-loop μ-loop
 same-length-2 c = search needs
 
 returns-3 : tie.Need-returns-3 Inv-loop μ-loop
-returns-3 c = 
+returns-3 c =
     let e = c .before in
     let f = e .before in
     let l = f .before .before .before in
     wrote-nothing (l .loop .inv .1) (reached-end (l .loop .inv .0) _ (f .first .ensures) (e .if2 .left) (c .if3 .taken))
 
 sub-left : tie.Need-sub-left Inv-loop μ-loop
-sub-left c = 
+sub-left c =
     let l = c .before .before .before .before .before in
     omega (arith, l .loop .inv .0 .some)
 
 add-at : tie.Need-add-at Inv-loop μ-loop
-add-at c = 
+add-at c =
     let f = c .before .before in
     let l = f .before .before .before in
     omega (arith, next-within (l .loop .inv .0) _ (f .first .ensures) (c .before .if2 .left) (c .if3 .left))
 
 add-at-2 : tie.Need-add-at-2 Inv-loop μ-loop
-add-at-2 c = 
+add-at-2 c =
     let f = c .before .before in
     let l = f .before .before .before in
     omega (arith, next-within (l .loop .inv .0) _ (f .first .ensures) (c .before .if2 .left) (c .if3 .left))
 
 loop-less : tie.Need-loop-less Inv-loop μ-loop
-loop-less c = 
+loop-less c =
     let f = c .before .before in
     let l = f .before .before .before in
     omega (arith, next-within (l .loop .inv .0) _ (f .first .ensures) (c .before .if2 .left) (c .if3 .left))
 
 loop-again : tie.Need-loop-again Inv-loop μ-loop
-loop-again c = 
+loop-again c =
     let f = c .before .before in
     let l = f .before .before .before in
     (reached-more (l .loop .inv .0) _ (f .first .ensures) (c .before .if2 .left) (c .if3 .left), l .loop .inv .1)

@@ -22,7 +22,7 @@ same-length c = search needs
 
 returns : tie.Need-returns
 unfolding indented
-returns c = 
+returns c =
     let n = c .before .before in
     let b = n .before .before .before .before in
     let a = b .before .before .before .before in

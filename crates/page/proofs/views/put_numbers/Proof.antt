@@ -13,7 +13,7 @@ use Rattle.page.proofs.views.put_numbers.Statement.{statement}
 use Rattle.page.proofs.views.put_numbers.Tie as tie
 
 abbrev Inv-loop : tie.InvT-loop
-Inv-loop out₀ start numbers to₀ i₀ out to i = 
+Inv-loop out₀ start numbers to₀ i₀ out to i =
     Wrote out₀ start (spacedNumbers (take i numbers)) out to × (to ≤ start + i * mostFieldBytes) × (i ≤ length numbers)
 
 abbrev μ-loop : tie.MeasureT-loop
@@ -33,7 +33,7 @@ wide-requires : tie.Need-wide-requires Inv-loop μ-loop
 wide-requires c κs = search needs
 
 put-spaced-requires : tie.Need-put-spaced-requires Inv-loop μ-loop
-put-spaced-requires c κs = 
+put-spaced-requires c κs =
     let t = c .before .before .before in
     let l = t .before in
     let s = l .before .before .before in
@@ -48,7 +48,7 @@ loop-less : tie.Need-loop-less Inv-loop μ-loop
 loop-less c = omega arith
 
 loop-again : tie.Need-loop-again Inv-loop μ-loop
-loop-again c = 
+loop-again c =
     let p = c .before .before in
     let d = p .before in
     let t = d .before .before .before in
@@ -62,7 +62,7 @@ same-length : tie.Need-same-length Inv-loop μ-loop
 same-length c = c .before .loop .inv .0 .size
 
 returns : tie.Need-returns Inv-loop μ-loop
-returns c = 
+returns c =
     let inv = c .before .loop .inv in
     let e : c .before .loop .i ≡ length (c .before .before .before .before .args .numbers .now) = omega (arith, inv .2, c .loop-test .left) in
     (wrote-as (ap spacedNumbers (take-all _ _ (c .loop-test .left))) (inv .0), omega (arith, inv .1, e))

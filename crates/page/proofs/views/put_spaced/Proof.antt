@@ -18,7 +18,7 @@ space-put : (c : tie.After-put-byte) →
 space-put c = wrote-byte (put-byte-requires (c .before) (c .put-byte .lifetimes)) (c .put-byte .ensures)
 
 put-number-requires : tie.Need-put-number-requires
-put-number-requires c κs = 
+put-number-requires c κs =
     let p = c .before .before .before in
     let s = p .before .before .before in
     omega (arith, s .pre, length-word (s .args .n) (s .fits .n .fits), p .put-byte .ensures .1, space-put p .size)
@@ -27,7 +27,7 @@ same-length : tie.Need-same-length
 same-length c = search needs
 
 returns : tie.Need-returns
-returns c = 
+returns c =
     let n = c .before .before in
     let p = n .before .before .before .before in
     let s = p .before .before .before in

@@ -45,7 +45,7 @@ loop-less : tie.Need-loop-less Inv-loop μ-loop
 loop-less c = omega arith
 
 loop-again : tie.Need-loop-again Inv-loop μ-loop
-loop-again c = 
+loop-again c =
     let t = c .before .before in
     let f = t .before .loop .inv in
     let e = c .before .has-bit .ensures in
@@ -55,7 +55,7 @@ loop-again c =
     (c .if1 .came)
 
 returns : tie.Need-returns Inv-loop μ-loop
-returns c = 
+returns c =
     let f = c .before .loop .inv in
     record { few = omega (arith, f .few, f .within); are = views-all f (c .loop-test .left) }
 
