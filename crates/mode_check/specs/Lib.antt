@@ -1,0 +1,2 @@
+-- The mode `check`.
+pub mod Check

@@ -1,0 +1,2 @@
+-- The page of `compare`.
+pub mod Arguments

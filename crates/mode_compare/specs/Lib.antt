@@ -1,0 +1,2 @@
+-- The mode `compare`.
+pub mod Compare

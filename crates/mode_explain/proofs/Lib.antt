@@ -1,0 +1,3 @@
+-- The page of `explain`.
+pub mod WordPieces
+pub mod Replied

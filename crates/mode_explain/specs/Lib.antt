@@ -1,0 +1,2 @@
+-- The mode `explain`.
+pub mod ExplainPage

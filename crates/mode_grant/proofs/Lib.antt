@@ -1,0 +1,2 @@
+-- The page of `grant`.
+pub mod Replied

@@ -1,0 +1,2 @@
+-- The mode `grant`.
+pub mod GrantPage

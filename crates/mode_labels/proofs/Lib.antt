@@ -1,0 +1,3 @@
+-- The page of `labels`.
+pub mod LinePieces
+pub mod Replied

@@ -1,0 +1,2 @@
+-- The mode `labels`.
+pub mod LabelLines

@@ -1,0 +1,5 @@
+-- Lines shown and numbers listed.
+pub mod FoundLine
+pub mod Refused
+pub mod Listed
+pub mod Texts

@@ -1,0 +1,2 @@
+-- Views and their text.
+pub mod Viewed

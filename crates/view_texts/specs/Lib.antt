@@ -1,0 +1,2 @@
+-- Views by their numbers, with their own text.
+pub mod ViewTexts
