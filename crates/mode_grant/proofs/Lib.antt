@@ -1,2 +1,3 @@
--- The page of `grant`.
+-- The page of `grant`, and that there is one.
 pub mod Replied
+pub mod OnePage
