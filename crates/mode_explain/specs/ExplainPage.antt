@@ -34,7 +34,7 @@ mostFirst = 12
 
 -- ---- what is printed
 
--- the views of a word and their text; "word 0: `views none`"
+-- the views of a word and their text; "A word 0 means that no view would do"
 unfoldable pub viewLines : List Line → List ℕ → List ℕ
 unfolding bytes viewList
 viewLines views [] = bytes "views none" ++ newline ∷ []
@@ -45,7 +45,7 @@ unfolding viewLines viewsOfWord
 wordLines views [] = []
 wordLines views (w ∷ ws) = viewLines views (viewsOfWord w) ++ wordLines views ws
 
--- `settled` or `not settled`, "then for each word of the explanation in order"
+-- "The reply says settled or not", and then the words; "Words ascend as numbers"
 unfoldable pub explanation : List Line → Bool → List ℕ → List ℕ
 unfolding bytes wordLines
 explanation views settles ws = cond settles (bytes "settled") (bytes "not settled") ++ newline ∷ wordLines views ws

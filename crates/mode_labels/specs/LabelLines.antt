@@ -1,4 +1,4 @@
--- The mode `labels`: "for each label in order `label WORD table TABLE views N N ...`".
+-- The mode `labels`: a line `label WORD table TABLE views N N ...` for each label.
 use mathlib.Core.List.{List, [], _∷_, _++_}
 use Prim.Native.Nat.{ℕ, _+_, _*_, _/_, _%_, _^_}
 use Rattle.words.specs.Bits.{halfBits}

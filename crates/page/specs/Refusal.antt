@@ -19,7 +19,7 @@ numbered (suc (suc k)) [] (b ∷ tail) = []
 numbered (suc zero) (l ∷ ls) tail = indented l
 numbered (suc (suc k)) (l ∷ ls) tail = numbered (suc k) ls tail
 
--- "the policy text's line of that number, if there is one"
+-- the text's line of that number, if there is one
 unfoldable pub lineBelow : List ℕ → ℕ → List ℕ
 unfolding numbered lines
 lineBelow text k = numbered k (lines text .ended) (lines text .rest)

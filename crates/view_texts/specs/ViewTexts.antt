@@ -35,7 +35,7 @@ mostList count = mostTitle + 1 + count * (mostFieldBytes + mostViewText)
 
 -- ---- what is printed
 
--- "view": the number, the table and the terms, as in the policy
+-- a view's line: its number, its table and its terms, as in the policy
 unfoldable pub viewText : ℕ → TheLine → List ℕ
 unfolding indented printLine lineFields
 viewText n A = indented (printLine n (lineFields A))
