@@ -63,6 +63,21 @@ fn write_grant() {
     io::write_all(1, &out[..n]);
 }
 
+fn write_apart() {
+    let mut policy = files::policy_room();
+    let policy_bytes = files::read_file(b"policy.txt", &mut policy);
+    let mut query = [0; MOST_QUERY];
+    let query_bytes = io::read_full(0, &mut query);
+    let mut out = page::page_room();
+    let n = mode_apart::apart_page(
+        &policy[..policy_bytes],
+        number_at(2),
+        &query[..query_bytes],
+        &mut out,
+    );
+    io::write_all(1, &out[..n]);
+}
+
 fn write_compare() {
     let mut x = io::buffer();
     let x_bytes = os::arg(2, &mut x);
@@ -91,12 +106,16 @@ pub fn write_mode(name: &[u8]) {
         write_grant();
         return;
     }
+    if text::same(name, b"apart") {
+        write_apart();
+        return;
+    }
     if text::same(name, b"compare") {
         write_compare();
         return;
     }
     io::write_all(
         2,
-        b"the modes are: check, labels, explain PARTITION, grant PARTITION, compare LABEL LABEL\n",
+        b"the modes are: check, labels, explain PARTITION, grant PARTITION, apart PARTITION, compare LABEL LABEL\n",
     );
 }

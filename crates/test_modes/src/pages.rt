@@ -40,6 +40,9 @@ fn page_of(
     if text::same(mode, b"grant") {
         return mode_grant::grant_page(policy, number(first), query, out);
     }
+    if text::same(mode, b"apart") {
+        return mode_apart::apart_page(policy, number(first), query, out);
+    }
     0
 }
 

@@ -85,8 +85,26 @@ same-length-5 c = search needs
 returns-5 : tie.Need-returns-5
 returns-5 c = wrote-within (c .before .before .grant-page .ensures .wrote)
 
+slice-aggregate-same-6 : tie.Need-slice-aggregate-same-6
+slice-aggregate-same-6 c = search needs
+
+same-requires-6 : tie.Need-same-requires-6
+same-requires-6 c κs = search needs
+
+number-requires-3 : tie.Need-number-requires-3
+number-requires-3 c κs = search needs
+
+apart-page-requires : tie.Need-apart-page-requires
+apart-page-requires c κs = search needs
+
+same-length-6 : tie.Need-same-length-6
+same-length-6 c = search needs
+
 returns-6 : tie.Need-returns-6
-returns-6 c = search needs
+returns-6 c = wrote-within (c .before .before .apart-page .ensures .wrote)
+
+returns-7 : tie.Need-returns-7
+returns-7 c = search needs
 
 pub page-of-spec : {M : Type 1} → statement M
 page-of-spec =
@@ -119,4 +137,10 @@ page-of-spec =
     grant-page-requires
     same-length-5
     returns-5
-    returns-6)
+    slice-aggregate-same-6
+    same-requires-6
+    number-requires-3
+    apart-page-requires
+    same-length-6
+    returns-6
+    returns-7)

@@ -1,0 +1,3 @@
+-- Rows written, and the page of `apart`.
+pub mod Written
+pub mod Replied

@@ -1,0 +1,3 @@
+-- The mode `apart`, and rows as lines.
+pub mod ApartPage
+pub mod Rows
