@@ -78,6 +78,16 @@ fn write_apart() {
     io::write_all(1, &out[..n]);
 }
 
+fn write_rules() {
+    let mut policy = files::policy_room();
+    let policy_bytes = files::read_file(b"policy.txt", &mut policy);
+    let mut rules = io::large_buffer();
+    let rule_bytes = io::read_full(0, &mut rules);
+    let mut out = mode_rules::rules_room();
+    let n = mode_rules::rules_page(&policy[..policy_bytes], &rules[..rule_bytes], &mut out);
+    io::write_all(1, &out[..n]);
+}
+
 fn write_compare() {
     let mut x = io::buffer();
     let x_bytes = os::arg(2, &mut x);
@@ -114,8 +124,12 @@ pub fn write_mode(name: &[u8]) {
         write_compare();
         return;
     }
+    if text::same(name, b"rules") {
+        write_rules();
+        return;
+    }
     io::write_all(
         2,
-        b"the modes are: check, labels, explain PARTITION, grant PARTITION, apart PARTITION, compare LABEL LABEL\n",
+        b"the modes are: check, labels, explain PARTITION, grant PARTITION, apart PARTITION, compare LABEL LABEL, rules\n",
     );
 }

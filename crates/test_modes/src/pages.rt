@@ -3,6 +3,7 @@
 ghost use Prim.Native.Nat.{_≤_};
 ghost use lib.ListN.{length};
 ghost use Rattle.page.specs.Sizes.{mostPage};
+ghost use Rattle.run.specs.Sizes.{mostInput};
 use text::Numeral;
 
 // The number that an argument says, or 0, which is no partition.
@@ -46,6 +47,15 @@ fn page_of(
     0
 }
 
+// Whether the page of a file of rules has these bytes; it has a room of its own.
+fn is_rules_page(policy: &[u8], rules: &[u8], expected: &[u8]) -> bool
+    requires { ⌜ length (now rules) ≤ mostInput ⌝ }
+{
+    let mut out = mode_rules::rules_room();
+    let n = mode_rules::rules_page(policy, rules, &mut out);
+    text::same(&out[..n], expected)
+}
+
 // Whether the page has these bytes.
 pub fn is_page(
     mode: &[u8],
@@ -54,7 +64,12 @@ pub fn is_page(
     policy: &[u8],
     query: &[u8],
     expected: &[u8],
-) -> bool {
+) -> bool
+    requires { ⌜ length (now query) ≤ mostInput ⌝ }
+{
+    if text::same(mode, b"rules") {
+        return is_rules_page(policy, query, expected);
+    }
     let mut out = page::page_room();
     let n = page_of(mode, first, second, policy, query, &mut out);
     text::same(&out[..n], expected)

@@ -1,0 +1,4 @@
+-- The mode `rules`.
+pub mod RulesPage
+pub mod Sizes
+pub mod Writing
