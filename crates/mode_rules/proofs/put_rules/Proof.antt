@@ -1,7 +1,7 @@
 -- `put_rules`. The loop's invariant: the rules so far have their bytes, and those to come are the rules of the rest.
 use mathlib.Core.Path.{sym}
 use mathlib.Core.List.{List}
-use Prim.Native.Nat.{ℕ, _+_, _-_, _≤_}
+use Prim.Native.Nat.{ℕ, _+_, _-_, _≤_, _<_}
 use native.Mathlib.Omega.{arith}
 use borrow.Author.Needs.{needs}
 use lib.ListN.{length}
@@ -26,6 +26,9 @@ turn e = e .before .before .before .before
 abbrev file : tie.After-line-end Inv-loop μ-loop → List ℕ
 file e = turn e .before .before .before .args .rules .now
 
+more : (e : tie.After-line-end Inv-loop μ-loop) → turn e .loop .at < length (file e)
+more e = omega (arith, e .before .before .before .loop-test .taken)
+
 ended : (e : tie.After-line-end Inv-loop μ-loop)
     → Ends (restFrom (file e) (turn e .loop .at)) (e .before .first .result) (e .line-end .result)
 ended e = record { first = e .before .first .ensures; complete = e .line-end .ensures .0; tail = e .line-end .ensures .1 }
@@ -34,10 +37,10 @@ abbrev of-line : tie.After-slice-known2 Inv-loop μ-loop → tie.After-line-end 
 of-line c = c .before .before .before .before .before .before
 
 within : (e : tie.After-line-end Inv-loop μ-loop) → turn e .loop .at + e .line-end .result ≤ length (file e)
-within e = next-within (turn e .loop .inv) (e .before .before .before .loop-test .taken) (ended e)
+within e = next-within (turn e .loop .inv) (more e) (ended e)
 
 some : (e : tie.After-line-end Inv-loop μ-loop) → 1 ≤ e .line-end .result
-some e = line-within (turn e .loop .inv) (e .before .before .before .loop-test .taken) (ended e) .1
+some e = line-within (turn e .loop .inv) (more e) (ended e) .1
 
 -- ---- the needs
 
@@ -62,18 +65,18 @@ line-end-requires c κs = search needs
 slice-aggregate-put-rule : tie.Need-slice-aggregate-put-rule Inv-loop μ-loop
 slice-aggregate-put-rule c =
     let e = c .before in
-    sym (rule-long (turn e .loop .inv) (e .before .before .before .loop-test .taken) (ended e))
+    sym (rule-long (turn e .loop .inv) (more e) (ended e))
 
 slice-aggregate-put-rule-2 : tie.Need-slice-aggregate-put-rule-2 Inv-loop μ-loop
 slice-aggregate-put-rule-2 c =
     let e = c .before .before in
-    sym (shown-long (turn e .loop .inv) (e .before .before .before .loop-test .taken) (ended e))
+    sym (shown-long (turn e .loop .inv) (more e) (ended e))
 
 put-rule-requires : tie.Need-put-rule-requires Inv-loop μ-loop
 put-rule-requires c κs =
     let e = c .before .before .before in
     let p = turn e .loop .inv in
-    let h = e .before .before .before .loop-test .taken in
+    let h = more e in
     let (u, short, room) = turn e .before .before .before .pre in
     let long = rule-long p h (ended e) in (
       u,
@@ -101,7 +104,7 @@ loop-again c =
     let r = c .before .before in
     let w = r .put-rule .ensures .0 in
     let u = turn e .before .before .before .pre .0 in
-    progress-more (turn e .loop .inv) (e .before .before .before .loop-test .taken) (ended e) w (r .put-rule .ensures .1) (w u .size)
+    progress-more (turn e .loop .inv) (more e) (ended e) w (r .put-rule .ensures .1) (w u .size)
 
 same-length : tie.Need-same-length Inv-loop μ-loop
 same-length c = c .before .loop .inv .size
