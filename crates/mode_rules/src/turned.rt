@@ -3,20 +3,8 @@
 ghost use Prim.Native.Nat.{_+_, _≤_};
 ghost use lib.ListN.{length};
 ghost use Rattle.writing.specs.Wrote.{Wrote};
-ghost use Rattle.page.specs.Sizes.{mostAround};
-ghost use Rattle.page.specs.Refusal.{indented};
 ghost use Rattle.mode_rules.specs.Sizes.{mostTurned};
 ghost use Rattle.mode_rules.specs.RulesPage.{ruleRefused};
-
-// Bytes behind two spaces, and the end of the line.
-fn put_shown(out: &mut [u8], at: usize, shown: &[u8]) -> usize
-    requires { ⌜ at + length (now shown) + mostAround ≤ length (now out) ⌝ }
-    ensures { λ r. ⌜ Wrote (now (out .entry)) at (indented (now (shown .entry))) (now (out .exit)) r ⌝ }
-{
-    let a = writing::put_bytes(out, at, b"  ");
-    let b = writing::put_bytes(out, a, shown);
-    writing::put_byte(out, b, b'\n')
-}
 
 // The rule's number, the refusal's number and its line, and below them the rule.
 pub fn put_turned(out: &mut [u8], at: usize, k: u64, shown: &[u8], number: u64, line: u64) -> usize
@@ -28,5 +16,5 @@ pub fn put_turned(out: &mut [u8], at: usize, k: u64, shown: &[u8], number: u64, 
     let c = writing::put_bytes(out, b, b"refused ");
     let d = writing::put_field(out, c, number, b' ');
     let e = writing::put_field(out, d, line, b'\n');
-    put_shown(out, e, shown)
+    page::put_indented(out, e, shown)
 }

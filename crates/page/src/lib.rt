@@ -9,6 +9,7 @@ ghost use lib.ListN.{length};
 ghost use Rattle.writing.specs.Wrote.{Wrote};
 ghost use Rattle.page.specs.Sizes.{mostPage, mostSaid, Shown};
 ghost use Rattle.page.specs.Refusal.{refusal};
+pub use below::put_indented;
 pub use views::ViewNumbers;
 pub use views::put_numbers;
 pub use views::put_spaced;

@@ -26,8 +26,8 @@ put-field-requires-2 c κs = search needs
 put-field-requires-3 : tie.Need-put-field-requires-3
 put-field-requires-3 c κs = search needs
 
-put-shown-requires : tie.Need-put-shown-requires
-put-shown-requires c κs = search needs
+put-indented-requires : tie.Need-put-indented-requires
+put-indented-requires c κs = search needs
 
 same-length : tie.Need-same-length
 same-length c = search needs
@@ -42,7 +42,7 @@ returns c =
     let t = u .before .before .before .before .before in
     let s = t .before .before .before .before in
     wrote-refused _ _ _ _ (s .put-bytes .ensures) (t .put-field .ensures .0) (u .put-bytes2 .ensures) (v .put-field2 .ensures .0)
-    (w .put-field3 .ensures .0) (x .put-shown .ensures)
+    (w .put-field3 .ensures .0) (x .put-indented .ensures)
 
 pub put-turned-spec : {M : Type 1} → statement M
 put-turned-spec =
@@ -55,6 +55,6 @@ put-turned-spec =
     put-bytes-requires-2
     put-field-requires-2
     put-field-requires-3
-    put-shown-requires
+    put-indented-requires
     same-length
     returns)
