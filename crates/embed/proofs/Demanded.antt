@@ -13,8 +13,8 @@ use Rattle.sessions.specs.Opening.{Opened}
 use Rattle.desk.specs.Calls.{Call, Calls}
 use Rattle.desk.specs.Calls.{none-left as no-call, one-call as and-call}
 use Rattle.desk.proofs.Demands.{demand-3}
-use Rattle.embed.specs.Words.{wordNumber, accepted}
-use Rattle.embed.specs.Replies.{plainOutcome}
+use Rattle.plain_replies.specs.Words.{wordNumber, accepted}
+use Rattle.plain_replies.specs.Replies.{plainOutcome}
 use Rattle.embed.specs.Demanded.{PlainCall, PlainCalls, none-left, one-call, plainCall, Demanded}
 use Rattle.embed.specs.declared.operations.PlainLoading.{PlainLoading}
 use Rattle.embed.specs.declared.operations.PlainOpening.{PlainOpening}

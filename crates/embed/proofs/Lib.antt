@@ -1,7 +1,4 @@
--- Replies by their variants.
-pub mod Tags
 -- A text that is one query, all of it.
 pub mod Whole
--- What holds of replies in numbers, and of lists of calls.
-pub mod Told
+-- Lists of calls.
 pub mod Demanded

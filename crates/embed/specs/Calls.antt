@@ -22,9 +22,9 @@ use Rattle.grants.specs.declared.granting.Granting.{Granting}
 use Rattle.grants.specs.Granting.{GrantGiven}
 use Rattle.import.specs.declared.importing.Imported.{Imported}
 use Rattle.import.specs.Import.{ImportGiven}
-use Rattle.embed.specs.Replies.{plainOutcome, plainReply, plainListing, plainExplaining}
-use Rattle.embed.specs.Replies.{plainTelling, plainGranting, plainImported}
-use Rattle.embed.specs.declared.replies.PlainReply.{PlainReply}
+use Rattle.plain_replies.specs.Replies.{plainOutcome, plainReply, plainListing, plainExplaining}
+use Rattle.plain_replies.specs.Replies.{plainTelling, plainGranting, plainImported}
+use Rattle.plain_replies.specs.declared.PlainReply.{PlainReply}
 use Rattle.embed.specs.declared.operations.PlainLoading.{PlainLoading}
 use Rattle.embed.specs.declared.operations.PlainOpening.{PlainOpening}
 use Rattle.embed.specs.declared.operations.PlainDecision.{PlainDecision}

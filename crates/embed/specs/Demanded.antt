@@ -10,7 +10,7 @@ use Rattle.policy_text.specs.Declared.{Declared}
 use Rattle.sessions.specs.declared.opening.Session.{Session}
 use Rattle.desk.specs.Calls.{Call}
 use Rattle.desk.specs.Demands.{AsDemanded}
-use Rattle.embed.specs.Words.{wordNumber, accepted}
+use Rattle.plain_replies.specs.Words.{wordNumber, accepted}
 use Rattle.embed.specs.Calls.{plainDecision, LoadCall, OpenCall, DecideCall}
 use Rattle.embed.specs.declared.operations.PlainLoading.{PlainLoading}
 use Rattle.embed.specs.declared.operations.PlainOpening.{PlainOpening}

@@ -1,8 +1,4 @@
--- The desk for programs in other languages: a number for each word of a reply, what each exported function says in numbers, and what
--- holds of them: nothing is lost, and demand 3.
-pub mod Words
-pub mod Replies
+-- The desk for programs in other languages: what each exported function says in numbers, and demand 3 of lists of calls.
 pub mod Calls
 pub mod About
-pub mod Told
 pub mod Demanded

@@ -5,7 +5,6 @@
 mod about;
 mod deciding;
 mod operations;
-mod replies;
 
 pub use about::About;
 pub use about::kolbrees_about;
@@ -22,4 +21,4 @@ pub use operations::kolbrees_import;
 pub use operations::kolbrees_labels;
 pub use operations::kolbrees_load;
 pub use operations::kolbrees_open;
-pub use replies::PlainReply;
+pub use plain_replies::PlainReply;

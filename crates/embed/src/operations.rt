@@ -4,16 +4,16 @@ ghost use mathlib.Core.Path.{_≡_};
 ghost use Rattle.label_order.specs.Order.{atOrBelow};
 ghost use Rattle.embed.specs.Calls.{LoadCall, OpenCall, DecideCall, LabelsCall, ExplainCall, ApartCall, GrantCall, ImportCall};
 use crate::deciding::decide_checked;
-use crate::replies::PlainReply;
-use crate::replies::of_explaining;
-use crate::replies::of_granting;
-use crate::replies::of_imported;
-use crate::replies::of_listing;
-use crate::replies::of_outcome;
-use crate::replies::of_reply;
-use crate::replies::of_telling;
 use desk::Session;
 use model::Policy;
+use plain_replies::PlainReply;
+use plain_replies::of_explaining;
+use plain_replies::of_granting;
+use plain_replies::of_imported;
+use plain_replies::of_listing;
+use plain_replies::of_outcome;
+use plain_replies::of_reply;
+use plain_replies::of_telling;
 
 // How loading ends, and the policy: that of the text, or the empty one.
 #[repr(C)]
