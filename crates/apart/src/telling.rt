@@ -19,7 +19,7 @@ const TABLE_VIEWS: usize = 32;
 pub const MOST_CELLS: usize = (MOST_LINES + TABLE_VIEWS) * ROW_CELLS;
 
 // Whether the partition settles the query, or how many rows tell it apart, or what turns the call back.
-#[derive(Drop)]
+#[derive(Clone, Copy)]
 pub enum Telling {
     Settled,
     Apart { rows: u64 },

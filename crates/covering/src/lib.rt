@@ -71,7 +71,7 @@ pub fn covers(bound: u64, width: usize, views: &[u64], v: usize, lines: &[u64], 
 // ---- labels
 
 // The label of a line, and the partitions that grant a view which covers it, partition n at bit n - 1.
-#[derive(Drop)]
+#[derive(Clone, Copy)]
 pub struct LineLabel {
     pub label: u64,
     pub grants: u64,

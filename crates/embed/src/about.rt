@@ -20,7 +20,7 @@ const POLICY: usize = (1 + MOST_TABLES + 1 + MOST_VIEWS * ROW + 1 + MOST_VIEWS) 
 
 // The version, the sizes of the structs in bytes, and the limits that buffers are made by.
 #[repr(C)]
-#[derive(Drop)]
+#[derive(Clone, Copy)]
 pub struct About {
     pub version: u64,
     pub policy_size: u64,

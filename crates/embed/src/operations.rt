@@ -14,7 +14,7 @@ use plain_replies::{
 
 // How loading ends, and the policy: that of the text, or the empty one.
 #[repr(C)]
-#[derive(Drop)]
+#[derive(Clone, Copy)]
 pub struct PlainLoading {
     pub reply: PlainReply,
     pub policy: Policy,
@@ -22,7 +22,7 @@ pub struct PlainLoading {
 
 // How opening ends, and the session: every partition open, or none.
 #[repr(C)]
-#[derive(Drop)]
+#[derive(Clone, Copy)]
 pub struct PlainOpening {
     pub reply: PlainReply,
     pub session: Session,
@@ -30,7 +30,7 @@ pub struct PlainOpening {
 
 // The reply, and the session as the call leaves it.
 #[repr(C)]
-#[derive(Drop)]
+#[derive(Clone, Copy)]
 pub struct PlainDecision {
     pub reply: PlainReply,
     pub session: Session,

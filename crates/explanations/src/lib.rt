@@ -12,7 +12,7 @@ use model::{MOST_LINES, MOST_VIEWS, Outcome, Policy};
 use word_list::Words;
 
 // Whether the partition settles the query and how many words explain it, or what turns the call back.
-#[derive(Drop)]
+#[derive(Clone, Copy)]
 pub enum Explaining {
     Settled { count: u64 },
     Unsettled { count: u64 },

@@ -11,7 +11,7 @@ use model::{Outcome, Policy};
 use word_list::Words;
 
 // How many views are to be added, or that no views will do, or what turns the call back.
-#[derive(Drop)]
+#[derive(Clone, Copy)]
 pub enum Granting {
     Given { count: u64 },
     Nothing,

@@ -10,7 +10,7 @@ use model::{Policy, Tables};
 const MOST_BYTES: usize = 4096;
 
 // How many bytes were written, or what turns the rule back.
-#[derive(Drop)]
+#[derive(Clone, Copy)]
 pub enum Imported {
     Written { bytes: u64 },
     Refused { number: u64, line: u64 },

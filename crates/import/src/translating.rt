@@ -14,7 +14,7 @@ pub const TEXT_ROOM: usize = 2048;
 const RULE_END: [u8; 2] = *b")\n";
 
 // The number of what turns a rule back, or 0 and how many bytes its text has.
-#[derive(Drop)]
+#[derive(Clone, Copy)]
 pub struct Translated {
     pub fault: u64,
     pub bytes: usize,

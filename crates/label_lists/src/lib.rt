@@ -9,7 +9,7 @@ use model::{MOST_LINES, Outcome, Policy};
 use word_list::Words;
 
 // How many labels there are, or what turns the call back.
-#[derive(Drop)]
+#[derive(Clone, Copy)]
 pub enum Listing {
     Given { count: u64 },
     Refused { number: u64, line: u64 },

@@ -15,14 +15,14 @@ use model::{MOST_LINES, Outcome, Policy, Query, QueryRows, Tables};
 use word_list::Words;
 
 // One word for each line of the reduced query, in the order of its lines, and the partitions that settle it, partition n at bit n - 1.
-#[derive(Drop)]
+#[derive(Clone, Copy)]
 pub struct Labels {
     pub words: Words,
     pub settling: u64,
 }
 
 // What turns a query text back, or nothing, and the labels of its query.
-#[derive(Drop)]
+#[derive(Clone, Copy)]
 pub struct Asked {
     pub outcome: Outcome,
     pub labels: Labels,

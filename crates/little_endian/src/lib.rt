@@ -1,5 +1,7 @@
 // Bytes as one number, the first lowest.
 
+#![tactic(auto)]
+
 ghost use Rattle.std.specs.Prelude.{◌≡◌, ◌+◌, ◌<◌, ◌≤◌, length};
 ghost use Rattle.little_endian.specs.LittleEndian.{little_endian, eight_at};
 

@@ -11,7 +11,7 @@ use model::{Line, MOST_VIEWS, Parsed, Policy, Tables};
 use policy_lines::{PartitionLine, TableLine, ViewLine, read_partition, read_table, read_view};
 
 // The number that turns the line back, or 0; and what is declared with the line, or without it where it is turned back.
-#[derive(Drop)]
+#[derive(Clone, Copy)]
 pub struct Entered {
     pub fault: u64,
     pub policy: Policy,

@@ -23,14 +23,14 @@ const VIEWS: u8 = 1;
 const PARTITIONS: u8 = 2;
 
 // How loading ends, and the policy: that of the text, or the empty one.
-#[derive(Drop)]
+#[derive(Clone, Copy)]
 pub struct Loading {
     pub outcome: Outcome,
     pub policy: Policy,
 }
 
 // The block that is read, whether it has a line of values, and what is declared so far.
-#[derive(Drop)]
+#[derive(Clone, Copy)]
 struct Progress {
     block: u8,
     started: bool,
@@ -97,7 +97,7 @@ fn enter_line(block: u8, p: Policy, line: &[u8]) -> Entered
 }
 
 // What a line turns the text back with, or 0, and how it goes on.
-#[derive(Drop)]
+#[derive(Clone, Copy)]
 struct Stepped {
     fault: u64,
     progress: Progress,

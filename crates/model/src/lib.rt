@@ -1,5 +1,7 @@
 // The values that hold what the texts say, and the reading of a line of terms.
 
+#![tactic(auto)]
+
 mod check;
 mod compare;
 mod read;
@@ -37,7 +39,7 @@ pub type QueryRows = [u64; MOST_LINES * ROW];
 
 // A mark and a number; an unused term is all 0.
 #[repr(C)]
-#[derive(Drop)]
+#[derive(Clone, Copy)]
 pub struct Term {
     pub mark: u64,
     pub number: u64,
@@ -45,7 +47,7 @@ pub struct Term {
 
 // A line of a query, or a view: a table and its terms, unused ones behind them.
 #[repr(C)]
-#[derive(Drop)]
+#[derive(Clone, Copy)]
 pub struct Line {
     pub table: u64,
     pub terms: [Term; MOST_COLUMNS],
@@ -53,7 +55,7 @@ pub struct Line {
 
 // The columns of each table, 0 behind the last.
 #[repr(C)]
-#[derive(Drop)]
+#[derive(Clone, Copy)]
 pub struct Tables {
     pub count: usize,
     pub columns: [u64; MOST_TABLES],
@@ -62,7 +64,7 @@ pub struct Tables {
 // The views behind the last are all unused. For each view the partitions that grant it, partition n at bit n - 1; 0 behind the last
 // view.
 #[repr(C)]
-#[derive(Drop)]
+#[derive(Clone, Copy)]
 pub struct Policy {
     pub tables: Tables,
     pub view_count: usize,
@@ -72,21 +74,21 @@ pub struct Policy {
 }
 
 // The lines behind the last are all unused.
-#[derive(Drop)]
+#[derive(Clone, Copy)]
 pub struct Query {
     pub count: usize,
     pub lines: [Line; MOST_LINES],
 }
 
 // How reading a text ends.
-#[derive(Drop)]
+#[derive(Clone, Copy)]
 pub enum Outcome {
     Accepted,
     Refused { number: u64, line: u64 },
 }
 
 // What a field says where a term is wanted.
-#[derive(Drop)]
+#[derive(Clone, Copy)]
 pub enum Field {
     // It is no term.
     Malformed,
@@ -96,7 +98,7 @@ pub enum Field {
 }
 
 // What a line of terms says. Where it is malformed, or a number of it is past its limit, it says no more.
-#[derive(Drop)]
+#[derive(Clone, Copy)]
 pub struct Parsed {
     pub ok: bool,
     pub outside: bool,

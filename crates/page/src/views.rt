@@ -9,7 +9,7 @@ ghost use Rattle.page.specs.Numbers.{spaced_numbers, HoldsViews};
 use model::MOST_VIEWS;
 
 // The numbers of views, 0 behind the last.
-#[derive(Drop)]
+#[derive(Clone, Copy)]
 pub struct ViewNumbers {
     pub count: usize,
     pub numbers: [u32; MOST_VIEWS],

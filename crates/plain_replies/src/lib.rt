@@ -35,7 +35,7 @@ const WRITTEN: u64 = 9;
 
 // A reply: the number of its word, its count, and a refusal's number and line; what a word does not have is 0.
 #[repr(C)]
-#[derive(Drop)]
+#[derive(Clone, Copy)]
 pub struct PlainReply {
     pub word: u64,
     pub count: u64,

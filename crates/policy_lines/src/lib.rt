@@ -12,7 +12,7 @@ use model::{MOST_COLUMNS, MOST_PARTITIONS, MOST_TABLES, MOST_VIEWS, Parsed};
 use text::Numeral;
 
 // A table's line: its number and columns.
-#[derive(Drop)]
+#[derive(Clone, Copy)]
 pub struct TableLine {
     pub ok: bool,
     pub outside: bool,
@@ -21,7 +21,7 @@ pub struct TableLine {
 }
 
 // A view's line: its number and the line that it is.
-#[derive(Drop)]
+#[derive(Clone, Copy)]
 pub struct ViewLine {
     pub ok: bool,
     pub outside: bool,
@@ -30,7 +30,7 @@ pub struct ViewLine {
 }
 
 // The views of a partition, view n at bit n - 1, whether they ascend strictly, and the last.
-#[derive(Drop)]
+#[derive(Clone, Copy)]
 pub struct ViewList {
     pub ok: bool,
     pub outside: bool,
@@ -40,7 +40,7 @@ pub struct ViewList {
 }
 
 // A partition's line: its number and views.
-#[derive(Drop)]
+#[derive(Clone, Copy)]
 pub struct PartitionLine {
     pub ok: bool,
     pub outside: bool,

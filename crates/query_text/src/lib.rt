@@ -12,7 +12,7 @@ use model::{Line, MOST_COLUMNS, MOST_LINES, Outcome, Parsed, Query, Tables, Term
 const MOST_BYTES: usize = 4096;
 
 // How reading ends, and the query: that of the text, or one without a line.
-#[derive(Drop)]
+#[derive(Clone, Copy)]
 pub struct Reading {
     pub outcome: Outcome,
     pub query: Query,

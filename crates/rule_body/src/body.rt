@@ -13,7 +13,7 @@ const ARROW: [u8; 4] = *b" :- ";
 const COMMA: [u8; 2] = *b", ";
 
 // The atoms as lines of a query, where nothing turns them back; else the number of what does.
-#[derive(Drop)]
+#[derive(Clone, Copy)]
 pub struct Body {
     pub ok: bool,
     pub fault: u64,
@@ -21,7 +21,7 @@ pub struct Body {
 }
 
 // The atoms read so far, how many there are, and the first check that one of them fails.
-#[derive(Drop)]
+#[derive(Clone, Copy)]
 struct Atoms {
     count: usize,
     fault: u64,

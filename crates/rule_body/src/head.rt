@@ -8,7 +8,7 @@ use numbering::{Keys, place_of};
 use rule_text::{BRACKET, SPACE, behind, read_name};
 
 // Whether the head is well formed, names a variable that the body lacks, and names one twice; the numbers of those that it names, as bits.
-#[derive(Drop)]
+#[derive(Clone, Copy)]
 pub struct Head {
     pub ok: bool,
     pub missing: bool,

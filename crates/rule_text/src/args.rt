@@ -9,7 +9,7 @@ use model::{CONSTANT, Field, HIDDEN, MOST_COLUMNS, Term};
 use text::Numeral;
 
 // What an atom says. Where it is malformed, or a number of it is past its limit, it says no more.
-#[derive(Drop)]
+#[derive(Clone, Copy)]
 pub struct Atom {
     pub ok: bool,
     pub outside: bool,

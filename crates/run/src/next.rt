@@ -11,7 +11,7 @@ use desk::{Decision, Session};
 use model::{QueryRows, Tables};
 
 // The decision on the first query text of an input, and the place behind that text.
-#[derive(Drop)]
+#[derive(Clone, Copy)]
 pub struct NextDecision {
     pub decision: Decision,
     pub end: usize,

@@ -20,7 +20,7 @@ const NAMES: usize = NAMES_END + 1;
 const NAMES_END: usize = 11;
 
 // A query, and the place behind its text; place 0 where there is none.
-#[derive(Drop)]
+#[derive(Clone, Copy)]
 pub struct Piece {
     pub query: Query,
     pub end: usize,

@@ -9,7 +9,7 @@ use text::{MOST_DIGITS, Numeral};
 const BEFORE_LAST: usize = MOST_DIGITS - 1;
 
 // A number, and the place behind its digits; place 0 where there is none.
-#[derive(Drop)]
+#[derive(Clone, Copy)]
 pub struct Number {
     pub value: u64,
     pub end: usize,

@@ -9,14 +9,14 @@ use crate::numbers::number_at;
 use model::{HIDDEN, MOST_COLUMNS, SHOWN, Term};
 
 // A term, and the place behind it; place 0 where there is none.
-#[derive(Drop)]
+#[derive(Clone, Copy)]
 struct TermEnd {
     term: Term,
     end: usize,
 }
 
 // The terms of a line, its shown and hidden variables as bits, and the place behind its end; place 0 where it is not as expected.
-#[derive(Drop)]
+#[derive(Clone, Copy)]
 pub struct Terms {
     pub end: usize,
     pub terms: [Term; MOST_COLUMNS],

@@ -12,13 +12,13 @@ use model::{Outcome, Policy};
 
 // The partitions still open, partition n at bit n - 1.
 #[repr(C)]
-#[derive(Drop)]
+#[derive(Clone, Copy)]
 pub struct Session {
     pub mask: u64,
 }
 
 // How opening ends, and the session: every partition open, or none.
-#[derive(Drop)]
+#[derive(Clone, Copy)]
 pub struct Opening {
     pub outcome: Outcome,
     pub session: Session,

@@ -6,7 +6,7 @@ ghost use Rattle.sessions.specs.Deciding.{turned_back, answered, Gives};
 use crate::opening::Session;
 
 // What deciding says; a yes and a no carry the count of partitions still open.
-#[derive(Drop)]
+#[derive(Clone, Copy)]
 pub enum Reply {
     Yes { count: u64 },
     No { count: u64 },
@@ -14,7 +14,7 @@ pub enum Reply {
 }
 
 // The reply, and the session as the call leaves it.
-#[derive(Drop)]
+#[derive(Clone, Copy)]
 pub struct Decision {
     pub reply: Reply,
     pub session: Session,

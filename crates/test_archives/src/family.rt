@@ -12,7 +12,7 @@ pub const NONE: u64 = 36;
 pub const QUERIES: usize = 1518;
 
 // The lines of a query, NONE behind the last.
-#[derive(Drop)]
+#[derive(Clone, Copy)]
 pub struct Query {
     pub first: u64,
     pub second: u64,

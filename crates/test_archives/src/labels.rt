@@ -10,7 +10,7 @@ use model::Policy;
 
 // Of the pairs of queries with the same answers those with other labels, and of the queries those whose labels do not ascend, or are
 // more or fewer than the lines needed, count against the desk.
-#[derive(Drop)]
+#[derive(Clone, Copy)]
 pub struct Likeness {
     pub pairs: u64,
     pub other_labels: u64,

@@ -44,7 +44,7 @@ fn fill_answers(codes: &[u64; 1518], table: &mut [u16])
 }
 
 // A partition's two views, either of which may be none, its policy, and a session that nothing was asked in.
-#[derive(Drop)]
+#[derive(Clone, Copy)]
 struct Grant {
     first: u64,
     second: u64,

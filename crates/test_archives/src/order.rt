@@ -13,7 +13,7 @@ pub const LINES: usize = 36;
 
 // Of the ordered pairs of lines under one policy those that are at or below by the archives, and of these those whose second line no view
 // of the policy determines. Those that only the desk puts at or below, or only the archives, count against the desk.
-#[derive(Drop)]
+#[derive(Clone, Copy)]
 pub struct Compared {
     pub pairs: u64,
     pub below: u64,
@@ -72,7 +72,7 @@ fn fill_labels(p: Policy, labels: &mut [u64; 36]) {
 }
 
 // A line under a policy of two views: its label by the desk, and by the archives whether each view determines it.
-#[derive(Drop)]
+#[derive(Clone, Copy)]
 struct Line {
     label: u64,
     by_first: bool,

@@ -7,7 +7,7 @@ use std::num::wrapping_add_u64;
 
 // Of the settled queries those that two archives tell apart, and of the others those that none do or whose rows do not, count against the
 // desk.
-#[derive(Drop)]
+#[derive(Clone, Copy)]
 pub struct Tally {
     pub partitions: u64,
     pub settled: u64,

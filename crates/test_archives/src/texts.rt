@@ -85,7 +85,7 @@ pub fn decide(p: Policy, s: Session, q: Query) -> Reply {
 }
 
 // How many labels a query has, and the labels, 0 behind the last; none where the desk turns it back.
-#[derive(Drop)]
+#[derive(Clone, Copy)]
 pub struct List {
     pub count: u64,
     pub first: u64,

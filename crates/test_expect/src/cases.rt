@@ -7,14 +7,14 @@ ghost use Rattle.io.specs.Counts.{IsPrefixLen};
 use text::Numeral;
 
 // A number, and the place behind its field; the line's end where there is no number, so that no field is found behind it.
-#[derive(Drop)]
+#[derive(Clone, Copy)]
 pub struct Number {
     pub value: u64,
     pub behind: usize,
 }
 
 // Whether there is a text, how many bytes it has, and the place behind its field.
-#[derive(Drop)]
+#[derive(Clone, Copy)]
 pub struct Text {
     pub right: bool,
     pub length: usize,
@@ -22,7 +22,7 @@ pub struct Text {
 }
 
 // A byte of a text, and how many bytes spell it: 0 where they spell none.
-#[derive(Drop)]
+#[derive(Clone, Copy)]
 struct Letter {
     byte: u8,
     length: usize,

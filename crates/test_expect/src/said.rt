@@ -20,7 +20,7 @@ const WRITTEN: u64 = 8;
 const NOTHING: u64 = 9;
 
 // The word, count, number and line of a reply.
-#[derive(Drop)]
+#[derive(Clone, Copy)]
 pub struct Said {
     pub word: u64,
     pub count: u64,

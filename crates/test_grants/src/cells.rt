@@ -15,7 +15,7 @@ pub fn untouched() -> [u32; 10]
 }
 
 // A list at the head of the buffer: how many views it has, and the cells; those past it are as before.
-#[derive(Drop)]
+#[derive(Clone, Copy)]
 pub struct List {
     pub count: usize,
     pub cells: [u32; 10],

@@ -4,7 +4,7 @@ ghost use Rattle.std.specs.Prelude.{◌≤◌};
 
 // A query and the partition that it is asked of. Byte j of `labels` has the views that cover line j + 1, and `granted` those of the
 // partition: view n at bit n - 1. The next query is drawn from `state`.
-#[derive(Drop)]
+#[derive(Clone, Copy)]
 pub struct Drawn {
     pub labels: u64,
     pub lines: usize,

@@ -13,7 +13,7 @@ const QUERIES: u64 = 4000;
 const START: u64 = 88172645463325252;
 
 // What a query is due: the views of its list, and its kind, which is their number, or NOTHING where no list will do.
-#[derive(Drop)]
+#[derive(Clone, Copy)]
 struct Due {
     views: u64,
     kind: usize,

@@ -4,7 +4,7 @@ ghost use Rattle.std.specs.Prelude.{◌≤◌, length};
 
 use test_expect::Said;
 
-#[derive(Drop)]
+#[derive(Clone, Copy)]
 pub enum Word {
     Yes,
     No,
@@ -16,7 +16,7 @@ pub enum Word {
 }
 
 // A word, and the place behind its field; the line's end where it is unknown, so that no field is found behind it.
-#[derive(Drop)]
+#[derive(Clone, Copy)]
 pub struct Answer {
     pub word: Word,
     pub behind: usize,

@@ -3,7 +3,7 @@
 use crate::{comparing, deciding, explaining, listing, ordering};
 
 // What the cases of a file ask for.
-#[derive(Drop)]
+#[derive(Clone, Copy)]
 pub enum Kind {
     Labels,
     Explanations,

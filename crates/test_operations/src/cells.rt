@@ -20,7 +20,7 @@ pub fn untouched_32() -> [u32; 10]
 }
 
 // A list at the head of the buffer: how many words it has, and the cells; those past it are as before.
-#[derive(Drop)]
+#[derive(Clone, Copy)]
 pub struct List {
     pub count: usize,
     pub cells: [u64; 10],

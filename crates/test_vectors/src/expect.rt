@@ -3,14 +3,14 @@
 use model::{Outcome, Tables};
 
 // What a text is read as.
-#[derive(Drop)]
+#[derive(Clone, Copy)]
 pub enum Kind {
     Query,
     Policy,
 }
 
 // The number that turns a text back, 0 where it is taken, and its line.
-#[derive(Drop)]
+#[derive(Clone, Copy)]
 struct Said {
     number: u64,
     line: u64,

@@ -10,5 +10,3 @@ pub mod Each
 pub mod Decimals
 pub mod PartsJoined
 pub mod Joined
--- A reader of a text, for the walks of code that has one.
-pub mod Readers

@@ -1,5 +1,7 @@
 // What every text is made of: lines and fields found in a slice of bytes, names lines, numerals.
 
+#![tactic(auto)]
+
 mod comparing;
 
 ghost use Rattle.std.specs.Prelude.{not, ◌≡◌, ◌+◌, ◌-◌, ◌*◌, ◌<◌, ◌≤◌, ◌^◌, length};

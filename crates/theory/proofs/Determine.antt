@@ -33,10 +33,10 @@ use Rattle.theory.proofs.Executable.Test.{all_iff, any_iff}
 use Rattle.theory.proofs.Executable.Reduce.{reduce_reduces}
 use Rattle.theory.proofs.Executable.Show.{show_is_shown, shown_is_show}
 use Rattle.theory.proofs.Executable.Cover.{covers_iff}
-use Inside.{covers-shown}
-use Sufficient.{covered-determines}
-use Necessary.{determined-covers}
-use OneLine.{views-determine-line}
+use Inside.{covers_shown}
+use Sufficient.{covered_determines}
+use Necessary.{determined_covers}
+use OneLine.{views_determine_line}
 
 -- ---- a query
 
@@ -66,17 +66,17 @@ determines_iff_covered widths vs {Q} {R} {S} clear fits r shows = (
     to : Determines widths vs Q → (A : Line) → A ∈ show R → (v : Line) × (v ∈ vs) × Covers v A
     to d A m =
         let b = Memᴰ.of_map (over (show_term R)) R m in
-        let c = determined-covers widths vs R (reduced_reduced r) (reduced_fits r fits)
+        let c = determined_covers widths vs R (reduced_reduced r) (reduced_fits r fits)
         (determines_like widths vs (reduced_answers r) d) b.0 b.1 in
-        (c.0, c.1, subst (Covers c.0) b.2 ((covers-shown R clear_R c.0 b.0 b.1).1 c.2))
+        (c.0, c.1, subst (Covers c.0) b.2 ((covers_shown R clear_R c.0 b.0 b.1).1 c.2))
 
     from : ((A : Line) → A ∈ show R → (v : Line) × (v ∈ vs) × Covers v A) → Determines widths vs Q
     from cover =
         determines_like widths vs (λ D s. Iff.symm (reduced_answers r D s))
-        (covered-determines widths vs R
+        (covered_determines widths vs R
         (λ A m.
         let c = cover (over (show_term R) A) (Memᴰ.map (over (show_term R)) m) in
-        (c.0, c.1, (covers-shown R clear_R c.0 A m).0 c.2)))
+        (c.0, c.1, (covers_shown R clear_R c.0 A m).0 c.2)))
 
 -- "A partition settles a query when each label holds one of its views": exactly when it determines it.
 pub settles_iff_determines : (widths : List ℕ) (vs : List Line) (Q : Query) → NoClash Q → AllFit widths Q
@@ -101,7 +101,7 @@ determines_grows widths vs ws Q inside d D E fit_d fit_e agree = d D E fit_d fit
 -- a single view determines a single line exactly when it covers it
 pub view_determines_line : (widths : List ℕ) (v A : Line) → Fits widths A → Determines widths (v ∷ []) (A ∷ []) ↔ Covers v A
 view_determines_line widths v A fits =
-    let k = views-determine-line widths (v ∷ []) A fits in (
+    let k = views_determine_line widths (v ∷ []) A fits in (
       λ d. let (u, m, c) = k.0 d in subst (λ (w : Line). Covers w A) (Memᴰ.eq_of_singleton m) c,
       λ c. k.1 (v, Memᴰ.head refl, c),
     )

@@ -1,5 +1,7 @@
 // Words of 64 bits as sets of small numbers, and as two halves.
 
+#![tactic(auto)]
+
 ghost use Rattle.std.specs.Prelude.{◌≡◌, cond, ◌+◌, ◌*◌, ◌/◌, ◌%◌, ◌^◌, ◌-◌, ◌<◌};
 ghost use Rattle.words.specs.Bits.{is_set, ones_below, half_bits};
 ghost use Rattle.words.specs.Sets.{set_bit, clear_bit, Without, meet, include, Least, LeastDropped};

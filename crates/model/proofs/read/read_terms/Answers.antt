@@ -1,0 +1,65 @@
+use mathlib.Core.Path.{sym, ◌∙◌}
+use mathlib.Core.Logic.{⊎_elim}
+use Prim.Native.Nat.{◌-◌}
+use native.Mathlib.Omega.{arith}
+use lib.ListN.{length, take, drop}
+use Rattle.text.specs.Lines.{space}
+use Rattle.text.proofs.Parts.{first_length}
+use Rattle.text.proofs.PartsFrom.{part_at, part_room}
+use Rattle.model.proofs.TermsRead.{NextTerm, no_terms, next_malformed, next_outside, next_small, next_within, all_outside, all_within}
+use Rattle.model.proofs.read.read_terms.Goals as goal
+use Rattle.model.proofs.read.read_terms.Goals.{After-first-n}
+
+pub loop-at-init : goal.loop-at-init
+loop-at-init c = no_terms _ _ c.blank-p.ensures
+
+pub slice_bounds-read_term-end : goal.slice_bounds-read_term-end
+slice_bounds-read_term-end c = first_length space _ _ c.first-n.ensures
+
+next : (c : After-first-n) →
+    let l = c in
+    let s = l.args.s.now in
+    let n = c.first-n.result in
+    NextTerm s l.loop-at.p l.loop-at.outside l.loop-at.at n (take n (take (length s - l.loop-at.at) (drop l.loop-at.at s)))
+next c =
+    let t = c in
+    record { passed = t.loop-at.invariant.terms; here = part_at (omega (arith, t.loop-at-test.true)) c.first-n.ensures }
+
+pub returns-in-Malformed : goal.returns-in-Malformed
+returns-in-Malformed c =
+    let f = c in
+    c.blank.ensures ∙ next_malformed (next (goal.at.returns-in-Malformed c).After-first-n) (sym c.enum_told-1.given.1 ∙ f.read_term.ensures)
+
+pub with_term-p-requires : goal.with_term-p-requires
+with_term-p-requires c =
+    let f = c in
+    let x = next (goal.at.with_term-p-requires c).After-first-n in
+    let l = f in (
+      omega (arith, l.loop-at.invariant.few, x.here.inside, l.requires),
+      next_small x (sym c.t-1.given.1 ∙ f.read_term.ensures),
+    )
+
+pub overflow_add-at : goal.overflow_add-at
+overflow_add-at c = omega (arith, part_room (next (goal.at.overflow_add-at c).After-first-n).here)
+
+pub overflow_add-at-in-loop-at : goal.overflow_add-at-in-loop-at
+overflow_add-at-in-loop-at c = omega (arith, part_room (next (goal.at.overflow_add-at-in-loop-at c).After-first-n).here)
+
+pub loop-at-smaller : goal.loop-at-smaller
+loop-at-smaller c = omega (arith, c.loop-at-test.true)
+
+pub loop-at-preserved : goal.loop-at-preserved
+loop-at-preserved c =
+    let x = next (goal.at.loop-at-preserved c).After-first-n in
+    let few = c.loop-at.invariant.few in
+    ⊎_elim
+    (λ w. rw (w.2, w.3) (next_outside x (sym w.1.given.1 ∙ c.read_term.ensures) few))
+    (λ w. rw (w.4, w.5) (next_within x (sym w.1.given.1 ∙ c.read_term.ensures) few w.3.ensures))
+    c.in-Malformed.branch
+
+pub returns-then-outside : goal.returns-then-outside
+returns-then-outside c =
+    let t = c in c.blank-then-outside.ensures ∙ all_outside t.loop-at.invariant t.loop-at-test.false c.if-outside.true
+
+pub returns : goal.returns
+returns c = all_within c.loop-at.invariant c.loop-at-test.false c.if-outside.false

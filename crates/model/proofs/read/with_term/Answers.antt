@@ -1,0 +1,18 @@
+-- `with_term`: the term goes into the place behind the last, if there is one, and the words each get the bit that it has.
+use mathlib.Core.Logic.{⊎_elim}
+use native.Mathlib.Omega.{arith}
+use Rattle.model.proofs.Terms.{Placed, placed_within, placed_past, behind}
+use Rattle.model.proofs.read.with_term.Goals as goal
+use Rattle.model.proofs.read.with_term.Goals.{Joined-at-lt-MOST_COLUMNS}
+
+pub with_mark-requires : goal.with_mark-requires
+with_mark-requires c e = c.requires.1 (omega arith)
+
+pub with_mark-requires-2 : goal.with_mark-requires-2
+with_mark-requires-2 c e = c.requires.1 (omega arith)
+
+placed : (c : Joined-at-lt-MOST_COLUMNS) → Placed c.args.p c.args.t c.if-at-lt-MOST_COLUMNS.r
+placed c = ⊎_elim (λ w. placed_within w.1) (λ w. placed_past w.0.left w.1) c.if-at-lt-MOST_COLUMNS.branch
+
+pub returns : goal.returns
+returns c = behind _ _ _ _ _ (placed (goal.at.returns c).Joined-at-lt-MOST_COLUMNS) c.with_mark.ensures c.with_mark-2.ensures

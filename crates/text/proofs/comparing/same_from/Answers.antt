@@ -1,0 +1,35 @@
+use mathlib.Core.Path.{refl, sym, ◌∙◌}
+use native.Mathlib.Omega.{arith}
+use lib.ListN.{drop_of_length-le}
+use Rattle.text.proofs.Names.{same_true, same_behind, apart_here, byte_iff}
+use Rattle.text.proofs.comparing.same_from.Goals as goal
+
+pub loop-i-init : goal.loop-i-init
+loop-i-init c = refl
+
+pub bounds-a-i : goal.bounds-a-i
+bounds-a-i c = omega arith
+
+pub bounds-b-i : goal.bounds-b-i
+bounds-b-i c = omega arith
+
+pub returns-then-a-i : goal.returns-then-a-i
+returns-then-a-i c =
+    let at = c in
+    apart_here _ _ at.loop-i.i 1 (λ e. c.if-a-i.true ((byte_iff _ _ at.loop-i.i (omega arith) (omega arith)).1 e)) ∙ at.loop-i.invariant
+
+pub overflow_add-i : goal.overflow_add-i
+overflow_add-i c = omega arith
+
+pub loop-i-smaller : goal.loop-i-smaller
+loop-i-smaller c = omega arith
+
+pub loop-i-preserved : goal.loop-i-preserved
+loop-i-preserved c =
+    let at = c in
+    same_behind _ _ at.loop-i.i 1 ((byte_iff _ _ at.loop-i.i (omega arith) (omega arith)).0 c.if-a-i.false) ∙ at.loop-i.invariant
+
+pub returns : goal.returns
+returns c =
+    let i = c.loop-i.i in
+    same_true _ _ (drop_of_length-le _ {i = i} (omega arith) ∙ sym (drop_of_length-le _ {i = i} (omega arith))) ∙ c.loop-i.invariant
