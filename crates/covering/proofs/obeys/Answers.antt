@@ -32,7 +32,7 @@ returns-then-v-eq-CONSTANT c t u x y ev ew ea eb = c.same_term.ensures ∙ same_
 
 pub returns-then-v-eq-SHOWN : goal.returns-then-v-eq-SHOWN
 returns-then-v-eq-SHOWN c t u x y ev ew ea eb =
-    equals t u x y c ev ew ea eb ∙ at_shown t u x y ev ea c.if-v-eq-SHOWN.true
+    equals t u x y (goal.at.returns-then-v-eq-SHOWN c).After-implies-equals ev ew ea eb ∙ at_shown t u x y ev ea c.if-v-eq-SHOWN.true
 
 pub returns-then-a-ne-HIDDEN : goal.returns-then-a-ne-HIDDEN
 returns-then-a-ne-HIDDEN c t u x y ev ew ea eb =
@@ -42,13 +42,13 @@ returns-then-a-ne-HIDDEN c t u x y ev ew ea eb =
 pub returns-then-equals : goal.returns-then-equals
 returns-then-equals c t u x y ev ew ea eb =
     let before = c in
-    both_right (equals t u x y before ev ew ea eb) before.if-equals.true
+    both_right (equals t u x y (goal.at.returns-then-equals c).After-implies-equals ev ew ea eb) before.if-equals.true
     (implied c.implies.ensures (c.same_term-then-equals.ensures ∙ same_held x y ea eb)
     (c.same_term-then-equals-2.ensures ∙ same_held t u ev ew))
-    ∙ rules t u x y before ev ea
+    ∙ rules t u x y (goal.at.returns-then-equals c).Else-a-ne-HIDDEN ev ea
 
 pub returns-else-equals : goal.returns-else-equals
 returns-else-equals c t u x y ev ew ea eb =
-    both_left (not (same x y) || same t u) (equals t u x y c ev ew ea eb)
+    both_left (not (same x y) || same t u) (equals t u x y (goal.at.returns-else-equals c).After-implies-equals ev ew ea eb)
     c.if-equals.false
-    ∙ rules t u x y c ev ea
+    ∙ rules t u x y (goal.at.returns-else-equals c).Else-a-ne-HIDDEN ev ea

@@ -7,6 +7,7 @@ use Rattle.model.specs.declared.Term.{Term}
 use Rattle.words.proofs.Answers.{holds_true}
 use Rattle.model.proofs.Same.{same_term_iff}
 use Rattle.covering.proofs.preparing.is_free.Goals as goal
+use Rattle.covering.proofs.preparing.is_free.Goals.{then-q-p+else-same_term, else-q-p}
 
 pub term_at-t-requires : goal.term_at-t-requires
 term_at-t-requires c = c.requires
@@ -34,9 +35,10 @@ loop-q-preserved c =
     let inv = c.loop-q.invariant in
     let here = c.term_at-u.ensures in (
       omega arith,
-      below_more _ _ inv.1 (⊎_elim
-          (λ w e. absurd (false≢true (sym w.2.false ∙ w.1.ensures ∙ sym (holds_true _ ((same_term_iff _ _).1 (e ∙ sym here))))))
-          (λ w e. w.left) c.if-q-p.branch),
+      below_more _ _ inv.1 (elim c.if-q-p.branch [
+        | then-q-p+else-same_term w ↦ λ e. absurd (false≢true (sym w.if-same_term.false ∙ w.same_term.ensures ∙ sym (holds_true _ ((same_term_iff _ _).1 (e ∙ sym here)))))
+        | else-q-p w ↦ λ e. w.if-q-p.false
+      ]),
     )
 
 pub returns : goal.returns

@@ -26,10 +26,10 @@ loop-i-preserved c =
       λ Q e laid small. words_more at.i laid small (omega (arith, e, test.loop-i-test.true)) (at.invariant.2 Q e laid small) line,
     )
 
-pub shape_of-words : goal.shape_of-words
-shape_of-words c = omega arith
-
 pub returns : goal.returns
 returns c =
     let at = c.loop-i in
-    (λ Q e laid small. record { long = at.invariant.1; line = λ j h. at.invariant.2 Q e laid small j (omega (arith, e)) }, at.invariant.1)
+    record {
+      worded = λ Q e laid small. record { long = at.invariant.1; line = λ j h. at.invariant.2 Q e laid small j (omega (arith, e)) };
+      words_len = at.invariant.1;
+    }

@@ -6,7 +6,7 @@ use lib.ListN.{length-set}
 use Rattle.model.specs.Limits.{most_columns}
 use Rattle.model.specs.Rows.{term_at}
 use Rattle.model.specs.Value.{line_value}
-use Rattle.entering.proofs.Hidden.{hidden_bit, bit_hidden, some_hidden}
+use Rattle.entering.proofs.HiddenBits.{hidden_bit, bit_hidden, some_hidden}
 use Rattle.entering.proofs.LineWords.{columns_none, columns_more, entered_long, entered_others, line_entered}
 use Rattle.entering.proofs.hiding.enter_words.Goals as goal
 

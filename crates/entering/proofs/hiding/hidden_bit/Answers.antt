@@ -7,7 +7,7 @@ use native.Mathlib.Omega.{arith}
 use Rattle.words.proofs.ClearBits.{one_shifted}
 use Rattle.model.specs.declared.Term.{Term}
 use Rattle.entering.specs.Showing.{hidden_term}
-use Rattle.entering.proofs.Hidden.{hidden_small}
+use Rattle.entering.proofs.HiddenBits.{hidden_small}
 use Rattle.entering.proofs.hiding.hidden_bit.Goals as goal
 
 -- the number of a hidden variable is the place of its bit

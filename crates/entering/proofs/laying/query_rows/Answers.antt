@@ -31,7 +31,7 @@ loop-i-preserved c =
       l.long ∙ at.invariant.1,
       λ Q held.
           rows_more (value_at Q) (at.invariant.2 Q held)
-          (held_line held at.i _ (rw (held_count held) at c.loop-i-test.true)) l l.row,
+          (held_line held at.i _ (rw (held_count held) at c.loop-i-test.true)) l.before l.row,
     )
 
 pub returns : goal.returns

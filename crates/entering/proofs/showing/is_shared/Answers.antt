@@ -5,7 +5,7 @@ use native.Mathlib.Nat.{mod-eq_of_lt}
 use native.Mathlib.Omega.{arith}
 use lib.Dec.{T}
 use borrow.Author.Tests.{not-true, not-false}
-use Rattle.entering.proofs.Hidden.{hidden_small}
+use Rattle.entering.proofs.HiddenBits.{hidden_small}
 use mathlib.Core.Path.{ap}
 use mathlib.Core.Bool.{not}
 use Rattle.entering.proofs.showing.is_shared.Goals as goal

@@ -36,8 +36,5 @@ loop-k-preserved c =
           (one_done shown.result at.invariant.1 (omega (arith, at.invariant.1.long)) (shown.ensures ∙ ap (show_value _) read.ensures)),
     )
 
-pub shape_of-lines : goal.shape_of-lines
-shape_of-lines c = c.loop-k.invariant.1.long
-
 pub returns : goal.returns
 returns c = all_done c.loop-k.invariant.1 (omega arith)

@@ -4,7 +4,7 @@ use native.Mathlib.Omega.{arith}
 use borrow.Author.Tests.{ltb-true, ltb-false}
 use Rattle.freezing.proofs.Taken.{takes_none, takes_as, columns_more, column_taken, column_left}
 use Rattle.freezing.proofs.blocks.take_row.Goals as goal
-use Rattle.freezing.proofs.blocks.take_row.Goals.{else-t-eq-CONSTANT, then-t-eq-CONSTANT+then-block}
+use Rattle.freezing.proofs.blocks.take_row.Goals.{else-t-eq-CONSTANT-via-then-t-eq-CONSTANT+else-block, else-t-eq-CONSTANT-via-else-t-eq-CONSTANT, else-t-eq-CONSTANT, then-t-eq-CONSTANT+then-block}
 
 pub loop-p-init : goal.loop-p-init
 loop-p-init c = (omega arith, takes_none (λ i q l mark low. omega (arith, l.1)))
@@ -16,7 +16,7 @@ pub offset_bounds-taken-block : goal.offset_bounds-taken-block
 offset_bounds-taken-block c = omega arith
 
 pub bounds-taken-block : goal.bounds-taken-block
-bounds-taken-block c = ltb-true _ _ c.if-block.true
+bounds-taken-block c = c.if-block.true
 
 pub overflow_add-p : goal.overflow_add-p
 overflow_add-p c = omega arith
@@ -32,10 +32,13 @@ loop-p-preserved c =
       omega arith,
       columns_more at.invariant.1
           (elim c.if-t-eq-CONSTANT.branch [
-            | then-t-eq-CONSTANT+then-block x ↦ rw x.way_told-1 (column_taken _ t.ensures (at.invariant.1.long ∙ long) (ltb-true _ _ x.if-block.true))
+            | then-t-eq-CONSTANT+then-block x ↦ rw x.taken-is (column_taken _ t.ensures (at.invariant.1.long ∙ long) x.if-block.true)
             | else-t-eq-CONSTANT x ↦ rw x.taken-is
                 (column_left _ t.ensures (λ mark.
-                ⊎_elim (λ y. ltb-false _ _ y.1.false) (λ y. absurd (y.left mark)) x.else-t-eq-CONSTANT.came))
+                elim x.else-t-eq-CONSTANT.branch [
+                  | else-t-eq-CONSTANT-via-then-t-eq-CONSTANT+else-block y ↦ y.if-block.false
+                  | else-t-eq-CONSTANT-via-else-t-eq-CONSTANT y ↦ absurd (y.if-t-eq-CONSTANT.false mark)
+                ]))
           ]),
     )
 

@@ -2,10 +2,11 @@ use mathlib.Core.Path.{sym, ap, ◌∙◌}
 use mathlib.Core.Logic.{⊎_elim}
 use native.Mathlib.Omega.{arith}
 use borrow.Author.Count.{below_none, below_more}
-use borrow.Author.Tests.{eqb-true, eqb-false, not-false}
+use borrow.Author.Tests.{eqb-true, not-false}
 use Rattle.model.specs.declared.Term.{Term}
 use Rattle.freezing.proofs.MatchedColumns.{match_constant, match_equal, is_matched, not_matched}
 use Rattle.freezing.proofs.rows.matches.Goals as goal
+use Rattle.freezing.proofs.rows.matches.Goals.{else-t-eq-CONSTANT-via-then-t-eq-CONSTANT+else-t-cells, else-t-eq-CONSTANT-via-else-t-eq-CONSTANT}
 
 pub loop-p-init : goal.loop-p-init
 loop-p-init c = (omega arith, below_none _)
@@ -30,7 +31,7 @@ returns-then-t-cells c =
     let at = c in
     let read = at.term_at-t.ensures in
     not_matched (λ v r beside m.
-    eqb-false _ _ c.if-t-cells.true
+    c.if-t-cells.true
     (ap (λ (t : Term). t.number) read
     ∙ match_constant v r beside m _ at.loop-p-test.true
     (omega (arith, ap (λ (t : Term). t.mark) read, c.if-t-eq-CONSTANT.true))))
@@ -72,8 +73,10 @@ loop-p-preserved c =
       omega arith,
       below_more _ _ at.loop-p.invariant.1 (record {
         constants = λ e.
-            ⊎_elim (λ w. ap (λ (t : Term). t.number) (sym read) ∙ eqb-true _ _ (not-false _ w.2.false))
-            (λ w. absurd (w.left (omega (arith, e, ap (λ (t : Term). t.mark) read)))) c.else-t-eq-CONSTANT.branch;
+            elim c.else-t-eq-CONSTANT.branch [
+              | else-t-eq-CONSTANT-via-then-t-eq-CONSTANT+else-t-cells w ↦ ap (λ (t : Term). t.number) (sym read) ∙ w.if-t-cells.false
+              | else-t-eq-CONSTANT-via-else-t-eq-CONSTANT w ↦ absurd (w.if-t-eq-CONSTANT.false (omega (arith, e, ap (λ (t : Term). t.mark) read)))
+            ];
         first = at.first_column-q.result;
         alike = at.first_column-q.ensures;
         equals = c.if-cells-q.false;
