@@ -4,12 +4,8 @@ use Rattle.model.specs.Value.{pad, tables_value, unused_line, unused_term}
 use Rattle.policy_text.specs.Text.{nothing}
 use Rattle.policy_text.specs.Policy.{policy_value, grants_of}
 use Rattle.words.specs.TestBits.{test_bits, up_from}
-use Rattle.load.proofs.empty_policy.Statement.{statement}
-use Rattle.load.proofs.empty_policy.Tie as tie
+use Rattle.load.proofs.empty_policy.Goals as goal
 
-returns : tie.Need-returns
+pub returns : goal.returns
 unfolding policy_value tables_value pad unused_line unused_term nothing grants_of test_bits up_from
 returns c = refl
-
-pub empty_policy_spec : {M : Type 1} → statement M
-empty_policy_spec = tie.close (tie.spec returns)
