@@ -17,7 +17,7 @@ use Rattle.query_text.proofs.Faults.{well_formed, malformed, is_good, is_tabled}
 use Rattle.text.proofs.NextLines.{front, LineAt, stops_here, ends_here}
 use Rattle.query_text.proofs.Walk.{walked_none, counted, stops, empty, done, wrong, faulty, walked_more}
 use Rattle.query_text.proofs.read_lines.Goals as goal
-use Rattle.query_text.proofs.read_lines.Goals.{After-fault-f, After-next_line-next, After-read_line-p, After-struct_known-in-loop-at-5-1, At-loop-at, Else-f-ne0, Else-not-p, Else-rest-next}
+use Rattle.query_text.proofs.read_lines.Goals.{After-fault-f, After-next_line-next, After-read_line-p, At-loop-at, Else-f-ne0, Else-not-p, Else-rest-next}
 
 -- ---- the end of the line
 
@@ -74,9 +74,6 @@ fault_is c widths t =
 faultless : (c : Else-f-ne0)
     → ((start (goal.at.Else-f-ne0 c).After-fault-f).loop-at.q.count < most_lines) × ((of-well (goal.at.Else-f-ne0 c).Else-not-p).read_line-p.result.outside ≡ false)
 faultless c = c.fault-f.ensures.count_lt_most_lines c.if-f-ne0.false
-
-abbrev of-last : After-struct_known-in-loop-at-5-1 → Else-f-ne0
-of-last c = (goal.at.After-struct_known-in-loop-at-5-1 c).Else-f-ne0
 
 -- ---- the needs
 
@@ -135,20 +132,23 @@ pub overflow_add-q : goal.overflow_add-q
 overflow_add-q c = omega (arith, (faultless (goal.at.overflow_add-q c).Else-f-ne0).0)
 
 pub overflow_add-at : goal.overflow_add-at
-overflow_add-at c = omega (arith, ends (of-fault (of-last c)), (start (of-last c)).requires.0)
+overflow_add-at c =
+    let f = (goal.at.overflow_add-at c).After-fault-f in
+    omega (arith, ends (of-fault f), (start f).requires.0)
 
 pub loop-at-smaller : goal.loop-at-smaller
-loop-at-smaller c = omega (arith, ends (of-fault (of-last c)))
+loop-at-smaller c = omega (arith, ends (of-fault (goal.at.loop-at-smaller c).After-fault-f))
 
 pub loop-at-preserved : goal.loop-at-preserved
 loop-at-preserved c =
-    let e = of-last c in
-    let f = e in
+    let e = (goal.at.loop-at-preserved c).Else-f-ne0 in
+    let f = (goal.at.loop-at-preserved c).After-fault-f in
+    let g = (goal.at.loop-at-preserved c).Else-not-p in
     let d = of-fault f in
     let w = (start f).loop-at.invariant in
-    let a = says f in
-    let p = (of-well f).read_line-p.result in
-    walked_more w (ends d) a.0 a.1 p (is_good p a.0 (line_says f) (faultless e).1)
+    let a = says g in
+    let p = (of-well g).read_line-p.result in
+    walked_more w (ends d) a.0 a.1 p (is_good p a.0 (line_says g) (faultless e).1)
     (omega (arith, counted w, (faultless e).0)) (of_end d).next_line-next.ensures.number (λ widths t. sym e.if-f-ne0.false ∙ fault_is f widths t)
 
 pub returns-then-q-eq0 : goal.returns-then-q-eq0

@@ -2,7 +2,6 @@
 use mathlib.Core.Path.{ap, ◌∙◌}
 use mathlib.Core.List.{List}
 use native.Mathlib.Omega.{arith}
-use borrow.Author.Rules.{rules}
 use Prim.Native.Nat.{ℕ, ◌≤◌}
 use lib.ListN.{length, length-take, length-drop}
 use Rattle.text.specs.Names.{table_terms}
@@ -35,10 +34,6 @@ within c = names_within table_terms (text (of-names c)) (after (of-names c)) c.i
 
 pub returns-then-text-gt-MOST_BYTES : goal.returns-then-text-gt-MOST_BYTES
 returns-then-text-gt-MOST_BYTES c = λ widths t. c.refused.ensures ∙ ap reading_value (too_long widths _ c.if-text-gt-MOST_BYTES.true)
-
--- LOST
-slice-aggregate-after-names : tie.Need-slice-aggregate-after-names
-slice-aggregate-after-names c = search rules
 
 pub returns-then-start-eq0 : goal.returns-then-start-eq0
 returns-then-start-eq0 c =
