@@ -1,3 +1,5 @@
+use mathlib.Core.Bool.{not}
+use mathlib.Core.Path.{ap}
 use native.Mathlib.Omega.{arith}
 use Rattle.words.proofs.Answers.{passes, fails}
 use Rattle.reduce.proofs.Looked.{sieved_kept, sieved_out}
@@ -32,7 +34,7 @@ loop-rest-preserved c = λ Q n g goings.
     let k = least.loop-rest.invariant Q n g goings in
     let going = (goings least.least-p.result).0 (k.some _ least.least-p.ensures.set) in
     let answer = candidate_test g _ going test.goes_itself.ensures in
-    elim c.if-not-goes_itself.branch [ then-not-goes_itself w ↦ rw (w.m-is, w.clear_bit-m.ensures) (sieved_out k least.least-p.ensures c.drop_least-rest.ensures (fails answer w.if-not-goes_itself.true)) | else-not-goes_itself w ↦ rw w.m-is (sieved_kept k least.least-p.ensures c.drop_least-rest.ensures (passes answer w.if-not-goes_itself.false)) ]
+    elim c.if-not-goes_itself.branch [ then-not-goes_itself w ↦ rw (w.m-is, w.clear_bit-m.ensures) (sieved_out k least.least-p.ensures c.drop_least-rest.ensures (fails answer (ap not w.if-not-goes_itself.true))) | else-not-goes_itself w ↦ rw w.m-is (sieved_kept k least.least-p.ensures c.drop_least-rest.ensures (passes answer (ap not w.if-not-goes_itself.false))) ]
 
 pub returns : goal.returns
 returns c = λ Q n g goings. candidates_all goings (rw c.loop-rest-test.false at (c.loop-rest.invariant Q n g goings))

@@ -49,8 +49,8 @@ loop-p-preserved c =
       omega arith,
       elim c.if-is_shared.branch [
         | then-is_shared+else-not-same_term w ↦ own_passed _ _ _ _ at.p test.result read test.ensures w.same_term.result w.column_of-q.ensures w.term_at.ensures
-            w.term_at-then-is_shared.ensures w.same_term.ensures w.if-not-same_term.false at.invariant.1
-        | else-is_shared w ↦ own_skipped _ _ _ _ at.p test.result read test.ensures w.left at.invariant.1
+            w.term_at-then-is_shared.ensures w.same_term.ensures (ap not w.if-not-same_term.false) at.invariant.1
+        | else-is_shared w ↦ own_skipped _ _ _ _ at.p test.result read test.ensures w.if-is_shared.false at.invariant.1
       ],
     )
 

@@ -72,6 +72,19 @@ loop-i-preserved-then-goes_alone c =
           alone.keeps (rw rest.clear_bit-rest.ensures at variables.variables.ensures) (at.loop-i.invariant.2 Q g m)),
     )
 
+pub loop-i-smaller-else-goes_alone : goal.loop-i-smaller-else-goes_alone
+loop-i-smaller-else-goes_alone c = omega arith
+
+pub loop-i-preserved-else-goes_alone : goal.loop-i-preserved-else-goes_alone
+loop-i-preserved-else-goes_alone c =
+    let at = c.loop-i in (omega arith, at.invariant.1, at.invariant.2)
+
+pub loop-i-smaller : goal.loop-i-smaller
+loop-i-smaller c = omega arith
+
+pub loop-i-preserved : goal.loop-i-preserved
+loop-i-preserved c = let at = c.loop-i in (omega arith, at.invariant.1, at.invariant.2)
+
 pub returns : goal.returns
 returns c =
     record {

@@ -1,3 +1,5 @@
+use mathlib.Core.Bool.{not}
+use mathlib.Core.Path.{ap}
 use mathlib.Core.Path.{◌≡◌}
 use mathlib.Core.Bool.{false≢true}
 use native.Mathlib.Omega.{arith}
@@ -30,7 +32,7 @@ loop-p-preserved c =
     let kept = shared.loop-p.invariant.1 in
     let read = shared.term_at-t.ensures in (
       omega arith,
-      elim c.if-is_shared.branch [ then-is_shared+else-not-same_term w ↦ kept_same_term kept read w.same_term.result w.term_at-u.ensures w.same_term.ensures w.if-not-same_term.false | else-is_shared w ↦ kept_skip kept read shared.is_shared.result shared.is_shared.ensures w.left ],
+      elim c.if-is_shared.branch [ then-is_shared+else-not-same_term w ↦ kept_same_term kept read w.same_term.result w.term_at-u.ensures w.same_term.ensures (ap not w.if-not-same_term.false) | else-is_shared w ↦ kept_skip kept read shared.is_shared.result shared.is_shared.ensures w.if-is_shared.false ],
     )
 
 pub returns : goal.returns

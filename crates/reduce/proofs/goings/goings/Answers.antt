@@ -28,7 +28,8 @@ loop-a-smaller c = omega arith
 pub loop-a-preserved : goal.loop-a-preserved
 loop-a-preserved c =
     let at = c.loop-a in
-    let (small, targets) = c.goings_of.ensures in
+    let small = c.goings_of.ensures.upper_bound in
+    let targets = c.goings_of.ensures.target_word in
     let joined = or_parts (at.a * most_lines) most_lines 64 at.invariant.1 small (omega arith) in
     let next : (at.a + 1) * most_lines ≡ at.a * most_lines + most_lines = omega arith in (
       omega arith,

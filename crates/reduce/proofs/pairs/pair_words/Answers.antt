@@ -38,9 +38,9 @@ loop-rest-preserved c =
     let drop = c.drop_least-rest in
     let k = c in
     let (_, small, paired) = k.loop-rest.invariant in (
-      row.ensures.1,
+      row.ensures.table_len,
       λ i e. small i (left_before i k.least-a.ensures drop.ensures e),
-      λ Q n g m. paired_more (paired Q n g m) k.least-a.ensures drop.ensures (row.ensures.0 Q n g m),
+      λ Q n g m. paired_more (paired Q n g m) k.least-a.ensures drop.ensures (row.ensures.row_paired Q n g m),
     )
 
 pub returns : goal.returns

@@ -1,12 +1,13 @@
 use Prim.Native.Nat.{ℕ, suc, ◌-◌, ◌<◌}
-use mathlib.Core.Path.{◌≡◌}
+use mathlib.Core.Path.{◌≡◌, sym, ◌∙◌}
+use mathlib.Core.Bool.{false≢true}
 use native.Mathlib.Omega.{arith}
 use lib.ListN.{length}
 use Rattle.words.specs.Bits.{bit}
 use Rattle.words.proofs.Bits.{bit_within}
 use Rattle.words.proofs.ClearBits.{low_bits_below}
 use Rattle.model.specs.Limits.{most_lines}
-use Rattle.reduce.proofs.Passes.{lines_below, cleared, taking_none, taking_out, taking_all}
+use Rattle.reduce.proofs.Passes.{lines_below, cleared, taking_none, taking_out, taking_kept, taking_all}
 use Rattle.reduce.proofs.taking.taken.Goals as goal
 
 pub low_bits-left-requires : goal.low_bits-left-requires
@@ -48,6 +49,21 @@ loop-i-preserved-then-search c =
           rw rest.ensures
           (taking_out t there f (at.i - 1) at.left (rw e at (at.invariant.2 Q l t there f)) (omega arith)
           (rw rest.ensures at (c.search.ensures.0 c.if-search.true))),
+    )
+
+pub loop-i-smaller : goal.loop-i-smaller
+loop-i-smaller c = omega arith
+
+pub loop-i-preserved : goal.loop-i-preserved
+loop-i-preserved c =
+    let at = c.loop-i in
+    let rest = c.clear_bit-rest in
+    let e : at.i ≡ suc (at.i - 1) = omega arith in (
+      omega arith,
+      at.invariant.1,
+      λ Q l t there f.
+          taking_kept t there f (at.i - 1) at.left (rw e at (at.invariant.2 Q l t there f)) (omega arith)
+          (λ x. false≢true (sym c.if-search.false ∙ c.search.ensures.1 (rw rest.ensures x))),
     )
 
 pub returns : goal.returns
