@@ -1,31 +1,32 @@
 // The modes: each reads what it needs and writes its page.
 
+use std::rt::{Env, Files};
 use text::Numeral;
 
 // A query text one byte past its limit, so that a longer one is turned back as too long.
 const MOST_QUERY: usize = 4097;
 
 // The number that an argument says, or 0, which is no partition.
-fn number_at(i: usize) -> u64 {
+fn number_at(rt: &impl Env, i: usize) -> u64 {
     let mut word = io::buffer();
-    let n = os::arg(i, &mut word);
+    let n = files::argument(rt, i, &mut word);
     match text::read_numeral(&word[..n]) {
         Numeral::Value(v) => v,
         _ => 0,
     }
 }
 
-fn write_check() {
+fn write_check(rt: &impl Files) {
     let mut policy = files::policy_room();
-    let policy_bytes = files::read_file(b"policy.txt", &mut policy);
+    let policy_bytes = files::read_file(rt, b"policy.txt", &mut policy);
     let mut out = page::page_room();
     let n = mode_check::check_page(&policy[..policy_bytes], &mut out);
     io::write_all(1, &out[..n]);
 }
 
-fn write_labels() {
+fn write_labels(rt: &impl Files) {
     let mut policy = files::policy_room();
-    let policy_bytes = files::read_file(b"policy.txt", &mut policy);
+    let policy_bytes = files::read_file(rt, b"policy.txt", &mut policy);
     let mut query = [0; MOST_QUERY];
     let query_bytes = io::read_full(0, &mut query);
     let mut out = page::page_room();
@@ -33,54 +34,54 @@ fn write_labels() {
     io::write_all(1, &out[..n]);
 }
 
-fn write_explain() {
+fn write_explain(rt: &(impl Env + Files)) {
     let mut policy = files::policy_room();
-    let policy_bytes = files::read_file(b"policy.txt", &mut policy);
+    let policy_bytes = files::read_file(rt, b"policy.txt", &mut policy);
     let mut query = [0; MOST_QUERY];
     let query_bytes = io::read_full(0, &mut query);
     let mut out = page::page_room();
     let n = mode_explain::explain_page(
         &policy[..policy_bytes],
-        number_at(2),
+        number_at(rt, 2),
         &query[..query_bytes],
         &mut out,
     );
     io::write_all(1, &out[..n]);
 }
 
-fn write_grant() {
+fn write_grant(rt: &(impl Env + Files)) {
     let mut policy = files::policy_room();
-    let policy_bytes = files::read_file(b"policy.txt", &mut policy);
+    let policy_bytes = files::read_file(rt, b"policy.txt", &mut policy);
     let mut query = [0; MOST_QUERY];
     let query_bytes = io::read_full(0, &mut query);
     let mut out = page::page_room();
     let n = mode_grant::grant_page(
         &policy[..policy_bytes],
-        number_at(2),
+        number_at(rt, 2),
         &query[..query_bytes],
         &mut out,
     );
     io::write_all(1, &out[..n]);
 }
 
-fn write_apart() {
+fn write_apart(rt: &(impl Env + Files)) {
     let mut policy = files::policy_room();
-    let policy_bytes = files::read_file(b"policy.txt", &mut policy);
+    let policy_bytes = files::read_file(rt, b"policy.txt", &mut policy);
     let mut query = [0; MOST_QUERY];
     let query_bytes = io::read_full(0, &mut query);
     let mut out = page::page_room();
     let n = mode_apart::apart_page(
         &policy[..policy_bytes],
-        number_at(2),
+        number_at(rt, 2),
         &query[..query_bytes],
         &mut out,
     );
     io::write_all(1, &out[..n]);
 }
 
-fn write_rules() {
+fn write_rules(rt: &impl Files) {
     let mut policy = files::policy_room();
-    let policy_bytes = files::read_file(b"policy.txt", &mut policy);
+    let policy_bytes = files::read_file(rt, b"policy.txt", &mut policy);
     let mut rules = io::large_buffer();
     let rule_bytes = io::read_full(0, &mut rules);
     let mut out = mode_rules::rules_room();
@@ -88,44 +89,44 @@ fn write_rules() {
     io::write_all(1, &out[..n]);
 }
 
-fn write_compare() {
+fn write_compare(rt: &impl Env) {
     let mut x = io::buffer();
-    let x_bytes = os::arg(2, &mut x);
+    let x_bytes = files::argument(rt, 2, &mut x);
     let mut y = io::buffer();
-    let y_bytes = os::arg(3, &mut y);
+    let y_bytes = files::argument(rt, 3, &mut y);
     let mut out = page::page_room();
     let n = mode_compare::compare_page(&x[..x_bytes], &y[..y_bytes], &mut out);
     io::write_all(1, &out[..n]);
 }
 
 // The mode of a name; for any other, which modes there are.
-pub fn write_mode(name: &[u8]) {
+pub fn write_mode(rt: &(impl Env + Files), name: &[u8]) {
     if text::same(name, b"check") {
-        write_check();
+        write_check(rt);
         return;
     }
     if text::same(name, b"labels") {
-        write_labels();
+        write_labels(rt);
         return;
     }
     if text::same(name, b"explain") {
-        write_explain();
+        write_explain(rt);
         return;
     }
     if text::same(name, b"grant") {
-        write_grant();
+        write_grant(rt);
         return;
     }
     if text::same(name, b"apart") {
-        write_apart();
+        write_apart(rt);
         return;
     }
     if text::same(name, b"compare") {
-        write_compare();
+        write_compare(rt);
         return;
     }
     if text::same(name, b"rules") {
-        write_rules();
+        write_rules(rt);
         return;
     }
     io::write_all(

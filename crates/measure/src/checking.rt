@@ -1,14 +1,13 @@
 // A policy checked again and again: what refusal 8 costs an operation.
 
 use model::Policy;
-use std::num::wrapping_add_u64;
 
 fn check_again(p: Policy, times: u64) -> u64 {
-    let mut sum = 0;
+    let mut sum = 0u64;
     let mut i = 0;
     while i < times {
         if validity::valid(p) {
-            sum = wrapping_add_u64(sum, 1);
+            sum = sum.wrapping_add(1);
         }
         i += 1;
     }

@@ -6,14 +6,13 @@ ghost use Rattle.labelling.specs.Text.{SomePolicy};
 use covering::Prepared;
 use desk::Reply;
 use model::{Outcome, Policy, Tables};
-use std::num::wrapping_add_u64;
 
 // A number for each reply: its count for a yes, 100 and its count for a no, and for a refusal 1,000 and its number.
 fn number_of(r: Reply) -> u64 {
     match r {
         Reply::Yes { count } => count,
-        Reply::No { count } => wrapping_add_u64(100, count),
-        Reply::Refused { number, .. } => wrapping_add_u64(1000, number),
+        Reply::No { count } => 100u64.wrapping_add(count),
+        Reply::Refused { number, .. } => 1000u64.wrapping_add(number),
     }
 }
 
@@ -21,12 +20,12 @@ fn decide_again(tables: Tables, ready: &Prepared, text: &[u8], times: u64) -> u6
     requires { SomeReady tables ready.now }
 {
     let s = desk::open_loaded(ready);
-    let mut sum = 0;
+    let mut sum = 0u64;
     let mut i = 0;
     while i < times {
         let d = desk::decide_loaded(tables, ready, s, text);
         let reply = d.reply;
-        sum = wrapping_add_u64(sum, number_of(reply));
+        sum = sum.wrapping_add(number_of(reply));
         i += 1;
     }
     sum

@@ -2,35 +2,34 @@
 
 use grants::Granting;
 use model::{MOST_LINES, Outcome, Policy};
-use std::num::{wrapping_add_u32, wrapping_add_u64};
 
 // A number for each reply: 1 and its count for a list, 100 for `none`, and for a refusal 1,000 and its number.
 fn number_of(r: Granting) -> u64 {
     match r {
-        Granting::Given { count } => wrapping_add_u64(1, count),
+        Granting::Given { count } => 1u64.wrapping_add(count),
         Granting::Nothing => 100,
-        Granting::Refused { number, .. } => wrapping_add_u64(1000, number),
+        Granting::Refused { number, .. } => 1000u64.wrapping_add(number),
     }
 }
 
 fn sum_of(cells: &[u32; MOST_LINES]) -> u32 {
-    let mut sum = 0;
+    let mut sum = 0u32;
     let mut i = 0;
     while i < MOST_LINES {
-        sum = wrapping_add_u32(sum, cells[i]);
+        sum = sum.wrapping_add(cells[i]);
         i += 1;
     }
     sum
 }
 
 fn grant_again(p: Policy, n: u64, text: &[u8], times: u64) -> u64 {
-    let mut sum = 0;
+    let mut sum = 0u64;
     let mut i = 0;
     while i < times {
         let mut cells = [0; MOST_LINES];
         let r = grants::smallest_grant(p, n, text, &mut cells);
-        sum = wrapping_add_u64(sum, number_of(r));
-        sum = wrapping_add_u64(sum, sum_of(&cells) as u64);
+        sum = sum.wrapping_add(number_of(r));
+        sum = sum.wrapping_add(sum_of(&cells) as u64);
         i += 1;
     }
     sum

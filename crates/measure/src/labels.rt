@@ -6,14 +6,13 @@ ghost use Rattle.labelling.specs.Text.{SomePolicy};
 use covering::Prepared;
 use labelling::Labels;
 use model::{MOST_LINES, Outcome, Policy, Query};
-use std::num::wrapping_add_u64;
 
 fn sum_of(l: Labels) -> u64 {
     let w = l.words;
-    let mut sum = 0;
+    let mut sum = 0u64;
     let mut i = 0;
     while i < MOST_LINES {
-        sum = wrapping_add_u64(sum, w.words[i]);
+        sum = sum.wrapping_add(w.words[i]);
         i += 1;
     }
     sum
@@ -22,11 +21,11 @@ fn sum_of(l: Labels) -> u64 {
 fn label_again(ready: &Prepared, q: Query, times: u64) -> u64
     requires { SomePosed ready.now q }
 {
-    let mut sum = 0;
+    let mut sum = 0u64;
     let mut i = 0;
     while i < times {
         let l = labelling::label_query(ready, q);
-        sum = wrapping_add_u64(sum, sum_of(l));
+        sum = sum.wrapping_add(sum_of(l));
         i += 1;
     }
     sum

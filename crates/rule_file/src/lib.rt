@@ -1,5 +1,7 @@
 // A file of rules, one a line, turned into a file of queries.
 
+#![tactic(auto)]
+
 ghost use Rattle.std.specs.Prelude.{◌≤◌, length};
 
 use import::Imported;

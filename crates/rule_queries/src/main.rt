@@ -1,11 +1,13 @@
 // Rules as queries: reads `policy.txt` and a file of rules, one a line, from standard input. The queries go to standard output, and for
 // each rule that is turned back a line with its number and the refusal's to standard error.
 
+#![tactic(auto)]
+
 use model::Outcome;
 
-fn main() {
+fn main(rt: HostRuntime) {
     let mut policy = files::policy_room();
-    let policy_bytes = files::read_file(b"policy.txt", &mut policy);
+    let policy_bytes = files::read_file(&rt, b"policy.txt", &mut policy);
     let mut rules = io::large_buffer();
     let rule_bytes = io::read_full(0, &mut rules);
     let r = load::load(&policy[..policy_bytes]);

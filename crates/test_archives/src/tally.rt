@@ -3,7 +3,6 @@
 use crate::family::{NONE, Query};
 use crate::texts;
 use desk::Reply;
-use std::num::wrapping_add_u64;
 
 // Of the settled queries those that two archives tell apart, and of the others those that none do or whose rows do not, count against the
 // desk.
@@ -33,7 +32,7 @@ pub fn zero() -> Tally {
 // One more where a test passes; no count comes near 2^64.
 pub fn next_if(n: u64, passes: bool) -> u64 {
     if passes {
-        return wrapping_add_u64(n, 1);
+        return n.wrapping_add(1);
     }
     n
 }
@@ -66,8 +65,8 @@ pub fn count(t: Tally, reply: Reply, apart: bool, not_by_rows: bool) -> Tally {
 
 // The cases that count against the desk.
 pub fn wrong(t: Tally) -> u64 {
-    let silent = wrapping_add_u64(t.never_apart, t.not_by_rows);
-    wrapping_add_u64(wrapping_add_u64(t.apart, silent), t.refused)
+    let silent = t.never_apart.wrapping_add(t.not_by_rows);
+    t.apart.wrapping_add(silent).wrapping_add(t.refused)
 }
 
 fn print_reply(reply: Reply) {

@@ -4,12 +4,13 @@ ghost use Rattle.std.specs.Prelude.{◌≤◌, length};
 ghost use Rattle.io.specs.Counts.{IsPrefixLen};
 
 use crate::compare;
+use std::rt::Files;
 
 // The longest name of a folder; a longer one has no files.
 const LONGEST_NAME: usize = 255;
 
 // The bytes of a file of a folder; its name has 13 bytes at most, with the `/` before it.
-fn read(folder: &[u8], file: &[u8], buffer: &mut [u8]) -> usize
+fn read(rt: &impl Files, folder: &[u8], file: &[u8], buffer: &mut [u8]) -> usize
     requires { length file.now ≤ 13 }
     ensures { IsPrefixLen result buffer.new }
 {
@@ -19,17 +20,17 @@ fn read(folder: &[u8], file: &[u8], buffer: &mut [u8]) -> usize
     let mut path = [0; 268];
     let n = writing::put_bytes(&mut path, 0, folder);
     let m = writing::put_bytes(&mut path, n, file);
-    files::read_file(&path[..m], buffer)
+    files::read_file(rt, &path[..m], buffer)
 }
 
 // Runs the desk on the two texts of a folder, and compares.
-fn run(folder: &[u8]) {
+fn run(rt: &impl Files, folder: &[u8]) {
     let mut policy = files::policy_room();
-    let policy_bytes = read(folder, b"/policy.txt", &mut policy);
+    let policy_bytes = read(rt, folder, b"/policy.txt", &mut policy);
     let mut queries = io::large_buffer();
-    let query_bytes = read(folder, b"/queries.txt", &mut queries);
+    let query_bytes = read(rt, folder, b"/queries.txt", &mut queries);
     let mut expected = run::output_room();
-    let expected_bytes = read(folder, b"/expected.txt", &mut expected);
+    let expected_bytes = read(rt, folder, b"/expected.txt", &mut expected);
     let mut out = run::output_room();
     let n = run::run(&policy[..policy_bytes], &queries[..query_bytes], &mut out);
     compare::compare(folder, &out[..n], &expected[..expected_bytes]);
@@ -43,13 +44,13 @@ fn line_length(s: &[u8]) -> usize
 }
 
 // Runs every folder named, and counts them.
-pub fn run_all(names: &[u8]) -> u64 {
+pub fn run_all(rt: &impl Files, names: &[u8]) -> u64 {
     let mut n = 0;
     let mut at = 0;
     while at < names.len() {
         let rest = &names[at..];
         let k = line_length(rest);
-        run(&rest[..k]);
+        run(rt, &rest[..k]);
         n = test_expect::counted(n);
         at = at + k + 1;
     }

@@ -6,10 +6,10 @@ mod folders;
 mod limits;
 mod names;
 
-fn main() {
+fn main(rt: HostRuntime) {
     let mut names = io::large_buffer();
-    let n = files::read_file(b"cases.txt", &mut names);
-    let folders = folders::run_all(&names[..n]);
+    let n = files::read_file(&rt, b"cases.txt", &mut names);
+    let folders = folders::run_all(&rt, &names[..n]);
     let limits = limits::run_all();
     let altered = names::run_all();
     io::print_decimal(1, folders);

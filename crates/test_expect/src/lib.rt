@@ -1,6 +1,8 @@
 // What the test programs share: a reply as plain numbers, compared and printed, deciding in a session that is lent, policies, and files
 // of cases.
 
+#![tactic(auto)]
+
 mod cases;
 mod deciding;
 mod policies;

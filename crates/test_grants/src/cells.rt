@@ -2,7 +2,6 @@
 
 ghost use Rattle.std.specs.Prelude.{◌≡◌, ◌≤◌, length};
 
-use std::num::{wrapping_add_u32, wrapping_sub_u64};
 use text::Numeral;
 
 const BEFORE: u32 = 777777777;
@@ -56,7 +55,7 @@ fn least(views: u64) -> u32 {
     if views == 0 {
         return BEFORE;
     }
-    wrapping_add_u32(u64::trailing_zeros(views), 1)
+    u64::trailing_zeros(views).wrapping_add(1)
 }
 
 // The views of a set, ascending, at the head of the buffer.
@@ -66,7 +65,7 @@ pub fn headed_by_set(views: u64) -> [u32; 10] {
     let mut i = 0;
     while i < 10 {
         cells[i] = least(left);
-        left = left & wrapping_sub_u64(left, 1);
+        left = left & left.wrapping_sub(1);
         i += 1;
     }
     cells

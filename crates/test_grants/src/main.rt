@@ -18,9 +18,9 @@ fn too_long(n: u64) -> u64 {
     compare::unwritten(n, test_expect::example(), 1, &text, said)
 }
 
-fn main() {
+fn main(rt: HostRuntime) {
     let mut file = io::large_buffer();
-    let bytes = files::read_file(b"grants.txt", &mut file);
+    let bytes = files::read_file(&rt, b"grants.txt", &mut file);
     let n = too_long(cases::run_all(&file[..bytes]));
     io::print_decimal(1, n);
     io::write_all(1, b" cases\n");

@@ -3,7 +3,6 @@
 ghost use Rattle.std.specs.Prelude.{◌≤◌};
 
 use crate::drawing::{ALL, Drawn};
-use std::num::wrapping_sub_u64;
 
 // "A partition settles a query when each label holds one of its views."
 fn settles(views: u64, labels: u64, lines: usize) -> bool
@@ -34,7 +33,7 @@ fn is_better(a: u64, b: u64) -> bool {
         return m < n;
     }
     let differing = a ^ b;
-    let least = differing & (differing ^ wrapping_sub_u64(differing, 1));
+    let least = differing & (differing ^ differing.wrapping_sub(1));
     a & least != 0
 }
 

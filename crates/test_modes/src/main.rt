@@ -27,7 +27,7 @@ fn run_texts(n: u64, line: &[u8], at: usize, mode: &[u8], first: &[u8], second: 
         io::write_all(1, line);
         io::write_all(1, b"\n");
     }
-    std::num::wrapping_add_u64(n, 1)
+    n.wrapping_add(1)
 }
 
 // A case behind n cases, and how many there are with it.
@@ -70,9 +70,9 @@ fn run_all(file: &[u8]) -> u64 {
     n
 }
 
-fn main() {
+fn main(rt: HostRuntime) {
     let mut file = io::large_buffer();
-    let bytes = files::read_file(b"cases.txt", &mut file);
+    let bytes = files::read_file(&rt, b"cases.txt", &mut file);
     io::print_decimal(1, run_all(&file[..bytes]));
     io::write_all(1, b" cases\n");
 }

@@ -19,10 +19,11 @@ mod values;
 
 use cases::Kind;
 use model::Policy;
+use std::rt::Files;
 
-fn run_file(n: u64, kind: Kind, path: &[u8]) -> u64 {
+fn run_file(rt: &impl Files, n: u64, kind: Kind, path: &[u8]) -> u64 {
     let mut file = io::large_buffer();
-    let bytes = files::read_file(path, &mut file);
+    let bytes = files::read_file(rt, path, &mut file);
     cases::run_all(n, kind, &file[..bytes])
 }
 
@@ -35,20 +36,20 @@ fn sessions(p: Policy, wider: Policy, start: u64) -> u64 {
     n
 }
 
-fn main() {
+fn main(rt: HostRuntime) {
     let p = test_expect::example();
     let altered = test_expect::altered();
     let mut n = loading::taken(0);
     n = loading::refused(n);
-    n = run_file(n, Kind::Labels, b"labels.txt");
+    n = run_file(&rt, n, Kind::Labels, b"labels.txt");
     n = long::labels(p, altered, n);
-    n = run_file(n, Kind::Explanations, b"explanations.txt");
+    n = run_file(&rt, n, Kind::Explanations, b"explanations.txt");
     n = long::explanations(p, n);
     n = sessions(p, test_expect::wider(), n);
-    n = run_file(n, Kind::Decisions, b"decisions.txt");
+    n = run_file(&rt, n, Kind::Decisions, b"decisions.txt");
     n = long::decisions(p, altered, n);
-    n = run_file(n, Kind::Comparisons, b"comparisons.txt");
-    n = run_file(n, Kind::Order, b"order.txt");
+    n = run_file(&rt, n, Kind::Comparisons, b"comparisons.txt");
+    n = run_file(&rt, n, Kind::Order, b"order.txt");
     io::print_decimal(1, n);
     io::write_all(1, b" cases\n");
 }

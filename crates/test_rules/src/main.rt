@@ -8,11 +8,11 @@ mod damage;
 mod refusals;
 mod texts;
 
-fn main() {
+fn main(rt: HostRuntime) {
     let p = test_expect::example();
     let widest = texts::widest();
     let mut file = io::large_buffer();
-    let bytes = files::read_file(b"rules.txt", &mut file);
+    let bytes = files::read_file(&rt, b"rules.txt", &mut file);
     let mut n = cases::run_all(0, p, &file[..bytes]);
     n = texts::example(p, n);
     n = texts::most_variables(widest, n);

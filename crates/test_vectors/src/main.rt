@@ -9,11 +9,11 @@ mod names;
 
 use expect::Kind;
 
-fn main() {
+fn main(rt: HostRuntime) {
     let mut file = io::large_buffer();
-    let bytes = files::read_file(b"queries.txt", &mut file);
+    let bytes = files::read_file(&rt, b"queries.txt", &mut file);
     let mut n = cases::run_all(0, Kind::Query, &file[..bytes]);
-    let bytes = files::read_file(b"policies.txt", &mut file);
+    let bytes = files::read_file(&rt, b"policies.txt", &mut file);
     n = cases::run_all(n, Kind::Policy, &file[..bytes]);
     n = names::queries(n);
     n = names::policies(n);

@@ -2,6 +2,8 @@
 // partitions. For each it prints whether the partition settles the query, and if not both archives as tables, with the answers of the
 // partition's views and of the query on each, worked out by valuations alone, and the fewest views that would settle it.
 
+#![tactic(auto)]
+
 mod answers;
 mod archives;
 mod granting;
@@ -11,6 +13,7 @@ ghost use Rattle.std.specs.Prelude.{◌≤◌, length};
 
 use apart::Telling;
 use model::{Outcome, Policy};
+use std::rt::Env;
 use text::Numeral;
 
 // A refusal, and the end of the line that it stands in.
@@ -61,33 +64,33 @@ fn print_partition(p: Policy, n: u64, text: &[u8]) {
 }
 
 // The number that an argument says, or 0, which is no partition.
-fn partition_at(i: usize) -> u64 {
+fn partition_at(rt: &impl Env, i: usize) -> u64 {
     let mut word = io::buffer();
-    let n = os::arg(i, &mut word);
+    let n = files::argument(rt, i, &mut word);
     match text::read_numeral(&word[..n]) {
         Numeral::Value(v) => v,
         _ => 0,
     }
 }
 
-fn print_partitions(p: Policy, text: &[u8]) {
-    let count = os::arg_count();
-    let mut i = 1;
-    while i < count {
-        print_partition(p, partition_at(i), text);
-        i += 1;
+fn print_partitions(rt: &impl Env, p: Policy, text: &[u8]) {
+    for i in 1..usize::MAX {
+        if !files::has_argument(rt, i) {
+            break;
+        }
+        print_partition(p, partition_at(rt, i), text);
     }
 }
 
-fn main() {
+fn main(rt: HostRuntime) {
     let mut policy = files::policy_room();
-    let policy_bytes = files::read_file(b"policy.txt", &mut policy);
+    let policy_bytes = files::read_file(&rt, b"policy.txt", &mut policy);
     let mut query = io::large_buffer();
     let query_bytes = io::read_full(0, &mut query);
     let r = load::load(&policy[..policy_bytes]);
     let outcome = r.outcome;
     match outcome {
-        Outcome::Accepted => print_partitions(r.policy, &query[..query_bytes]),
+        Outcome::Accepted => print_partitions(&rt, r.policy, &query[..query_bytes]),
         Outcome::Refused { number, line } => {
             io::write_all(1, b"policy ");
             print_refusal(number, line);
