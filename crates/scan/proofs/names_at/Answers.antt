@@ -22,8 +22,6 @@ slice_bounds-same-end c = simp (length-take, length-drop) (omega arith)
 pub returns : goal.returns
 unfolding table_terms
 returns c is =
-    let d = c in
-    let s = d in
-    let at = s.args.at in
+    let at = c.args.at in
     let same = (same_bytes_iff _ table_terms).0 (true_holds (sym c.same.ensures ∙ is)) in
-    names_there at (omega arith) (rw (to_end at s.args.text.now) at same) d.if-text-at-ne10.false
+    names_there at (omega arith) (rw (to_end at c.args.text.now) at same) c.if-text-at-ne10.false

@@ -22,17 +22,16 @@ bounds-text-i c = omega arith
 
 pub numeral_between-requires : goal.numeral_between-requires
 numeral_between-requires c =
-    let l = c in
     record {
-      text_len_bound = l.requires.short;
-      digits_between = l.loop-i.invariant.0;
+      text_len_bound = c.requires.short;
+      digits_between = c.loop-i.invariant.0;
     }
 
 pub returns-then-d-gt9 : goal.returns-then-d-gt9
 returns-then-d-gt9 c = c.numeral_between.ensures
 
 pub overflow_add-at : goal.overflow_add-at
-overflow_add-at c = let l = c in omega (arith, l.requires)
+overflow_add-at c = omega (arith, c.requires)
 
 -- ---- one digit more
 

@@ -27,5 +27,4 @@ returns-then-text-at-eq48 c some = absurd (some c.no_number-then-text-at-eq48.en
 
 pub returns : goal.returns
 returns c some =
-    let d = c in
-    many_digits d.requires.digits_between (small (goal.at.returns c).Start) d.if-end-at.false d.if-end-at-2.false c.if-text-at-eq48.false
+    many_digits c.requires.digits_between (small (goal.at.returns c).Start) c.if-end-at.false c.if-end-at-2.false c.if-text-at-eq48.false

@@ -5,11 +5,10 @@ use Rattle.scan.proofs.numbers.numeral_with.Goals as goal
 
 pub numeral_between-requires : goal.numeral_between-requires
 numeral_between-requires c =
-    let d = c in
-    let r = d.requires in
+    let r = c.requires in
     record {
       text_len_bound = r.text_len_bound;
-      digits_between = rw (value_is _ _ (sym d.with_digit.ensures ∙ c.in-Value.is)) at r.d_bound.1;
+      digits_between = rw (value_is _ _ (sym c.with_digit.ensures ∙ c.in-Value.is)) at r.d_bound.1;
     }
 
 pub returns-in-Malformed : goal.returns-in-Malformed

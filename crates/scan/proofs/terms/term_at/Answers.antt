@@ -21,9 +21,5 @@ returns-then-not-within c some = absurd (some c.no_term-then-not-within.ensures)
 
 pub returns : goal.returns
 returns c some =
-    let l = c in
-    let n = l in
-    let m = n in
-    let d = m in
-    term_there _ _ _ (omega arith) d.if-text-at-ne32.false m.mark_of-mark.ensures n.if-mark-eq0.false (n.number_at-n.ensures some)
-    (sym l.within.ensures ∙ c.if-not-within.false)
+    term_there _ _ _ (omega arith) c.if-text-at-ne32.false c.mark_of-mark.ensures c.if-mark-eq0.false (c.number_at-n.ensures some)
+    (sym c.within.ensures ∙ c.if-not-within.false)

@@ -12,7 +12,7 @@ loop-c-init c = (terms_none _ c.requires.0.within, refl, omega arith)
 
 pub term_at-t-requires : goal.term_at-t-requires
 term_at-t-requires c =
-    let l = c in record { short = l.requires.0.short; within = l.loop-c.invariant.0.there.within }
+    record { short = c.requires.0.short; within = c.loop-c.invariant.0.there.within }
 
 pub returns-then-t-eq0 : goal.returns-then-t-eq0
 returns-then-t-eq0 c some = absurd (some c.loop-c.invariant.1)
@@ -41,19 +41,17 @@ pub loop-c-smaller : goal.loop-c-smaller
 loop-c-smaller c = omega arith
 
 pub loop-c-preserved : goal.loop-c-preserved
-loop-c-preserved c =
-    let l = c in (
-      terms_one_more _ _ l.loop-c.invariant.0 (there (goal.at.loop-c-preserved c).Else-t-eq0) (omega (arith, l.requires)) c.with_mark.ensures
-          c.with_mark-in-loop-c.ensures,
-      l.loop-c.invariant.1,
-      omega arith,
-    )
+loop-c-preserved c = (
+  terms_one_more _ _ c.loop-c.invariant.0 (there (goal.at.loop-c-preserved c).Else-t-eq0) (omega (arith, c.requires)) c.with_mark.ensures
+      c.with_mark-in-loop-c.ensures,
+  c.loop-c.invariant.1,
+  omega arith,
+)
 
 -- ---- behind the last
 
 pub returns : goal.returns
 returns c some =
-    let l = c in
-    let width = l.args.width in
-    let all : l.loop-c.c ≡ width = omega (arith, l.loop-c.invariant.2, c.loop-c-test.false) in
-    terms_ended _ (rw all at l.loop-c.invariant.0) (c.line_end.ensures some)
+    let width = c.args.width in
+    let all : c.loop-c.c ≡ width = omega (arith, c.loop-c.invariant.2, c.loop-c-test.false) in
+    terms_ended _ (rw all at c.loop-c.invariant.0) (c.line_end.ensures some)
