@@ -19,17 +19,13 @@ returns-then-t-eq-UNUSED c =
 
 pub put_term-at-requires : goal.put_term-at-requires
 put_term-at-requires c =
-    let at = c in
-    omega (arith, at.loop-p.invariant.next, at.loop-p.invariant.size, at.loop-p-test.true, at.requires)
+    omega (arith, c.loop-p.invariant.next, c.loop-p.invariant.size, c.loop-p-test.true, c.requires)
 
 pub loop-p-preserved : goal.loop-p-preserved
 unfolding term_at unused_term
 loop-p-preserved c =
-    let put = c in
-    let other = put in
-    let at = other in
-    let (w, near) = put.put_term-at.ensures in
-    put_more at.loop-p.invariant other.if-t-eq-UNUSED.false at.loop-p-test.true w near (search rules)
+    let (w, near) = c.put_term-at.ensures in
+    put_more c.loop-p.invariant c.if-t-eq-UNUSED.false c.loop-p-test.true w near (search rules)
 
 pub shape_of-out : goal.shape_of-out
 shape_of-out c = c.loop-p.invariant.size

@@ -88,11 +88,10 @@ next_line-next-requires c = omega (arith, c.loop-at.invariant)
 
 pub returns-then-rest-next : goal.returns-then-rest-next
 returns-then-rest-next c =
-    let d = c in
     λ widths t.
     c.refused.ensures
-    ∙ ap reading_value (stops (turn (goal.at.returns-then-rest-next c).After-next_line-next).loop-at.invariant widths t d.loop-at-test.true
-    (stops_here (text (goal.at.returns-then-rest-next c).After-next_line-next) (turn (goal.at.returns-then-rest-next c).After-next_line-next).loop-at.at d.next_line-next.ensures c.if-rest-next.true))
+    ∙ ap reading_value (stops (turn (goal.at.returns-then-rest-next c).After-next_line-next).loop-at.invariant widths t c.loop-at-test.true
+    (stops_here (text (goal.at.returns-then-rest-next c).After-next_line-next) (turn (goal.at.returns-then-rest-next c).After-next_line-next).loop-at.at c.next_line-next.ensures c.if-rest-next.true))
 
 pub slice_bounds-read_line-length : goal.slice_bounds-read_line-length
 slice_bounds-read_line-length c = simp (length-take, length-drop) (omega (arith, ends (goal.at.slice_bounds-read_line-length c).Else-rest-next))
@@ -102,24 +101,22 @@ read_line-p-requires c = simp (length-take, length-drop) (omega (arith, (turn (o
 
 pub returns-then-not-p : goal.returns-then-not-p
 returns-then-not-p c =
-    let r = c in
     let d = of-read (goal.at.returns-then-not-p c).After-read_line-p in
     λ widths t.
     c.refused-then-not-p.ensures
     ∙ ap reading_value (wrong (turn (of_end d)).loop-at.invariant (ends d)
-    (malformed r.read_line-p.result (query_line (front (rest (of_end d)))) (line_read (goal.at.returns-then-not-p c).After-read_line-p) (not-true _ c.if-not-p.true)) widths t)
+    (malformed c.read_line-p.result (query_line (front (rest (of_end d)))) (line_read (goal.at.returns-then-not-p c).After-read_line-p) (not-true _ c.if-not-p.true)) widths t)
 
 pub fault-f-requires : goal.fault-f-requires
 fault-f-requires c = is_tabled (of-well c).read_line-p.result (says c).0 (line_says c)
 
 pub returns-then-f-ne0 : goal.returns-then-f-ne0
 returns-then-f-ne0 c =
-    let f = c in
     let a = says (goal.at.returns-then-f-ne0 c).Else-not-p in
     λ widths t.
     c.refused-then-f-ne0.ensures
     ∙ ap reading_value
-    (faulty (start (goal.at.returns-then-f-ne0 c).After-fault-f).loop-at.invariant (ends (of-fault (goal.at.returns-then-f-ne0 c).After-fault-f)) a.0 a.1 f.fault-f.result c.if-f-ne0.true widths t
+    (faulty (start (goal.at.returns-then-f-ne0 c).After-fault-f).loop-at.invariant (ends (of-fault (goal.at.returns-then-f-ne0 c).After-fault-f)) a.0 a.1 c.fault-f.result c.if-f-ne0.true widths t
     (fault_is (goal.at.returns-then-f-ne0 c).After-fault-f widths t))
 
 pub offset_bounds-q-count : goal.offset_bounds-q-count
@@ -153,8 +150,7 @@ loop-at-preserved c =
 
 pub returns-then-q-eq0 : goal.returns-then-q-eq0
 returns-then-q-eq0 c = λ widths t.
-    let l = c in
-    c.refused-then-q-eq0.ensures ∙ ap reading_value (empty l.loop-at.invariant widths t l.loop-at-test.false c.if-q-eq0.true)
+    c.refused-then-q-eq0.ensures ∙ ap reading_value (empty c.loop-at.invariant widths t c.loop-at-test.false c.if-q-eq0.true)
 
 pub returns : goal.returns
 returns c = λ widths t. done c.loop-at.invariant widths t c.loop-at-test.false c.if-q-eq0.false

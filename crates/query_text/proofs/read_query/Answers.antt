@@ -37,9 +37,8 @@ returns-then-text-gt-MOST_BYTES c = λ widths t. c.refused.ensures ∙ ap readin
 
 pub returns-then-start-eq0 : goal.returns-then-start-eq0
 returns-then-start-eq0 c =
-    let d = c in
     λ widths t.
-    c.refused-then-start-eq0.ensures ∙ ap reading_value (misnamed widths (text (goal.at.returns-then-start-eq0 c).After-after_names-start) d.if-text-gt-MOST_BYTES.false (after (goal.at.returns-then-start-eq0 c).After-after_names-start) c.if-start-eq0.true)
+    c.refused-then-start-eq0.ensures ∙ ap reading_value (misnamed widths (text (goal.at.returns-then-start-eq0 c).After-after_names-start) c.if-text-gt-MOST_BYTES.false (after (goal.at.returns-then-start-eq0 c).After-after_names-start) c.if-start-eq0.true)
 
 pub slice_bounds-read_lines-count : goal.slice_bounds-read_lines-count
 slice_bounds-read_lines-count c = within c
@@ -55,7 +54,6 @@ read_lines-requires c = (
 
 pub returns : goal.returns
 returns c =
-    let e = c in
     let d = of-names (goal.at.returns c).Else-start-eq0 in
     λ widths t.
-    c.read_lines.ensures widths t ∙ ap reading_value (well_named widths (text d) d.if-text-gt-MOST_BYTES.false (after d) e.if-start-eq0.false)
+    c.read_lines.ensures widths t ∙ ap reading_value (well_named widths (text d) d.if-text-gt-MOST_BYTES.false (after d) c.if-start-eq0.false)

@@ -5,21 +5,17 @@ use lib.ListN.{length, take}
 use lib.Seq.{length-take-le}
 use Rattle.writing.proofs.Wrote.{wrote_none, wrote_byte, wrote_next, wrote_all}
 use Rattle.writing.proofs.put_bytes.Goals as goal
-use Rattle.writing.proofs.put_bytes.Goals.{After-shared_slice_known-in-loop-i-1}
+use Rattle.writing.proofs.put_bytes.Goals.{In-loop-i}
 
 -- as many bytes are written as are passed, and the next has room
-room : (c : After-shared_slice_known-in-loop-i-1) →
-    let l = c in
-    l.loop-i.to < length l.loop-i.out
+room : (c : In-loop-i) → c.loop-i.to < length c.loop-i.out
 room c =
-    let l = c in
-    let s = l in
-    let bytes = s.args.bytes.now in
-    let p : s.args.at + length bytes ≤ length s.args.out.now = s.requires in
-    let n : length (take l.loop-i.i bytes) ≡ l.loop-i.i = length-take-le l.loop-i.i bytes l.loop-i.invariant.1 in
-    let z : length l.loop-i.out ≡ length s.args.out.now = l.loop-i.invariant.0.size in
-    let t : l.loop-i.to ≡ s.args.at + length (take l.loop-i.i bytes) = l.loop-i.invariant.0.next in
-    let h : l.loop-i.i < length bytes = c.loop-i-test.true in
+    let bytes = c.args.bytes.now in
+    let p : c.args.at + length bytes ≤ length c.args.out.now = c.requires in
+    let n : length (take c.loop-i.i bytes) ≡ c.loop-i.i = length-take-le c.loop-i.i bytes c.loop-i.invariant.1 in
+    let z : length c.loop-i.out ≡ length c.args.out.now = c.loop-i.invariant.0.size in
+    let t : c.loop-i.to ≡ c.args.at + length (take c.loop-i.i bytes) = c.loop-i.invariant.0.next in
+    let h : c.loop-i.i < length bytes = c.loop-i-test.true in
     omega arith
 
 pub loop-i-init : goal.loop-i-init
@@ -29,7 +25,7 @@ pub bounds-bytes-i : goal.bounds-bytes-i
 bounds-bytes-i c = omega arith
 
 pub put_byte-to-requires : goal.put_byte-to-requires
-put_byte-to-requires c = room c
+put_byte-to-requires c = room (goal.at.put_byte-to-requires c).In-loop-i
 
 pub overflow_add-i : goal.overflow_add-i
 overflow_add-i c = omega arith
@@ -39,10 +35,8 @@ loop-i-smaller c = omega arith
 
 pub loop-i-preserved : goal.loop-i-preserved
 loop-i-preserved c =
-    let k = c in
-    let t = k in
-    let byte = wrote_byte (room (goal.at.loop-i-preserved c).After-shared_slice_known-in-loop-i-1) c.put_byte-to.ensures in
-    (wrote_next _ _ t.loop-i.invariant.0 byte t.loop-i-test.true, omega arith)
+    let byte = wrote_byte (room (goal.at.loop-i-preserved c).In-loop-i) c.put_byte-to.ensures in
+    (wrote_next _ _ c.loop-i.invariant.0 byte c.loop-i-test.true, omega arith)
 
 pub shape_of-out : goal.shape_of-out
 shape_of-out c = c.loop-i.invariant.0.size

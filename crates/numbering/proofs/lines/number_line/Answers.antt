@@ -26,8 +26,7 @@ number_term-requires c =
 
 pub loop-p-preserved : goal.loop-p-preserved
 loop-p-preserved c =
-    let at = c in
-    (numbered_more at.loop-p.invariant.0 _ _ (inside (goal.at.loop-p-preserved c).In-loop-p) c.number_term.ensures, search rules)
+    (numbered_more c.loop-p.invariant.0 _ _ (inside (goal.at.loop-p-preserved c).In-loop-p) c.number_term.ensures, search rules)
 
 pub returns : goal.returns
 returns c = numbered_all c.loop-p.invariant.0 (omega (arith, terms_long (goal.at.returns c).Start, c.loop-p-test.false))

@@ -12,10 +12,8 @@ has_bit-requires c =
 
 pub returns-then-has_bit : goal.returns-then-has_bit
 returns-then-has_bit c =
-    let at = c in
-    numbered_variable _ _ _ _ at.if-t-ne-HIDDEN.false at.place_of-n.ensures.value c.has_bit.ensures c.if-has_bit.true
+    numbered_variable _ _ _ _ c.if-t-ne-HIDDEN.false c.place_of-n.ensures.value c.has_bit.ensures c.if-has_bit.true
 
 pub returns : goal.returns
 returns c =
-    let at = c in
-    numbered_variable _ _ _ _ at.if-t-ne-HIDDEN.false at.place_of-n.ensures.value c.has_bit.ensures c.if-has_bit.false
+    numbered_variable _ _ _ _ c.if-t-ne-HIDDEN.false c.place_of-n.ensures.value c.has_bit.ensures c.if-has_bit.false

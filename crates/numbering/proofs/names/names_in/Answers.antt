@@ -20,15 +20,13 @@ loop-p-init c = (named_none _ _ _, search rules)
 
 pub enter-count-requires : goal.enter-count-requires
 enter-count-requires c =
-    let at = c in
-    let inv = at.loop-p.invariant.0 in
-    let asked = at.requires in
-    (omega (arith, inv.most, at.loop-p-test.true, asked.0), inv.size ∙ asked.1)
+    let inv = c.loop-p.invariant.0 in
+    let asked = c.requires in
+    (omega (arith, inv.most, c.loop-p-test.true, asked.0), inv.size ∙ asked.1)
 
 pub loop-p-preserved : goal.loop-p-preserved
 loop-p-preserved c =
-    let at = c in
-    let inv = at.loop-p.invariant.0 in (
+    let inv = c.loop-p.invariant.0 in (
       elim c.if-t-eq-HIDDEN.branch [ then-t-eq-HIDDEN w ↦ named_more inv _ (inside (goal.at.loop-p-preserved c).In-loop-p) w.if-t-eq-HIDDEN.true w.enter-count.ensures w.keys-is w.count-is | else-t-eq-HIDDEN w ↦ named_same inv _ (inside (goal.at.loop-p-preserved c).In-loop-p) w.if-t-eq-HIDDEN.false w.keys-is w.count-is ],
       search rules,
     )

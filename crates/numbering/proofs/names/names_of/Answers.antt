@@ -26,14 +26,12 @@ bounds-q-k c = omega (arith, c.loop-k-test.true, c.requires)
 
 pub names_in-count-requires : goal.names_in-count-requires
 names_in-count-requires c =
-    let at = c in
-    let inv = at.loop-k.invariant.0 in
-    (omega (arith, inv.most, at.loop-k-test.true, at.requires.0), inv.size)
+    let inv = c.loop-k.invariant.0 in
+    (omega (arith, inv.most, c.loop-k-test.true, c.requires.0), inv.size)
 
 pub loop-k-preserved : goal.loop-k-preserved
 loop-k-preserved c =
-    let at = c in
-    (gathered_more _ at.loop-k.invariant.0 (inside (goal.at.loop-k-preserved c).In-loop-k) c.names_in-count.ensures, search rules)
+    (gathered_more _ c.loop-k.invariant.0 (inside (goal.at.loop-k-preserved c).In-loop-k) c.names_in-count.ensures, search rules)
 
 pub returns : goal.returns
 returns c = gathered_all c.loop-k.invariant.0 c.loop-k-test.false c.loop-k.invariant.1 c.requires.0

@@ -15,11 +15,10 @@ bounds-keys-i c = omega (arith, c.loop-i-test.true, c.requires)
 
 pub returns-then-keys-i : goal.returns-then-keys-i
 returns-then-keys-i c =
-    let at = c in
-    let few = at.requires in
+    let few = c.requires in
     record {
-      value = place_found _ (omega (arith, few)) at.loop-i.invariant at.loop-i-test.true c.if-keys-i.true;
-      upper_bound = omega (arith, at.loop-i-test.true);
+      value = place_found _ (omega (arith, few)) c.loop-i.invariant c.loop-i-test.true c.if-keys-i.true;
+      upper_bound = omega (arith, c.loop-i-test.true);
     }
 
 pub overflow_add-i : goal.overflow_add-i
@@ -30,9 +29,8 @@ loop-i-smaller c = omega (arith, c.loop-i-test.true)
 
 pub loop-i-preserved : goal.loop-i-preserved
 loop-i-preserved c =
-    let at = c in
-    let few = at.requires in
-    next_place _ (omega (arith, few)) at.loop-i.invariant at.loop-i-test.true c.if-keys-i.false
+    let few = c.requires in
+    next_place _ (omega (arith, few)) c.loop-i.invariant c.loop-i-test.true c.if-keys-i.false
 
 pub returns : goal.returns
 returns c =

@@ -66,19 +66,14 @@ read_atom-a-requires c =
 
 pub returns-then-not-a : goal.returns-then-not-a
 returns-then-not-a c =
-    let a = c in
-    let e = a in
-    body_refused _ _ _ (next_malformed (next (goal.at.returns-then-not-a c).Joined-at-eq0) e.if-from-eq0.false (read (goal.at.returns-then-not-a c).After-read_atom-a) (not-true _ c.if-not-a.true))
+    body_refused _ _ _ (next_malformed (next (goal.at.returns-then-not-a c).Joined-at-eq0) c.if-from-eq0.false (read (goal.at.returns-then-not-a c).After-read_atom-a) (not-true _ c.if-not-a.true))
     c.malformed-then-not-a.ensures
 
 pub with_atom-b-requires : goal.with_atom-b-requires
-with_atom-b-requires c =
-    let a = c in
-    let e = a in
-    let l = e in (
-      next_tabled (next (goal.at.with_atom-b-requires c).Joined-at-eq0) e.if-from-eq0.false (read (goal.at.with_atom-b-requires c).After-read_atom-a) (not-false _ c.if-not-a.false),
-      omega (arith, l.loop-at.invariant.few, l.requires),
-    )
+with_atom-b-requires c = (
+  next_tabled (next (goal.at.with_atom-b-requires c).Joined-at-eq0) c.if-from-eq0.false (read (goal.at.with_atom-b-requires c).After-read_atom-a) (not-false _ c.if-not-a.false),
+  omega (arith, c.loop-at.invariant.few, c.requires),
+)
 
 pub overflow_add-at : goal.overflow_add-at
 overflow_add-at c = omega (arith, part_room (next (of-read (goal.at.overflow_add-at c).After-read_atom-a)).here)
@@ -91,12 +86,9 @@ loop-at-smaller c = omega (arith, (next (of-read (goal.at.loop-at-smaller c).Aft
 
 pub loop-at-preserved : goal.loop-at-preserved
 loop-at-preserved c =
-    let a = c in
-    let e = a in
-    next_more (next (goal.at.loop-at-preserved c).Joined-at-eq0) e.if-from-eq0.false (read (goal.at.loop-at-preserved c).After-read_atom-a) (not-false _ c.if-not-a.false) c.with_atom-b.ensures
+    next_more (next (goal.at.loop-at-preserved c).Joined-at-eq0) c.if-from-eq0.false (read (goal.at.loop-at-preserved c).After-read_atom-a) (not-false _ c.if-not-a.false) c.with_atom-b.ensures
 
 pub returns : goal.returns
 returns c =
-    let l = c in
-    body_read l.loop-at.invariant l.loop-at-test.false
+    body_read c.loop-at.invariant c.loop-at-test.false
     (elim c.if-b-gt-MOST_LINES.branch [ then-b-gt-MOST_LINES w ↦ inl (w.if-b-gt-MOST_LINES.true, w.fault-is) | else-b-gt-MOST_LINES w ↦ inr (w.if-b-gt-MOST_LINES.false, w.fault-is) ])

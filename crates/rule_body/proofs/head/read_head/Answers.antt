@@ -14,12 +14,11 @@ slice_bounds-read_name-end c = first_length opening _ _ c.first-n.ensures
 
 pub returns-then-read_name-eq0 : goal.returns-then-read_name-eq0
 returns-then-read_name-eq0 c =
-    let r = c in
-    head_unnamed _ r.first-n.ensures r.read_name.ensures c.if-read_name-eq0.true c.no_names.ensures
+    head_unnamed _ c.first-n.ensures c.read_name.ensures c.if-read_name-eq0.true c.no_names.ensures
 
 -- the names start inside the piece
-inside : (c : Else-read_name-eq0) → let f = c in f.first-n.result ≤ length f.args.piece.now
-inside c = let f = c in omega (arith, f.first-n.ensures, before_le opening f.args.piece.now)
+inside : (c : Else-read_name-eq0) → c.first-n.result ≤ length c.args.piece.now
+inside c = omega (arith, c.first-n.ensures, before_le opening c.args.piece.now)
 
 pub slice_bounds-read_names-count : goal.slice_bounds-read_names-count
 slice_bounds-read_names-count c = inside c
@@ -29,6 +28,4 @@ slice_bounds-read_names-start c = omega (arith, inside c)
 
 pub returns : goal.returns
 returns c =
-    let e = c in
-    let r = e in
-    head_named _ r.first-n.ensures r.read_name.ensures e.if-read_name-eq0.false c.read_names.ensures
+    head_named _ c.first-n.ensures c.read_name.ensures c.if-read_name-eq0.false c.read_names.ensures

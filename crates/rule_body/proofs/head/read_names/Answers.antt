@@ -62,9 +62,7 @@ slice_bounds-read_name-start c = omega (arith, led_within (next (goal.at.slice_b
 
 pub returns-then-key-eq0 : goal.returns-then-key-eq0
 returns-then-key-eq0 c =
-    let r = c in
-    let e = r in
-    next_unnamed (next (goal.at.returns-then-key-eq0 c).Joined-at-eq0) e.if-from-eq0.false (read (goal.at.returns-then-key-eq0 c).After-read_name-key) c.if-key-eq0.true c.no_names-then-key-eq0.ensures
+    next_unnamed (next (goal.at.returns-then-key-eq0 c).Joined-at-eq0) c.if-from-eq0.false (read (goal.at.returns-then-key-eq0 c).After-read_name-key) c.if-key-eq0.true c.no_names-then-key-eq0.ensures
 
 -- ---- the next turn
 

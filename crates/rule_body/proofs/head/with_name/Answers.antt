@@ -9,12 +9,9 @@ returns-then-place-count c keys xs x size at held = held_missing keys xs x held 
 
 pub returns-then-has_bit : goal.returns-then-has_bit
 returns-then-has_bit c keys xs x size at held =
-    let b = c in
-    held_twice keys xs x held at (omega (arith, b.if-place-count.false, b.requires, size)) (sym c.has_bit.ensures ∙ c.if-has_bit.true)
+    held_twice keys xs x held at (omega (arith, c.if-place-count.false, c.requires, size)) (sym c.has_bit.ensures ∙ c.if-has_bit.true)
 
 pub returns : goal.returns
 returns c keys xs x size at held =
-    let e = c in
-    let b = e in
-    held_new keys xs x held at (omega (arith, b.if-place-count.false, b.requires, size)) (sym e.has_bit.ensures ∙ e.if-has_bit.false)
+    held_new keys xs x held at (omega (arith, c.if-place-count.false, c.requires, size)) (sym c.has_bit.ensures ∙ c.if-has_bit.false)
     c.set_bit.ensures

@@ -62,14 +62,11 @@ slice_bounds-read_arg-start c = omega (arith, led_within (next (goal.at.slice_bo
 
 pub returns-in-Malformed : goal.returns-in-Malformed
 returns-in-Malformed c =
-    let r = c in
-    let e = r in
-    c.blank-in-Malformed.ensures ∙ next_malformed (next (goal.at.returns-in-Malformed c).Joined-at-eq0) e.if-from-eq0.false (sym c.in-Malformed.is ∙ read (goal.at.returns-in-Malformed c).After-read_arg)
+    c.blank-in-Malformed.ensures ∙ next_malformed (next (goal.at.returns-in-Malformed c).Joined-at-eq0) c.if-from-eq0.false (sym c.in-Malformed.is ∙ read (goal.at.returns-in-Malformed c).After-read_arg)
 
 pub with_arg-a-requires : goal.with_arg-a-requires
 with_arg-a-requires c =
-    let l = c in
-    omega (arith, l.loop-at.invariant.few, l.requires)
+    omega (arith, c.loop-at.invariant.few, c.requires)
 
 pub overflow_add-at : goal.overflow_add-at
 overflow_add-at c = omega (arith, part_room (next (of-read (goal.at.overflow_add-at c).After-read_arg)).here)
@@ -82,13 +79,12 @@ loop-at-smaller c = omega (arith, (next (of-read (goal.at.loop-at-smaller c).Aft
 
 pub loop-at-preserved : goal.loop-at-preserved
 loop-at-preserved c =
-    let e = c in
     let x = next (goal.at.loop-at-preserved c).Joined-at-eq0 in
-    elim c.match-read_arg.branch [ in-Outside w ↦ rw (w.a-is, w.outside-is) (next_outside x e.if-from-eq0.false (sym w.in-Outside.is ∙ read (goal.at.loop-at-preserved c).After-read_arg)) | in-Within w ↦ rw (w.a-is, w.outside-is) (next_within x e.if-from-eq0.false (sym w.in-Within.is ∙ read (goal.at.loop-at-preserved c).After-read_arg) w.with_arg-a.ensures) ]
+    elim c.match-read_arg.branch [ in-Outside w ↦ rw (w.a-is, w.outside-is) (next_outside x c.if-from-eq0.false (sym w.in-Outside.is ∙ read (goal.at.loop-at-preserved c).After-read_arg)) | in-Within w ↦ rw (w.a-is, w.outside-is) (next_within x c.if-from-eq0.false (sym w.in-Within.is ∙ read (goal.at.loop-at-preserved c).After-read_arg) w.with_arg-a.ensures) ]
 
 pub returns-then-outside : goal.returns-then-outside
 returns-then-outside c =
-    let t = c in c.blank-then-outside.ensures ∙ all_outside t.loop-at.invariant t.loop-at-test.false c.if-outside.true
+    c.blank-then-outside.ensures ∙ all_outside c.loop-at.invariant c.loop-at-test.false c.if-outside.true
 
 pub returns : goal.returns
 returns c = all_within c.loop-at.invariant c.loop-at-test.false c.if-outside.false

@@ -16,12 +16,11 @@ slice_bounds-read_table-end c = first_length opening _ _ c.first-n.ensures
 
 pub returns-in-Malformed : goal.returns-in-Malformed
 returns-in-Malformed c =
-    let t = c in
-    c.blank.ensures ∙ atom_untabled _ t.first-n.ensures t.read_table-number.ensures c.in-Malformed.is
+    c.blank.ensures ∙ atom_untabled _ c.first-n.ensures c.read_table-number.ensures c.in-Malformed.is
 
 -- the terms start inside the piece
-inside : (c : In_default) → let f = c in f.first-n.result ≤ length f.args.piece.now
-inside c = let f = c in omega (arith, f.first-n.ensures, before_le opening f.args.piece.now)
+inside : (c : In_default) → c.first-n.result ≤ length c.args.piece.now
+inside c = omega (arith, c.first-n.ensures, before_le opening c.args.piece.now)
 
 pub slice_bounds-read_args-count : goal.slice_bounds-read_args-count
 slice_bounds-read_args-count c = inside c
@@ -30,31 +29,25 @@ pub slice_bounds-read_args-start : goal.slice_bounds-read_args-start
 slice_bounds-read_args-start c = omega (arith, inside c)
 
 whole : (c : After-read_args-a) →
-    let t = c in
-    AtomRead t.args.piece.now t.read_table-number.result c.read_args-a.result
+    AtomRead c.args.piece.now c.read_table-number.result c.read_args-a.result
 whole c =
-    let t = c in
-    atom_read _ t.first-n.ensures t.read_table-number.ensures c.read_args-a.ensures
+    atom_read _ c.first-n.ensures c.read_table-number.ensures c.read_args-a.ensures
 
 pub returns-then-not-a : goal.returns-then-not-a
 returns-then-not-a c = atom_malformed (whole (goal.at.returns-then-not-a c).After-read_args-a) (not-true _ c.if-not-a.true)
 
 pub returns-then-table-eq0 : goal.returns-then-table-eq0
 returns-then-table-eq0 c =
-    let u = c in
-    let r = u in
     c.blank-then-table-eq0.ensures
-    ∙ atom_table_past (whole (goal.at.returns-then-table-eq0 c).After-read_args-a) (not-false _ u.if-not-a.false) u.up_to-table.ensures r.in_default.not-Malformed
+    ∙ atom_table_past (whole (goal.at.returns-then-table-eq0 c).After-read_args-a) (not-false _ c.if-not-a.false) c.up_to-table.ensures c.in_default.not-Malformed
     c.if-table-eq0.true
 
 pub returns-then-a : goal.returns-then-a
 returns-then-a c =
-    let u = c in
-    atom_args_past (whole (goal.at.returns-then-a c).After-read_args-a) (not-false _ u.if-not-a.false) u.up_to-table.ensures c.if-table-eq0.false
+    atom_args_past (whole (goal.at.returns-then-a c).After-read_args-a) (not-false _ c.if-not-a.false) c.up_to-table.ensures c.if-table-eq0.false
     c.if-a.true
 
 pub returns : goal.returns
 returns c =
-    let u = c in
-    atom_within_lem (whole (goal.at.returns c).After-read_args-a) (not-false _ u.if-not-a.false) u.up_to-table.ensures c.if-table-eq0.false
+    atom_within_lem (whole (goal.at.returns c).After-read_args-a) (not-false _ c.if-not-a.false) c.up_to-table.ensures c.if-table-eq0.false
     c.if-a.false

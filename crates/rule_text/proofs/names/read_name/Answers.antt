@@ -43,8 +43,7 @@ overflow_cast-key c = omega (arith, c.type_inv.field (c.loop-i.i - 1))
 
 pub overflow_add-key : goal.overflow_add-key
 overflow_add-key c =
-    let l = c in
-    omega (arith, name_fits l.loop-i.invariant, c.type_inv.field (l.loop-i.i - 1))
+    omega (arith, name_fits c.loop-i.invariant, c.type_inv.field (c.loop-i.i - 1))
 
 pub loop-i-smaller : goal.loop-i-smaller
 loop-i-smaller c = omega arith
