@@ -2,14 +2,10 @@
 use mathlib.Core.Path.{◌≡◌, refl}
 use mathlib.Core.List.{List, [], ◌∷◌, ◌++◌, append_assoc}
 use Prim.Native.Nat.{ℕ}
-use native.Mathlib.Omega.{arith}
-use denote.Enum.Declared
-use types.Run.{OneOf}
 use Rattle.text.specs.Lines.{space, newline}
 use Rattle.text.specs.Print.{decimal}
 use Rattle.sessions.specs.declared.replies.Reply.{Reply}
 use Rattle.sessions.specs.declared.replies.Reply.TheVariants.{Yes, No, Refused}
-use Rattle.sessions.specs.contracts.replies.Reply.{the_type}
 use Rattle.sessions.specs.Reply.{Word, yes, no, refused, said}
 use Rattle.writing.specs.Wrote.{Wrote}
 use Rattle.writing.proofs.Wrote.{wrote_as, wrote_more}

@@ -22,11 +22,16 @@ pub const MOST_QUERIES: usize = 65536;
 
 pub const MOST_OUTPUT: usize = 524288;
 
+// As many bytes as there is room for.
+fn zeros() -> [u8; MOST_OUTPUT] {
+    [0; MOST_OUTPUT]
+}
+
 // Room for all that is written.
 pub fn output_room() -> [u8; MOST_OUTPUT]
     ensures { most_output ≡ length result }
 {
-    [0; MOST_OUTPUT]
+    zeros()
 }
 
 // A line of the output.
