@@ -1,5 +1,7 @@
 // The smallest extra grant: the fewest views that a partition wants to settle a query.
 
+#![tactic(auto)]
+
 mod granting;
 mod searching;
 

@@ -1,5 +1,7 @@
 // A rule turned into a query text, behind the text that stands in a lent buffer.
 
+#![tactic(auto)]
+
 mod importing;
 mod translating;
 

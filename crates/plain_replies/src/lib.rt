@@ -1,5 +1,7 @@
 // The replies of all operations in numbers, for programs in other languages.
 
+#![tactic(auto)]
+
 ghost use Rattle.std.specs.Prelude.{◌≡◌};
 ghost use Rattle.plain_replies.specs.Replies.{refusal, worded, plain_outcome, plain_reply, plain_listing};
 ghost use Rattle.plain_replies.specs.Replies.{plain_explaining, plain_telling, plain_granting, plain_imported};
