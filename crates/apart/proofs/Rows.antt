@@ -82,8 +82,8 @@ module _ {start : List ℕ} {rows : List Row} {out : List ℕ} (h : Holds start 
       ap length h.are
       ∙ simp (length-append, length-drop) (omega (arith, length_all rows h.narrow, h.wide, few))
 
-  pub cells_at : (k : ℕ) (x : Row) → get_elem? rows k ≡ some x → cells_at out k ≡ cells_of x
-  cells_at k x e =
+  pub cells_at_lem : (k : ℕ) (x : Row) → get_elem? rows k ≡ some x → cells_at out k ≡ cells_of x
+  cells_at_lem k x e =
       ap (λ (l : List ℕ). cells_at l k) h.are ∙ row_at rows (drop (length (all_cells rows)) start) k x h.narrow e
 
   pub holds_more : (x : Row) {after : List ℕ} → Narrow x → PutAt (length rows) (cells_of x) out after → Holds start (rows ++ x ∷ []) after
@@ -132,11 +132,11 @@ module _ {start out : List ℕ} (head extra : List Row) (h : Holds start (head +
       let here : k ≡ length head + (k - length head) = omega (arith, low, first) in
       let there : get_elem? (head ++ extra) (length head + (k - length head)) ≡ some y = rw (← here) at in
       let m = at_place extra (k - length head) (sym (behind_place head extra (k - length head)) ∙ there) in
-      Memᴰ.cast (sym (cells_one y x (alike y m) (sym (cells_at h k y at) ∙ are))) m
+      Memᴰ.cast (sym (cells_one y x (alike y m) (sym (cells_at_lem h k y at) ∙ are))) m
 
   pub in_stands : x ∈ extra → b ≡ true
   in_stands m =
       let (j, at) = place m in
       let there = behind_place head extra j ∙ at in
       let below = place_below (head ++ extra) (length head + j) there in
-      s.said (length head + j) (omega (arith, first)) (omega (arith, below, last)) (cells_at h (length head + j) x there)
+      s.said (length head + j) (omega (arith, first)) (omega (arith, below, last)) (cells_at_lem h (length head + j) x there)

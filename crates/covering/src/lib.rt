@@ -1,5 +1,7 @@
 // Which views cover a line, and the line's label.
 
+#![tactic(auto)]
+
 mod preparing;
 
 ghost use Rattle.std.specs.Prelude.{◌≡◌, not, ◌||◌, ◌+◌, ◌^◌, ◌≤◌, ◌<◌, length};

@@ -1,5 +1,7 @@
 // The input of a run, cut into query texts.
 
+#![tactic(auto)]
+
 ghost use Rattle.std.specs.Prelude.{◌≡◌, ◌&&◌, ◌<◌, ltb, length};
 ghost use Rattle.text.specs.Names.{table_terms};
 ghost use Rattle.text.specs.Lines.{same_bytes};

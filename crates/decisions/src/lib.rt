@@ -1,5 +1,7 @@
 // Deciding a query in a session.
 
+#![tactic(auto)]
+
 ghost use Rattle.std.specs.Prelude.{◌≡◌, length};
 ghost use Rattle.model.specs.Rows.{query_rows_long};
 ghost use Rattle.policy_text.specs.Declared.{Declared};

@@ -1,6 +1,8 @@
 // The query desk: sessions, deciding queries in them, their labels and explanations, each from its own crate, and the order of labels. What
 // the desk promises of all of these stands in its specs.
 
+#![tactic(auto)]
+
 mod comparing;
 
 pub use comparing::compare_labels;

@@ -3,7 +3,7 @@ pub mod Left
 pub mod Lines
 pub mod LaidRows
 -- The words of a line.
-pub mod Hidden
+pub mod HiddenBits
 pub mod LineWords
 -- Showing.
 pub mod Seen

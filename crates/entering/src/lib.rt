@@ -1,5 +1,7 @@
 // A query laid in rows, the words of its lines, and the variables that lines share.
 
+#![tactic(auto)]
+
 mod hiding;
 mod laying;
 mod showing;

@@ -1,5 +1,7 @@
 // Why a partition settles a query or not, written to a lent buffer.
 
+#![tactic(auto)]
+
 ghost use Rattle.std.specs.Prelude.{◌≡◌, ◌++◌, ℕ, ◌^◌, ◌≤◌, ◌<◌, length, get_or, take, drop};
 ghost use Rattle.words.specs.Bits.{half_bits};
 ghost use Rattle.words.specs.TestBits.{test_bits, up_from};

@@ -1,5 +1,7 @@
 // Lines and views as rows of an archive: numbers for variables that are no constant, and the rows that these make.
 
+#![tactic(auto)]
+
 mod blocks;
 mod rows;
 

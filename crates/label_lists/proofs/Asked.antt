@@ -1,4 +1,4 @@
--- What a query text gives under a loadable policy, by the tag of its outcome.
+-- What a query text gives under a loadable policy, by its outcome.
 use mathlib.Core.Path.{◌≡◌, ap}
 use mathlib.Core.List.{List}
 use Prim.Native.Nat.{ℕ, ◌/◌, ◌^◌, ◌≤◌, ◌<◌}
@@ -10,7 +10,7 @@ use Rattle.theory.specs.Query.{Query, ◌∈◌}
 use Rattle.theory.specs.Archive.{AllFit}
 use Rattle.theory.specs.Executable.Label.{labels}
 use Rattle.model.specs.Limits.{most_lines}
-use Rattle.model.specs.declared.Outcome.TheVariants.{Refused}
+use Rattle.model.specs.declared.Outcome.TheVariants.{Accepted, Refused}
 use Rattle.model.specs.declared.Policy.{Policy}
 use Rattle.query_text.specs.Text.{refused, accepted, read}
 use Rattle.query_text.proofs.Accepted.{accepted_well_read}
@@ -26,7 +26,7 @@ use Rattle.word_list.specs.declared.Words.{Words}
 use Rattle.labelling.specs.declared.Labels.{Labels}
 use Rattle.labelling.proofs.Partitions.{label_views}
 use Rattle.labelling.proofs.Posing.{few_labels}
-use Rattle.labelling.proofs.Readings.{Tag, asked_accepted, asked_refused}
+use Rattle.labelling.proofs.Readings.{asked_accepted, asked_refused}
 use Rattle.labelling.proofs.Loaded.{loaded_to}
 use Rattle.label_lists.specs.HoldsLabels.{HoldsLabels}
 
@@ -53,7 +53,7 @@ pub record Labelled (d : Declared) (text : List ℕ) (v : Asked) : Type 0 where
 -- what labelling the text gives for each loading of the policy
 module _ {p : Policy} (text : List ℕ) (v : Asked)
     (asked : (d : Declared) → LoadedTo p d → v ≡ asked_value d (read d.widths text)) (l : Loadable p) where
-  pub text_accepted : Tag 0 v.outcome → Labelled l.declared text v
+  pub text_accepted : v.outcome ≡ Accepted → Labelled l.declared text v
   unfolding labels_value
   text_accepted h =
       let d = l.declared in

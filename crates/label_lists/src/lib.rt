@@ -1,5 +1,7 @@
 // The labels of a query, written to a lent buffer.
 
+#![tactic(auto)]
+
 ghost use Rattle.std.specs.Prelude.{◌≡◌, List, ◌++◌, ℕ, ◌≤◌, length, take, drop};
 ghost use Rattle.model.specs.Limits.{most_lines};
 ghost use Rattle.word_list.specs.Value.{words_value};

@@ -1,5 +1,7 @@
 // The order of labels.
 
+#![tactic(auto)]
+
 ghost use Rattle.std.specs.Prelude.{◌≡◌};
 ghost use Rattle.label_order.specs.Order.{at_or_below};
 

@@ -1,16 +1,12 @@
--- How a reading ended, by the tag of its outcome.
-use mathlib.Core.Path.{◌≡◌, refl, sym, ap, subst, ◌∙◌}
-use mathlib.Core.List.{[], ◌∷◌}
+-- How a reading ended, by its outcome.
+use mathlib.Core.Path.{◌≡◌, refl, sym, ap, ◌∙◌}
 use Prim.Native.Nat.{ℕ}
 use native.Mathlib.Omega.{arith}
-use denote.Enum.Declared
-use types.Run.{OneOf}
 use Rattle.theory.specs.Query.{Query}
 use Rattle.theory.specs.Executable.Label.{labels}
 use Rattle.model.specs.Value.{query_value}
 use Rattle.model.specs.declared.Outcome.{Outcome}
 use Rattle.model.specs.declared.Outcome.TheVariants.{Accepted, Refused}
-use Rattle.model.specs.contracts.Outcome.{the_type}
 use Rattle.query_text.specs.Text.{refused, accepted}
 use Rattle.query_text.specs.Text.{Reading as TheReading}
 use Rattle.query_text.specs.Value.{reading_value}
@@ -20,32 +16,6 @@ use Rattle.labelling.specs.declared.Asked.{Asked}
 use Rattle.labelling.specs.Posed.{labels_value}
 use Rattle.labelling.specs.Settled.{settling}
 use Rattle.labelling.specs.Text.{asked_value}
-
--- the outcome is the variant of this number
-abbrev pub Tag : ℕ → Outcome → Type 0
-Tag n o = OneOf (n ∷ []) (Declared.tag_of the_type o)
-
-pub read_accepted : (r : TheReading) (v : Reading) → v ≡ reading_value r → Tag 0 v.outcome
-    → (Q : Query) × (r ≡ accepted Q) × (v.outcome ≡ Accepted) × (v.query ≡ query_value Q)
-unfolding reading_value
-read_accepted (refused n k) v e h = let t : Tag 0 (Refused n k) = subst (λ (w : Reading). Tag 0 w.outcome) e h in absurd (omega arith)
-read_accepted (accepted Q) v e h = (Q, refl, ap (λ (w : Reading). w.outcome) e, ap (λ (w : Reading). w.query) e)
-
-pub read_refused : (r : TheReading) (v : Reading) → v ≡ reading_value r → Tag 1 v.outcome
-    → (n k : ℕ) × (r ≡ refused n k) × (v.outcome ≡ Refused n k)
-unfolding reading_value
-read_refused (refused n k) v e h = (n, k, refl, ap (λ (w : Reading). w.outcome) e)
-read_refused (accepted Q) v e h = let t : Tag 1 Accepted = subst (λ (w : Reading). Tag 1 w.outcome) e h in absurd (omega arith)
-
--- ---- the same of a text that is labelled
-
-pub asked_accepted : (d : TheDeclared) (r : TheReading) (v : Asked) → v ≡ asked_value d r → Tag 0 v.outcome
-    → (Q : Query) × (r ≡ accepted Q) × (v.labels ≡ labels_value (labels d.views Q) (settling d Q))
-unfolding asked_value
-asked_accepted d (refused n k) v e h = let t : Tag 0 (Refused n k) = subst (λ (w : Asked). Tag 0 w.outcome) e h in absurd (omega arith)
-asked_accepted d (accepted Q) v e h = (Q, refl, ap (λ (w : Asked). w.labels) e)
-
--- ---- the number and the line of a refusal
 
 number_of : Outcome → ℕ
 number_of Accepted = 0
@@ -58,6 +28,33 @@ line_of (Refused n k) = k
 is_refused : Outcome → ℕ
 is_refused Accepted = 0
 is_refused (Refused n k) = 1
+
+-- no outcome is both
+not_both : {n k : ℕ} → Refused n k ≡ Accepted → ⊥
+unfolding is_refused
+not_both e = omega (arith, ap is_refused e)
+
+pub read_accepted : (r : TheReading) (v : Reading) → v ≡ reading_value r → v.outcome ≡ Accepted
+    → (Q : Query) × (r ≡ accepted Q) × (v.outcome ≡ Accepted) × (v.query ≡ query_value Q)
+unfolding reading_value
+read_accepted (refused n k) v e h = absurd (not_both (sym (ap (λ (w : Reading). w.outcome) e) ∙ h))
+read_accepted (accepted Q) v e h = (Q, refl, ap (λ (w : Reading). w.outcome) e, ap (λ (w : Reading). w.query) e)
+
+pub read_refused : (r : TheReading) (v : Reading) {m j : ℕ} → v ≡ reading_value r → v.outcome ≡ Refused m j
+    → (n k : ℕ) × (r ≡ refused n k) × (v.outcome ≡ Refused n k)
+unfolding reading_value
+read_refused (refused n k) v e h = (n, k, refl, ap (λ (w : Reading). w.outcome) e)
+read_refused (accepted Q) v e h = absurd (not_both (sym h ∙ ap (λ (w : Reading). w.outcome) e))
+
+-- ---- the same of a text that is labelled
+
+pub asked_accepted : (d : TheDeclared) (r : TheReading) (v : Asked) → v ≡ asked_value d r → v.outcome ≡ Accepted
+    → (Q : Query) × (r ≡ accepted Q) × (v.labels ≡ labels_value (labels d.views Q) (settling d Q))
+unfolding asked_value
+asked_accepted d (refused n k) v e h = absurd (not_both (sym (ap (λ (w : Asked). w.outcome) e) ∙ h))
+asked_accepted d (accepted Q) v e h = (Q, refl, ap (λ (w : Asked). w.labels) e)
+
+-- ---- the number and the line of a refusal
 
 -- how a reading ends, as the code's value
 ending : TheReading → Outcome

@@ -1,5 +1,7 @@
 // The labels of a query, and which partitions settle it.
 
+#![tactic(auto)]
+
 ghost use Rattle.std.specs.Prelude.{◌≡◌, [], ◌-◌, ◌<◌, length};
 ghost use Rattle.model.specs.Rows.{query_rows_long};
 ghost use Rattle.query_text.specs.Text.{read};

@@ -1,5 +1,7 @@
 // Loading a policy text.
 
+#![tactic(auto)]
+
 mod enter;
 
 ghost use Rattle.std.specs.Prelude.{◌≡◌, ◌&&◌, ◌≤◌, ◌<◌, ◌^◌, length};

@@ -100,7 +100,8 @@ module _ {X : Type 0} (read : List (List ℕ) → Option X) (write : X → List 
   numbered_read [] e h = absurd (none-ne-some e h)
   numbered_read (f ∷ fs) e h =
       let r = both_some (λ n x. record { number = n; value = x }) (numeral f) (read fs) e h in
-      rw (sym r.4) (ap joined (ap₂ {C = List (List ℕ)} ◌∷◌ (numeral_read f r.0 r.2) (back fs r.1 r.3)))
+      ap joined (ap₂ {C = List (List ℕ)} ◌∷◌ (numeral_read f r.0 r.2) (back fs r.1 r.3))
+      ∙ ap (λ (x : Numbered X). print_line x.number (write x.value)) r.4
 
   numbered_line_lem : (l : List ℕ) (e : Numbered X) → numbered read (fields l) ≡ some e → l ≡ print_line e.number (write e.value)
   numbered_line_lem l e h = sym (joined_fields l) ∙ numbered_read (fields l) e h

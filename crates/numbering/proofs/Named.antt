@@ -1,6 +1,8 @@
 -- What an array of keys holds while the keys of terms and of lines are entered.
 use mathlib.Core.Path.{◌≡◌, refl, sym, ap, ◌∙◌}
+use mathlib.Core.Bool.{cond}
 use mathlib.Core.List.{List, [], ◌∷◌, ◌++◌}
+use lib.Dec.{eqb}
 use Prim.Native.Nat.{ℕ, ◌+◌, ◌*◌, ◌≤◌, ◌<◌}
 use native.Mathlib.Numerals.{add-one}
 use native.Mathlib.Omega.{arith}
@@ -18,12 +20,12 @@ use Rattle.numbering.specs.Names.{most_names, entered, Entered, keys_in, LineNam
 keys_same : (seen : List ℕ) (ts : List Term) (t : Term) → (t.mark ≡ 3 → ⊥) → keys_in seen (ts ++ t ∷ []) ≡ keys_in seen ts
 unfolding keys_in
 keys_same seen [] t n = rw (ne_eqb t.mark 3 n)
-keys_same seen (u ∷ ts) t n = keys_same _ ts t n
+keys_same seen (u ∷ ts) t n = keys_same (cond (eqb u.mark 3) (entered seen u.number) seen) ts t n
 
 keys_more : (seen : List ℕ) (ts : List Term) (t : Term) → t.mark ≡ 3 → keys_in seen (ts ++ t ∷ []) ≡ entered (keys_in seen ts) t.number
 unfolding keys_in
 keys_more seen [] t e = rw (eq-eqb t.mark 3 e)
-keys_more seen (u ∷ ts) t e = keys_more _ ts t e
+keys_more seen (u ∷ ts) t e = keys_more (cond (eqb u.mark 3) (entered seen u.number) seen) ts t e
 
 -- ---- while the keys of a line are entered
 
@@ -72,7 +74,7 @@ named_all l {start = start} {p = p} s long h g =
 lines_more : (seen : List ℕ) (ls : List Line) (l : Line) → keys_of seen (ls ++ l ∷ []) ≡ keys_in (keys_of seen ls) l.terms
 unfolding keys_of
 lines_more seen [] l = refl
-lines_more seen (m ∷ ls) l = lines_more _ ls l
+lines_more seen (m ∷ ls) l = lines_more (keys_in seen m.terms) ls l
 
 -- the keys of the first k lines are there
 pub record Gathered (ls : List Line) (k : ℕ) (is : List ℕ) (count : ℕ) : Type 0 where

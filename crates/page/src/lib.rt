@@ -1,5 +1,7 @@
 // What the pages of the modes have in common: room, a refusal with the line at fault below it, and views by their numbers.
 
+#![tactic(auto)]
+
 mod below;
 mod views;
 

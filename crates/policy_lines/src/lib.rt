@@ -1,5 +1,7 @@
 // The fields of a policy's lines.
 
+#![tactic(auto)]
+
 ghost use Rattle.std.specs.Prelude.{◌≡◌, List, [], ◌∷◌, ◌++◌, ℕ, ◌+◌, ◌^◌, ◌<◌, ◌≤◌, length};
 ghost use Rattle.text.specs.Lines.{space, fields, parts_from};
 ghost use Rattle.text.specs.Numeral.{numeral};

@@ -1,9 +1,9 @@
 -- The lines of a printed text, block by block.
-use mathlib.Core.Path.{◌≡◌, refl, subst, sym}
+use mathlib.Core.Path.{◌≡◌, refl, ap, subst, sym}
 use mathlib.Core.Logic.{⊎_elim}
 use mathlib.Core.List.Memᴰ
 use mathlib.Core.List.{List, [], ◌∷◌}
-use Prim.Native.Nat.{ℕ, ◌+◌, ◌<◌}
+use Prim.Native.Nat.{ℕ, suc, ◌+◌, ◌<◌}
 use native.Mathlib.Omega.{arith}
 use lib.ListN.{length}
 use Rattle.theory.specs.Query.{◌∈◌}
@@ -33,7 +33,7 @@ module _ {X : Type 0} (fields_of : X → List (List ℕ)) where
   block_line n [] line m = absurd (Memᴰ.not-nil m)
   block_line n (x ∷ l) line m =
       ⊎_elim (λ e. record { number = n; value = x; below = omega arith; member = Memᴰ.head refl; printed = e })
-      (λ k. let r = block_line _ l line k in
+      (λ k. let r = block_line (suc n) l line k in
       record {
         number = r.number;
         value = r.value;
@@ -46,7 +46,7 @@ module _ {X : Type 0} (fields_of : X → List (List ℕ)) where
   pub length_block : (n : ℕ) (l : List X) → length (print_block fields_of n l) ≡ length l
   unfolding print_block
   length_block n [] = refl
-  length_block n (x ∷ l) = rw (length_block _ l)
+  length_block n (x ∷ l) = ap suc (length_block (suc n) l)
 
   block_clean : ((x : X) → Clean (fields_of x)) → (n : ℕ) (l : List X) (line : List ℕ) → line ∈ print_block fields_of n l
       → Each LineByte line

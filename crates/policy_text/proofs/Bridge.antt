@@ -13,7 +13,7 @@ use Rattle.model.specs.Limits.{most_tables, most_views, most_columns}
 use Rattle.model.specs.Value.{pad, line_value, unused_line, tables_value}
 use Rattle.model.specs.Abstract.{as_line}
 use Rattle.model.proofs.Pad.{pad_take}
-use Rattle.model.proofs.Values.{few_terms, as_line}
+use Rattle.model.proofs.Values.{few_terms, as_line_lem}
 use Rattle.model.proofs.Limits.{up_to_iff}
 use Rattle.policy_text.specs.Text.{load, accepted}
 use Rattle.policy_text.specs.Declared.{Declared}
@@ -40,7 +40,7 @@ unfolding declared_by policy_value tables_value
 stands_for d w =
     let widths = pad_take most_tables 0 d.widths in
     let views = entries_back most_views unused_line line_value as_line d.views
-    (λ A i. as_line A (few_terms d.widths narrow A (w.views.each A i).fits)) in
+    (λ A i. as_line_lem A (few_terms d.widths narrow A (w.views.each A i).fits)) in
     let grants = map (grants_of d.partitions) (up_from 1 most_views) in
     let partitions = made_of (λ k. views_in most_views (granted_at grants k)) [] 0 d.partitions back in
     λ i. record { widths = widths i; views = views i; partitions = sym partitions i }

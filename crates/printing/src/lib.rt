@@ -1,5 +1,7 @@
 // A query's line written to a buffer.
 
+#![tactic(auto)]
+
 ghost use Rattle.std.specs.Prelude.{◌≡◌, ◌+◌, ◌*◌, ◌≤◌, length};
 ghost use Rattle.model.specs.Limits.{most_columns};
 ghost use Rattle.printing.specs.Printing.{most_term_bytes, most_line_bytes, mark_byte, TermPut, TermsPut, LinePut};

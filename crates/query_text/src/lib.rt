@@ -1,5 +1,7 @@
 // Reading a query text under a policy's tables.
 
+#![tactic(auto)]
+
 ghost use Rattle.std.specs.Prelude.{◌≡◌, false, List, [], ℕ, ◌<◌, ◌^◌, length};
 ghost use Rattle.model.specs.Value.{query_value, tables_value};
 ghost use Rattle.model.specs.Limits.{most_lines};

@@ -37,7 +37,7 @@ use Rattle.reduce.proofs.Agree.{Goes, goes_iff, agree_iff, agree_swap}
 use Rattle.reduce.proofs.Assign.{Assigned, assigned_iff}
 use Rattle.model.proofs.Same.{same_term_iff}
 use Rattle.model.proofs.Values.{value_same}
-use Rattle.entering.proofs.Hidden.{hidden_at}
+use Rattle.entering.proofs.HiddenBits.{hidden_at}
 use Rattle.entering.proofs.Left.{in_lines}
 use Rattle.entering.proofs.Lines.{laid_few, small_line}
 use Rattle.reduce.proofs.LaidColumns.{hidden_or_not, goes_same, joint_columns, laid_column}

@@ -34,7 +34,7 @@ use Rattle.reduce.specs.Pairs.{Going, Goings, Candidate, CandidateWord}
 use Rattle.reduce.proofs.Agree.{Goes, goes_iff, agree_iff}
 use Rattle.model.proofs.Same.{same_term_iff}
 use Rattle.model.proofs.Values.{value_same}
-use Rattle.entering.proofs.Hidden.{at_hidden, hidden_at}
+use Rattle.entering.proofs.HiddenBits.{at_hidden, hidden_at}
 use Rattle.entering.proofs.Lines.{laid_few, small_line}
 use Rattle.reduce.proofs.FirstColumns.{first_unique}
 use Rattle.reduce.proofs.LaidColumns.{hidden_or_not, goes_same, joint_columns, laid_column}

@@ -1,5 +1,7 @@
 // Reducing a query: which lines may go.
 
+#![tactic(auto)]
+
 mod assignment;
 mod candidates;
 mod columns;

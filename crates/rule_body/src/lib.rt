@@ -1,5 +1,7 @@
 // The body of a rule, and its head beside the body's names.
 
+#![tactic(auto)]
+
 mod body;
 mod head;
 

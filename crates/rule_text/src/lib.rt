@@ -1,5 +1,7 @@
 // The pieces of a rule: names, terms and atoms. A name is held as a number, its key: it has four bytes at most, and none of them is 0.
 
+#![tactic(auto)]
+
 mod args;
 mod atoms;
 mod names;

@@ -41,21 +41,13 @@ wrote_line query left number line p q s t u v w e =
 abbrev pub reply_line : ℕ → Reply → ℕ → List ℕ
 reply_line query r left = output_line query (said r).word left (said r).number (said r).line
 
--- the reply is the variant of this number
-abbrev Tag : ℕ → Reply → Type 0
-Tag n r = OneOf (n ∷ []) (Declared.tag_of the_type r)
-
-pub line_yes : (query left : ℕ) (r : Reply) → Tag 0 r → output_line query yes left 0 0 ≡ reply_line query r left
+pub line_yes : (query left : ℕ) (r : Reply) {n : ℕ} → r ≡ Yes n → output_line query yes left 0 0 ≡ reply_line query r left
 unfolding said
-line_yes query left (Yes n) t = refl
-line_yes query left (No n) t = absurd (omega arith)
-line_yes query left (Refused n k) t = absurd (omega arith)
+line_yes query left r e = rw e
 
-pub line_no : (query left : ℕ) (r : Reply) → Tag 1 r → output_line query no left 0 0 ≡ reply_line query r left
+pub line_no : (query left : ℕ) (r : Reply) {n : ℕ} → r ≡ No n → output_line query no left 0 0 ≡ reply_line query r left
 unfolding said
-line_no query left (Yes n) t = absurd (omega arith)
-line_no query left (No n) t = refl
-line_no query left (Refused n k) t = absurd (omega arith)
+line_no query left r e = rw e
 
 pub line_refused : (query left : ℕ) (r : Reply) (n k : ℕ) → r ≡ Refused n k → output_line query refused left n k ≡ reply_line query r left
 unfolding said

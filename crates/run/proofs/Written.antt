@@ -1,5 +1,5 @@
 -- What is written for a policy text that loads, and for one that does not.
-use mathlib.Core.Path.{◌≡◌, refl, sym, ap, subst, ◌∙◌}
+use mathlib.Core.Path.{◌≡◌, refl, sym, ap, ◌∙◌}
 use mathlib.Core.List.{List, [], ◌∷◌, ◌++◌, append_assoc}
 use Prim.Native.Nat.{ℕ}
 use native.Mathlib.Omega.{arith}
@@ -12,7 +12,6 @@ use Rattle.policy_text.proofs.Loaded.{loaded_well_formed}
 use Rattle.load.specs.Value.{loading_value}
 use Rattle.load.specs.declared.Loading.{Loading}
 use Rattle.labelling.specs.Text.{LoadedTo}
-use Rattle.labelling.proofs.Readings.{Tag}
 use Rattle.sessions.specs.Reply.{refused}
 use Rattle.sessions.specs.Opening.{all_open}
 use Rattle.writing.specs.Wrote.{Wrote}
@@ -21,15 +20,18 @@ use Rattle.cutting.specs.Cut.{cut}
 use Rattle.run.specs.Output.{output_names, output_line}
 use Rattle.run.specs.Run.{lines_from, under, written}
 
--- ---- how loading ended, by the tag of its outcome
+-- ---- how loading ended, by its outcome
 
-loads : (l : TheLoading) (v : Loading) → v ≡ loading_value l → Tag 0 v.outcome
+loads : (l : TheLoading) (v : Loading) → v ≡ loading_value l → v.outcome ≡ Accepted
     → (d : Declared) × (l ≡ accepted_policy d) × (v.policy ≡ policy_value d)
 unfolding loading_value
-loads (refused_policy n k) v e h = let t : Tag 0 (Refused n k) = subst (λ (w : Loading). Tag 0 w.outcome) e h in absurd (omega arith)
+loads (refused_policy n k) v e h =
+    let same : Refused n k ≡ Accepted = sym (ap (λ (w : Loading). w.outcome) e) ∙ h in
+    let z : ◌≡◌ {A = ℕ} 0 1 = cc in
+    absurd (omega arith)
 loads (accepted_policy d) v e h = (d, refl, ap (λ (w : Loading). w.policy) e)
 
-pub loads_to : (text : List ℕ) (v : Loading) → v ≡ loading_value (load text) → Tag 0 v.outcome
+pub loads_to : (text : List ℕ) (v : Loading) → v ≡ loading_value (load text) → v.outcome ≡ Accepted
     → (d : Declared) × (load text ≡ accepted_policy d) × LoadedTo v.policy d
 loads_to text v e h =
     let (d, a, p) = loads (load text) v e h in

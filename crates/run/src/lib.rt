@@ -1,5 +1,7 @@
 // A run of the desk over a file of queries: from the policy's bytes and the queries' bytes to the bytes written.
 
+#![tactic(auto)]
+
 mod next;
 
 ghost use Rattle.std.specs.Prelude.{◌≡◌, ◌+◌, ◌≤◌, length};

@@ -1,6 +1,6 @@
 -- The lines of a query before a place of an input: none, one more, and the query that they are where the text stops there.
 use mathlib.Core.Path.{◌≡◌, sym, ap, ◌∙◌, subst}
-use mathlib.Core.Bool.{true, false, true≢false}
+use mathlib.Core.Bool.{false, true≢false}
 use mathlib.Core.List.Memᴰ
 use mathlib.Core.List.{List, [], ◌∷◌, ◌++◌, map, map-append, append_assoc}
 use Prim.Native.Nat.{ℕ, ◌+◌, ◌≤◌, ◌<◌}
@@ -9,7 +9,7 @@ use lib.Bits.{bit_or}
 use lib.Dec.{leb→le}
 use lib.ListN.{length, get_or, set, length-append, length-map, get_or-append}
 use lib.Seq.{get_or-append_seam, get_or-set_same}
-use Rattle.theory.specs.Query.{Line, Query, shown, hidden, ◌∈◌, NoClash}
+use Rattle.theory.specs.Query.{Line, Query, shown, ◌∈◌, NoClash}
 use Rattle.theory.proofs.Executable.Test.{all_iff}
 use Rattle.words.specs.Sets.{meet}
 use Rattle.words.proofs.Tests.{meet_iff}

@@ -1,6 +1,8 @@
 // The first query text of an input, read in one pass from its bytes to the rows of its lines. Whatever is not expected ends the pass
 // without a query: the input has then to be cut and read line by line, which tells what turns the text back.
 
+#![tactic(auto)]
+
 mod numbers;
 mod terms;
 

@@ -1,5 +1,7 @@
 // Sessions: opening one under a policy, and what a call that decides in it says and leaves.
 
+#![tactic(auto)]
+
 mod opening;
 mod replies;
 

@@ -1,5 +1,7 @@
 // Whether a policy value is one that some text loads to.
 
+#![tactic(auto)]
+
 ghost use Rattle.std.specs.Prelude.{◌≡◌, ◌↔◌, true, List, ℕ, ◌≤◌};
 ghost use Rattle.model.specs.Limits.{most_tables, most_views, most_partitions};
 ghost use Rattle.model.specs.Value.{unused_term};

@@ -2,6 +2,8 @@
 // Lines are laid in rows as the desk lays them; an archive is rows of nine numbers. For people who look at archives, and for tests: no
 // label and no reduced query is used here.
 
+#![tactic(auto)]
+
 mod answers;
 mod judging;
 mod valuation;

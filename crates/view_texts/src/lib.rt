@@ -1,5 +1,7 @@
 // Views by their numbers, and their own text as in the policy below them.
 
+#![tactic(auto)]
+
 ghost use Rattle.std.specs.Prelude.{◌≡◌, ◌+◌, ◌*◌, ◌≤◌, length};
 ghost use Rattle.view_texts.specs.ViewTexts.{most_view_text, most_list, most_title, InRange, ViewPut, ViewsPut, ListPut};
 

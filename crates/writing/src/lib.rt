@@ -1,5 +1,7 @@
 // Bytes and numerals written to a buffer, one behind the other: each function takes the place to write at and gives the next.
 
+#![tactic(auto)]
+
 ghost use Rattle.std.specs.Prelude.{◌≡◌, [], ◌∷◌, ◌++◌, ◌+◌, ◌≤◌, ◌<◌, length, set};
 ghost use Rattle.text.specs.Print.{decimal};
 ghost use Rattle.writing.specs.Wrote.{most_field_bytes, Wrote};

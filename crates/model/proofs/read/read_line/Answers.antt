@@ -2,10 +2,10 @@
 use mathlib.Core.Path.{sym, ◌∙◌}
 use Prim.Native.Nat.{◌<◌}
 use native.Mathlib.Omega.{arith}
+use borrow.Author.Tests.{not-true, not-false}
 use lib.ListN.{length}
 use Rattle.text.specs.Lines.{space}
 use Rattle.text.proofs.Parts.{first_length, first_inside}
-use Rattle.model.proofs.Tags.{tag_formed}
 use Rattle.model.proofs.LineRead.{LineRead, line_alone, line_unnumbered, line_read, line_malformed, line_table_past, line_terms_past, line_within_lem}
 use Rattle.model.proofs.read.read_line.Goals as goal
 use Rattle.model.proofs.read.read_line.Goals.{After-read_terms-p, In_default}
@@ -21,7 +21,7 @@ returns-in-Malformed c =
     let d = c in
     c.blank-in-Malformed.ensures
     ∙ line_unnumbered _ d.first-n.ensures d.if-n-s.false d.read_numeral-number.ensures
-    c.enum_told-1.given.1
+    c.in-Malformed.is
 
 -- terms follow the first space
 parted : (c : In_default) →
@@ -47,24 +47,24 @@ whole c =
     line_read _ t.first-n.ensures t.if-n-s.false d.read_numeral-number.ensures c.read_terms-p.ensures
 
 pub returns-then-not-p : goal.returns-then-not-p
-returns-then-not-p c = line_malformed (whole (goal.at.returns-then-not-p c).After-read_terms-p) c.if-not-p.true
+returns-then-not-p c = line_malformed (whole (goal.at.returns-then-not-p c).After-read_terms-p) (not-true _ c.if-not-p.true)
 
 pub returns-then-table-eq0 : goal.returns-then-table-eq0
 returns-then-table-eq0 c =
     let d = c in
     let r = d in
     c.blank-then-table-eq0.ensures
-    ∙ line_table_past (whole (goal.at.returns-then-table-eq0 c).After-read_terms-p) d.if-not-p.false (tag_formed _ r.in-Malformed.keys2)
-    c.up_to_lem.ensures c.if-table-eq0.true
+    ∙ line_table_past (whole (goal.at.returns-then-table-eq0 c).After-read_terms-p) (not-false _ d.if-not-p.false) c.in_default.not-Malformed
+    c.up_to-table.ensures c.if-table-eq0.true
 
 pub returns-then-p : goal.returns-then-p
 returns-then-p c =
     let d = c in
-    line_terms_past (whole (goal.at.returns-then-p c).After-read_terms-p) d.if-not-p.false c.up_to_lem.ensures c.if-table-eq0.false
+    line_terms_past (whole (goal.at.returns-then-p c).After-read_terms-p) (not-false _ d.if-not-p.false) c.up_to-table.ensures c.if-table-eq0.false
     c.if-p.true
 
 pub returns : goal.returns
 returns c =
     let d = c in
-    line_within_lem (whole (goal.at.returns c).After-read_terms-p) d.if-not-p.false c.up_to_lem.ensures c.if-table-eq0.false
+    line_within_lem (whole (goal.at.returns c).After-read_terms-p) (not-false _ d.if-not-p.false) c.up_to-table.ensures c.if-table-eq0.false
     c.if-p.false

@@ -29,17 +29,17 @@ by_mark c =
     ∙ marked_read f (omega arith) (λ e. c.if-mark-eq0.false (m ∙ e))
 
 pub returns-in-Malformed : goal.returns-in-Malformed
-returns-in-Malformed c = ap (marked _) (sym c.enum_told-1.given.1) ∙ by_mark (goal.at.returns-in-Malformed c).After-read_numeral
+returns-in-Malformed c = ap (marked _) (sym c.in-Malformed.is) ∙ by_mark (goal.at.returns-in-Malformed c).After-read_numeral
 
 pub returns-in-Large : goal.returns-in-Large
-returns-in-Large c = ap (marked _) (sym c.enum_told-in-Large-1.given.1) ∙ by_mark (goal.at.returns-in-Large c).After-read_numeral
+returns-in-Large c = ap (marked _) (sym c.in-Large.is) ∙ by_mark (goal.at.returns-in-Large c).After-read_numeral
 
 pub returns-then-within : goal.returns-then-within
 returns-then-within c =
     value_within _ _ (sym c.within.ensures ∙ c.if-within.true)
-    ∙ ap (marked _) (sym c.n-1.given.1) ∙ by_mark (goal.at.returns-then-within c).After-read_numeral
+    ∙ ap (marked _) (sym c.in-Value.is) ∙ by_mark (goal.at.returns-then-within c).After-read_numeral
 
 pub returns-else-within : goal.returns-else-within
 returns-else-within c =
     value_outside _ _ (sym c.within.ensures ∙ c.if-within.false)
-    ∙ ap (marked _) (sym c.n-1.given.1) ∙ by_mark (goal.at.returns-else-within c).After-read_numeral
+    ∙ ap (marked _) (sym c.in-Value.is) ∙ by_mark (goal.at.returns-else-within c).After-read_numeral

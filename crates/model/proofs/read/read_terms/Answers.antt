@@ -1,5 +1,4 @@
 use mathlib.Core.Path.{sym, ◌∙◌}
-use mathlib.Core.Logic.{⊎_elim}
 use Prim.Native.Nat.{◌-◌}
 use native.Mathlib.Omega.{arith}
 use lib.ListN.{length, take, drop}
@@ -8,7 +7,7 @@ use Rattle.text.proofs.Parts.{first_length}
 use Rattle.text.proofs.PartsFrom.{part_at, part_room}
 use Rattle.model.proofs.TermsRead.{NextTerm, no_terms, next_malformed, next_outside, next_small, next_within, all_outside, all_within}
 use Rattle.model.proofs.read.read_terms.Goals as goal
-use Rattle.model.proofs.read.read_terms.Goals.{After-first-n}
+use Rattle.model.proofs.read.read_terms.Goals.{in-Outside, in-Within, After-first-n}
 
 pub loop-at-init : goal.loop-at-init
 loop-at-init c = no_terms _ _ c.blank-p.ensures
@@ -28,16 +27,17 @@ next c =
 pub returns-in-Malformed : goal.returns-in-Malformed
 returns-in-Malformed c =
     let f = c in
-    c.blank.ensures ∙ next_malformed (next (goal.at.returns-in-Malformed c).After-first-n) (sym c.enum_told-1.given.1 ∙ f.read_term.ensures)
+    c.blank.ensures ∙ next_malformed (next (goal.at.returns-in-Malformed c).After-first-n) (sym c.in-Malformed.is ∙ f.read_term.ensures)
 
 pub with_term-p-requires : goal.with_term-p-requires
 with_term-p-requires c =
     let f = c in
     let x = next (goal.at.with_term-p-requires c).After-first-n in
-    let l = f in (
-      omega (arith, l.loop-at.invariant.few, x.here.inside, l.requires),
-      next_small x (sym c.t-1.given.1 ∙ f.read_term.ensures),
-    )
+    let l = f in
+    record {
+      count_bound = omega (arith, l.loop-at.invariant.few, x.here.inside, l.requires);
+      number_le_last_variable = next_small x (sym c.in-Within.is ∙ f.read_term.ensures);
+    }
 
 pub overflow_add-at : goal.overflow_add-at
 overflow_add-at c = omega (arith, part_room (next (goal.at.overflow_add-at c).After-first-n).here)
@@ -52,10 +52,10 @@ pub loop-at-preserved : goal.loop-at-preserved
 loop-at-preserved c =
     let x = next (goal.at.loop-at-preserved c).After-first-n in
     let few = c.loop-at.invariant.few in
-    ⊎_elim
-    (λ w. rw (w.2, w.3) (next_outside x (sym w.1.given.1 ∙ c.read_term.ensures) few))
-    (λ w. rw (w.4, w.5) (next_within x (sym w.1.given.1 ∙ c.read_term.ensures) few w.3.ensures))
-    c.in-Malformed.branch
+    elim c.match-read_term.branch [
+      | in-Outside w ↦ rw (w.p-is, w.outside-is) (next_outside x (sym w.in-Outside.is ∙ c.read_term.ensures) few)
+      | in-Within w ↦ rw (w.p-is, w.outside-is) (next_within x (sym w.in-Within.is ∙ c.read_term.ensures) few w.with_term-p.ensures)
+    ]
 
 pub returns-then-outside : goal.returns-then-outside
 returns-then-outside c =

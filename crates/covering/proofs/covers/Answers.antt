@@ -1,0 +1,101 @@
+use mathlib.Core.Path.{◌≡◌, refl, sym, ◌∙◌}
+use mathlib.Core.Bool.{true}
+use Prim.Native.Nat.{◌<◌}
+use native.Mathlib.Omega.{arith}
+use borrow.Author.Count.{below_none, below_more}
+use Rattle.theory.specs.Query.{Line as TheLine}
+use Rattle.theory.specs.Cover.{at}
+use Rattle.words.proofs.Bits.{bit_within}
+use Rattle.covering.proofs.Columns.{Wide, wide, rule, column, passed_none, passed_row, passed_done, broken}
+use Rattle.covering.proofs.covers.Goals as goal
+use Rattle.covering.proofs.covers.Goals.{After-least-p, After-obeys}
+
+pub columns-init : goal.columns-init
+columns-init c = (refl, passed_none c.requires.0)
+
+pub least-p-requires : goal.least-p-requires
+least-p-requires c = omega arith
+
+-- a bound column is a column
+inside : (c : After-least-p)
+    → c.least-p.result < c.args.width
+inside c = bit_within _ _ c.columns.invariant.1.below c.least-p.ensures.set
+
+pub term_at-x-requires : goal.term_at-x-requires
+term_at-x-requires c = (omega arith, omega (arith, inside c))
+
+pub term_at-y-requires : goal.term_at-y-requires
+term_at-y-requires c = (omega arith, omega (arith, inside (goal.at.term_at-y-requires c).After-least-p))
+
+pub loop-q-init : goal.loop-q-init
+loop-q-init c = (c.columns.invariant.0, omega arith, below_none _)
+
+pub term_at-xq-requires : goal.term_at-xq-requires
+term_at-xq-requires c = (omega arith, omega arith)
+
+pub term_at-yq-requires : goal.term_at-yq-requires
+term_at-yq-requires c = (omega arith, omega arith)
+
+-- what the rules answer at the two columns
+answer : (c : After-obeys) (view line : TheLine)
+    → (let inner = c in
+    let found = inner in
+    let r = found.args in
+    Wide r.width r.views.now r.v view → Wide r.width r.lines.now r.a line
+    → c.obeys.result ≡ rule view line found.least-p.result inner.loop-q.q)
+answer c view line v a =
+    let inner = c in
+    let found = inner in
+    let few = found.requires.1 in
+    let p = found.least-p.result in
+    let q = inner.loop-q.q in
+    let p_in = inside (goal.at.After-obeys c).After-least-p in
+    let q_in = inner.loop-q-test.true in
+    let x = inner.term_at-x.ensures ∙ column few v p p_in in
+    let y = inner.term_at-y.ensures ∙ column few a p p_in in
+    let xq = c.term_at-xq.ensures ∙ column few v q q_in in
+    let yq = c.term_at-yq.ensures ∙ column few a q q_in in
+    c.obeys.ensures (at view p) (at view q) (at line p) (at line q) x xq y yq
+
+pub overflow_add-q : goal.overflow_add-q
+overflow_add-q c = omega arith
+
+pub loop-q-smaller : goal.loop-q-smaller
+loop-q-smaller c = omega arith
+
+pub loop-q-preserved : goal.loop-q-preserved
+loop-q-preserved c =
+    let inv = c.loop-q.invariant in (
+      inv.0,
+      omega arith,
+      below_more _ _ inv.2 (λ view line v a. sym (answer (goal.at.loop-q-preserved c).After-obeys view line v a) ∙ c.if-not-obeys.false),
+    )
+
+pub drop_least-rest-requires : goal.drop_least-rest-requires
+drop_least-rest-requires c = omega arith
+
+pub columns-smaller : goal.columns-smaller
+columns-smaller c = c.drop_least-rest.ensures.less
+
+pub columns-preserved : goal.columns-preserved
+columns-preserved c =
+    let inner = c in
+    let found = inner in (
+      inner.loop-q.invariant.0,
+      passed_row found.columns.invariant.1 found.least-p.ensures c.drop_least-rest.ensures
+          (λ j l. inner.loop-q.invariant.2 j (omega (arith, l, c.loop-q-test.false))),
+    )
+
+pub returns-after-columns : goal.returns-after-columns
+returns-after-columns c view line ev ea t wv wa free =
+    let inv = c.columns.invariant in
+    inv.0
+    ∙ passed_done view line (wide ev wv) (wide ea wa) inv.1 c.columns-test.false c.requires.1 free t
+
+pub returns-then-not-obeys : goal.returns-then-not-obeys
+returns-then-not-obeys c view line ev ea t wv wa free =
+    let v = wide ev wv in
+    let a = wide ea wa in
+    let inner = c in
+    broken view line v a _ _ (inside (goal.at.returns-then-not-obeys c).After-least-p) inner.loop-q-test.true
+    (sym (answer (goal.at.returns-then-not-obeys c).After-obeys view line v a) ∙ c.if-not-obeys.true) t

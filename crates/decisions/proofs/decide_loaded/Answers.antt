@@ -1,0 +1,59 @@
+-- `decide_loaded`: 9, what the text is turned back for, or what `answer_rows` says of its query.
+use mathlib.Core.Path.{◌≡◌, sym, subst, ◌∙◌}
+use borrow.Author.Rules.{rules}
+use Rattle.theory.specs.Query.{Query}
+use Rattle.query_text.specs.Text.{read, accepted}
+use Rattle.policy_text.specs.Declared.{Declared}
+use Rattle.labelling.specs.Posed.{Ready, Posed}
+use Rattle.labelling.proofs.Readings.{read_accepted, reading_refused}
+use Rattle.labelling.proofs.Posing.{posed, posed_few, posed_rows}
+use Rattle.sessions.specs.Deciding.{Gives}
+use Rattle.decisions.proofs.Decides.{unfit_is, under_unfit, under_refused, under_accepted}
+use Rattle.decisions.proofs.decide_loaded.Goals as goal
+use Rattle.decisions.proofs.decide_loaded.Goals.{After-q-1}
+
+pub returns-then-unfit : goal.returns-then-unfit
+returns-then-unfit c = λ d ready.
+    let every = c.every_partition-every.ensures in
+    let unfit = sym (unfit_is ready every _ c.unfit.ensures) ∙ c.if-unfit.true in
+    subst (Gives _) (sym (under_unfit d _ _ unfit)) c.refused.ensures
+
+-- the query that the text reads to
+posed_query : (c : After-q-1) {d : Declared}
+    → (let start = c in
+    Ready d start.args.tables start.args.ready.now
+    → (Q : Query) × (read d.widths start.args.text.now ≡ accepted Q) × Posed c.read_query-r.result.query d Q)
+posed_query c {d} ready =
+    let r = c.read_query-r in
+    let reads = r.ensures d.widths ready.tables_are in
+    let (Q, e, o, q) = read_accepted (read d.widths _) r.result reads c.in-Accepted.is in
+    (Q, e, posed d _ Q ready.good e q)
+
+pub query_rows-lines-requires : goal.query_rows-lines-requires
+query_rows-lines-requires c =
+    let (d, ready) = c.requires in posed_few (posed_query c ready).2
+
+pub answer_rows-requires : goal.answer_rows-requires
+answer_rows-requires c =
+    let q = c in
+    let (d, ready) = q.requires in
+    let (Q, e, g) = posed_query (goal.at.answer_rows-requires c).After-q-1 ready in
+    ((d, _, Q, ready, posed_rows g (c.query_rows-lines.ensures Q g.query)), search rules)
+
+pub returns-in-Refused : goal.returns-in-Refused
+returns-in-Refused c = λ d ready.
+    let r = c in
+    let i = r in
+    let fit = sym (unfit_is ready i.every_partition-every.ensures _ i.unfit.ensures) ∙ i.if-unfit.false in
+    let reads = r.read_query-r.ensures d.widths ready.tables_are in
+    let e = reading_refused (read d.widths _) r.read_query-r.result _ _ reads c.in-Refused.is in
+    subst (Gives _) (sym (under_refused d _ _ _ _ fit e)) c.refused-in-Refused.ensures
+
+pub returns-in-Accepted : goal.returns-in-Accepted
+returns-in-Accepted c = λ d ready.
+    let q = c in
+    let i = q in
+    let fit = sym (unfit_is ready i.every_partition-every.ensures _ i.unfit.ensures) ∙ i.if-unfit.false in
+    let (Q, e, g) = posed_query (goal.at.returns-in-Accepted c).After-q-1 ready in
+    subst (Gives _) (sym (under_accepted d _ _ Q fit e))
+    (c.answer_rows.ensures.rows_answered d _ Q ready (posed_rows g (c.query_rows-lines.ensures Q g.query)))

@@ -1,0 +1,10 @@
+-- `exceeds_lacking`: the two tests, one after the other.
+use mathlib.Core.Path.{ap}
+use mathlib.Core.Bool.{not}
+use Rattle.explain.proofs.exceeds_lacking.Goals as goal
+
+pub returns-then-not-meets : goal.returns-then-not-meets
+returns-then-not-meets c = rw (← c.meets.ensures, (ap not c.if-not-meets.true)) c.exceeds.ensures
+
+pub returns-else-not-meets : goal.returns-else-not-meets
+returns-else-not-meets c = rw (← c.meets.ensures, (ap not c.if-not-meets.false))

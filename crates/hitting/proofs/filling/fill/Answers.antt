@@ -1,0 +1,49 @@
+use mathlib.Core.Path.{◌≡◌, subst}
+use Prim.Native.Nat.{◌+◌, ◌<◌}
+use native.Mathlib.Omega.{arith}
+use Rattle.hitting.specs.Table.{sets, Filled}
+use Rattle.hitting.proofs.LeastWeight.{filled_more}
+use Rattle.hitting.proofs.Lightest.{few_sets}
+use Rattle.hitting.proofs.filling.fill.Goals as goal
+use Rattle.hitting.proofs.filling.fill.Goals.{After-least_weight}
+
+pub loop-m-init : goal.loop-m-init
+loop-m-init c = (omega arith, omega arith, c.requires.1)
+
+pub least_weight-requires : goal.least_weight-requires
+least_weight-requires c =
+    let at = c in
+    let (k, searched, below) = at.requires.0 in
+    ((k, searched, omega (arith, below, c.loop-m-test.true)), at.loop-m.invariant.2, omega (arith, at.loop-m.invariant.0))
+
+-- a set of at most eight labels
+few : (c : After-least_weight) → c.loop-m.m < sets
+few c =
+    let at = c in
+    let (k, searched, below) = at.requires.0 in
+    few_sets _ _ _ searched (omega (arith, below, at.loop-m-test.true))
+
+pub offset_bounds-table-m : goal.offset_bounds-table-m
+offset_bounds-table-m c = omega (arith, few c)
+
+pub bounds-table-m : goal.bounds-table-m
+bounds-table-m c = few (goal.at.bounds-table-m c).After-least_weight
+
+pub overflow_add-m : goal.overflow_add-m
+overflow_add-m c = omega (arith, few (goal.at.overflow_add-m c).After-least_weight)
+
+pub loop-m-smaller : goal.loop-m-smaller
+loop-m-smaller c = omega (arith, c.loop-m-test.true)
+
+pub loop-m-preserved : goal.loop-m-preserved
+loop-m-preserved c =
+    let at = c in
+    let (light, bound) = c.least_weight.ensures in
+    (omega arith, omega (arith, at.loop-m-test.true), filled_more _ _ _ (few (goal.at.loop-m-preserved c).After-least_weight) at.loop-m.invariant.2 light bound)
+
+pub returns : goal.returns
+returns c =
+    let at = c.loop-m in
+    let a = c.args in
+    let all : at.m ≡ a.full + 1 = omega (arith, at.invariant.1, c.loop-m-test.false) in
+    subst (Filled a.hits.now a.costs.now at.table) all at.invariant.2

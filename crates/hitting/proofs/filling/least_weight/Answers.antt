@@ -1,0 +1,36 @@
+use mathlib.Core.Path.{◌≡◌, sym, ap, subst, ◌∙◌}
+use Prim.Native.Nat.{ℕ, ◌+◌, min}
+use native.Mathlib.Omega.{arith}
+use Rattle.model.specs.Limits.{most_views}
+use Rattle.hitting.proofs.LeastWeight.{weighed, LeastTo, least_none, least_more, least_all}
+use Rattle.hitting.proofs.filling.least_weight.Goals as goal
+
+pub loop-v-init : goal.loop-v-init
+loop-v-init c = let a = c.args in (omega arith, least_none a.hits.now a.costs.now a.table.now a.m)
+
+pub weight_with-requires : goal.weight_with-requires
+weight_with-requires c =
+    let (set, filled, some) = c.requires in weighed _ _ _ set filled c.loop-v-test.true
+
+pub loop-v-smaller : goal.loop-v-smaller
+loop-v-smaller c = omega (arith, c.loop-v-test.true)
+
+pub loop-v-preserved : goal.loop-v-preserved
+loop-v-preserved c =
+    let w = c in
+    let at = w in
+    let (set, filled, some) = at.requires in (
+      omega (arith, at.loop-v-test.true),
+      subst (LeastTo _ _ _ _ (at.loop-v.v + 1))
+          (sym (c.lesser-least.ensures ∙ ap (min at.loop-v.least) w.weight_with.ensures))
+          (least_more _ _ _ _ set filled at.loop-v-test.true at.loop-v.invariant.1),
+    )
+
+pub returns : goal.returns
+returns c =
+    let at = c.loop-v in
+    let (set, filled, some) = c.requires in
+    let a = c.args in
+    let all : at.v ≡ most_views = omega (arith, at.invariant.0, c.loop-v-test.false) in
+    least_all _ _ _ _ set filled some
+    (subst (λ (v : ℕ). LeastTo a.hits.now a.costs.now a.table.now a.m v at.least) all at.invariant.1)

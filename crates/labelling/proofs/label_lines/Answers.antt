@@ -1,0 +1,79 @@
+use mathlib.Core.Path.{◌≡◌, sym, ◌∙◌}
+use mathlib.Core.Bool.{true}
+use Prim.Native.Nat.{◌<◌}
+use native.Mathlib.Omega.{arith}
+use lib.ListN.{length}
+use Rattle.words.specs.Bits.{is_set}
+use Rattle.model.specs.Limits.{most_lines}
+use Rattle.model.specs.Value.{pad}
+use Rattle.entering.specs.Left.{pick}
+use Rattle.labelling.proofs.Lines.{line_tabled, line_labelled, answering, some_line, shown_line}
+use Rattle.labelling.proofs.Written.{written_none, written_more, written_same, written_all}
+use Rattle.labelling.proofs.label_lines.Goals as goal
+use Rattle.labelling.proofs.label_lines.Goals.{In-loop-i, else-has_bit, then-has_bit}
+
+pub every_partition-settling-requires : goal.every_partition-settling-requires
+every_partition-settling-requires c = let (d, t, Q, w, ready, e, rows) = c.requires.0 in ready.long
+
+pub loop-i-init : goal.loop-i-init
+unfolding pick pad
+loop-i-init c =
+    (omega arith, omega arith, λ d t Q w ready e rows word. written_none _ _ ready c.every_partition-settling.ensures)
+
+-- the query that was given has at most eight lines
+room : (c : In-loop-i) → c.loop-i.i < most_lines
+room c =
+    let (d, t, Q, w, ready, e, rows) = c.requires.0 in omega (arith, c.loop-i-test.true, e, rows.lines)
+
+pub has_bit-requires : goal.has_bit-requires
+has_bit-requires c = omega (arith, room c)
+
+pub label_line-l-requires : goal.label_line-l-requires
+label_line-l-requires c =
+    let s = c in
+    let start = s in
+    let (d, t, Q, w, ready, e, rows) = start.requires.0 in
+    let h : s.loop-i.i < length Q = rw e s.loop-i-test.true in
+    record {
+      ready_len = (ready.long, start.requires.1, omega (arith, room (goal.at.label_line-l-requires c).In-loop-i));
+      tabled = line_tabled ready (some_line rows s.loop-i.i h);
+    }
+
+pub offset_bounds-words-count : goal.offset_bounds-words-count
+offset_bounds-words-count c = omega (arith, room (goal.at.offset_bounds-words-count c).In-loop-i)
+
+pub bounds-words-count : goal.bounds-words-count
+bounds-words-count c = omega (arith, room (goal.at.bounds-words-count c).In-loop-i)
+
+pub overflow_add-count : goal.overflow_add-count
+overflow_add-count c = omega (arith, room (goal.at.overflow_add-count c).In-loop-i)
+
+pub overflow_add-i : goal.overflow_add-i
+overflow_add-i c = omega (arith, room (goal.at.overflow_add-i c).In-loop-i)
+
+pub loop-i-smaller : goal.loop-i-smaller
+loop-i-smaller c = omega (arith, c.loop-i-test.true)
+
+pub loop-i-preserved : goal.loop-i-preserved
+loop-i-preserved c =
+    let s = c in
+    let at = s.loop-i in
+    let args = s.args in
+    let bit = c.has_bit.ensures in (
+      omega arith,
+      elim c.if-has_bit.branch [ then-has_bit x ↦ rw x.count-is (omega arith) | else-has_bit x ↦ rw x.count-is (omega arith) ],
+      λ d t Q w ready e rows word.
+          let h : at.i < length Q = rw e s.loop-i-test.true in
+          let before = at.invariant.2 d t Q w ready e rows word in
+          elim c.if-has_bit.branch [
+            | then-has_bit x ↦ let there : is_set args.left at.i ≡ true = sym bit ∙ x.if-has_bit.true in
+                let (is, reached) = x.label_line-l.ensures d.views _ (line_labelled ready (shown_line rows at.i h args.left word there)) in
+                rw (x.words-is, x.count-is, x.settling-is)
+                (written_more args.left Q at.i before h there (omega (arith, room (goal.at.loop-i-preserved c).In-loop-i)) _ is (answering ready reached))
+            | else-has_bit x ↦ rw (x.words-is, x.count-is, x.settling-is) (written_same args.left Q at.i before h (sym bit ∙ x.if-has_bit.false))
+          ],
+    )
+
+pub returns : goal.returns
+returns c = λ d t Q w ready e rows word.
+    written_all d _ Q c.loop-i.i _ _ _ (rw e c.loop-i-test.false) (c.loop-i.invariant.2 d t Q w ready e rows word)

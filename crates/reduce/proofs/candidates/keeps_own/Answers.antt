@@ -1,0 +1,58 @@
+use mathlib.Core.Path.{◌≡◌}
+use native.Mathlib.Omega.{arith}
+use Rattle.words.proofs.Answers.{yes_iff, no_iff}
+use Rattle.model.specs.Limits.{most_columns}
+use Rattle.reduce.proofs.OwnTerms.{own_none, own_skipped, own_passed, own_failed, own_all}
+use mathlib.Core.Path.{ap}
+use mathlib.Core.Bool.{not}
+use Rattle.reduce.proofs.candidates.keeps_own.Goals as goal
+use Rattle.reduce.proofs.candidates.keeps_own.Goals.{else-is_shared, then-is_shared+else-not-same_term}
+
+pub loop-p-init : goal.loop-p-init
+loop-p-init c = (omega arith, own_none _ _ _ _)
+
+pub term_at-x-requires : goal.term_at-x-requires
+term_at-x-requires c = (omega arith, omega arith)
+
+pub column_of-q-requires : goal.column_of-q-requires
+column_of-q-requires c = (omega arith, omega arith)
+
+pub term_at-requires : goal.term_at-requires
+term_at-requires c = (omega arith, omega arith)
+
+pub term_at-requires-then-is_shared : goal.term_at-requires-then-is_shared
+term_at-requires-then-is_shared c = (omega arith, omega (arith, c.column_of-q.ensures.below))
+
+pub returns-then-not-same_term : goal.returns-then-not-same_term
+returns-then-not-same_term c =
+    let same = c in
+    let column = same in
+    let shared = column in
+    let test = shared in
+    no_iff
+    (own_failed _ _ _ _ test.loop-p.p shared.is_shared.result shared.term_at-x.ensures shared.is_shared.ensures
+    same.same_term.result column.column_of-q.ensures same.term_at.ensures same.term_at-then-is_shared.ensures
+    same.same_term.ensures test.loop-p-test.true column.if-is_shared.true (ap not c.if-not-same_term.true))
+
+pub overflow_add-p : goal.overflow_add-p
+overflow_add-p c = omega arith
+
+pub loop-p-smaller : goal.loop-p-smaller
+loop-p-smaller c = omega arith
+
+pub loop-p-preserved : goal.loop-p-preserved
+loop-p-preserved c =
+    let shared = c in
+    let at = shared.loop-p in
+    let read = shared.term_at-x.ensures in
+    let test = shared.is_shared in (
+      omega arith,
+      elim c.if-is_shared.branch [
+        | then-is_shared+else-not-same_term w ↦ own_passed _ _ _ _ at.p test.result read test.ensures w.same_term.result w.column_of-q.ensures w.term_at.ensures
+            w.term_at-then-is_shared.ensures w.same_term.ensures (ap not w.if-not-same_term.false) at.invariant.1
+        | else-is_shared w ↦ own_skipped _ _ _ _ at.p test.result read test.ensures w.if-is_shared.false at.invariant.1
+      ],
+    )
+
+pub returns : goal.returns
+returns c = let e : c.loop-p.p ≡ most_columns = omega arith in yes_iff (own_all _ _ _ _ (rw e at c.loop-p.invariant.1))

@@ -1,0 +1,93 @@
+use Prim.Native.Nat.{◌-◌, ◌^◌, ◌<◌}
+use native.Mathlib.Omega.{arith}
+use Rattle.words.proofs.Bits.{bit_within}
+use Rattle.words.proofs.ClearBits.{low_bits_below}
+use Rattle.model.specs.Limits.{most_lines}
+use Rattle.reduce.specs.Links.{LineBits}
+use Rattle.reduce.proofs.Passes.{folds_all, lines_below, cleared}
+use Rattle.reduce.proofs.GoingAlone.{folds_alone}
+use Rattle.reduce.proofs.folding.fold.Goals as goal
+use Rattle.reduce.proofs.folding.fold.Goals.{After-clear_bit-rest}
+
+pub low_bits-rows-requires : goal.low_bits-rows-requires
+low_bits-rows-requires c = omega arith
+
+pub loop-i-init : goal.loop-i-init
+loop-i-init c =
+    let n = c.args.n in (
+      omega arith,
+      rw c.low_bits-rows.ensures (low_bits_below n n (omega arith)),
+      λ Q g m. rw c.low_bits-rows.ensures (folds_all Q n g.count),
+    )
+
+pub overflow_sub-i : goal.overflow_sub-i
+overflow_sub-i c = omega arith
+
+pub clear_bit-rest-requires : goal.clear_bit-rest-requires
+clear_bit-rest-requires c = omega arith
+
+-- the lines but for line i
+rest_small : (c : After-clear_bit-rest)
+    → c.clear_bit-rest.result < 2 ^ c.args.n
+rest_small c =
+    let at = c in cleared at.args.n _ _ c.clear_bit-rest.ensures at.loop-i.invariant.1
+
+rest_lines : (c : After-clear_bit-rest) → LineBits c.clear_bit-rest.result
+rest_lines c i e =
+    let s = c in
+    bit_within most_lines i (lines_below (rest_small c) s.requires.0) e
+
+pub row_of-targets-requires : goal.row_of-targets-requires
+row_of-targets-requires c =
+    let s = c in (omega arith, lines_below (rest_small c) s.requires.0)
+
+pub variables-requires : goal.variables-requires
+variables-requires c = let rest = c in (omega arith, rest_lines (goal.at.variables-requires c).After-clear_bit-rest)
+
+pub goes_alone-requires : goal.goes_alone-requires
+goes_alone-requires c =
+    let row = c in
+    (omega arith, omega arith, λ b e. rest_lines (goal.at.goes_alone-requires c).After-clear_bit-rest b (row.row_of-targets.ensures.some b e).0)
+
+pub loop-i-smaller-then-goes_alone : goal.loop-i-smaller-then-goes_alone
+loop-i-smaller-then-goes_alone c = omega arith
+
+pub loop-i-preserved-then-goes_alone : goal.loop-i-preserved-then-goes_alone
+loop-i-preserved-then-goes_alone c =
+    let variables = c in
+    let row = variables in
+    let rest = row in
+    let at = rest in
+    let s = at in
+    let small = rest_small (goal.at.loop-i-preserved-then-goes_alone c).After-clear_bit-rest in (
+      omega arith,
+      small,
+      λ Q g m.
+          let alone = c.goes_alone.ensures c.if-goes_alone.true in
+          let b = alone.target in
+          let (allowed, candidate) = row.row_of-targets.ensures.some b alone.among in
+          rw rest.clear_bit-rest.ensures
+          (folds_alone g (at.loop-i.i - 1) b at.loop-i.rows variables.variables.result (omega (arith, g.count))
+          (rw g.count (bit_within s.args.n b small allowed)) (rw rest.clear_bit-rest.ensures at allowed) ((m _).0 candidate)
+          alone.keeps (rw rest.clear_bit-rest.ensures at variables.variables.ensures) (at.loop-i.invariant.2 Q g m)),
+    )
+
+pub loop-i-smaller-else-goes_alone : goal.loop-i-smaller-else-goes_alone
+loop-i-smaller-else-goes_alone c = omega arith
+
+pub loop-i-preserved-else-goes_alone : goal.loop-i-preserved-else-goes_alone
+loop-i-preserved-else-goes_alone c =
+    let at = c.loop-i in (omega arith, at.invariant.1, at.invariant.2)
+
+pub loop-i-smaller : goal.loop-i-smaller
+loop-i-smaller c = omega arith
+
+pub loop-i-preserved : goal.loop-i-preserved
+loop-i-preserved c = let at = c.loop-i in (omega arith, at.invariant.1, at.invariant.2)
+
+pub returns : goal.returns
+returns c =
+    record {
+      upper_bound = c.loop-i.invariant.1;
+      folds = c.loop-i.invariant.2;
+    }

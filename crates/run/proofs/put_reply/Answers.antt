@@ -1,0 +1,28 @@
+-- The line of each kind of reply.
+use mathlib.Core.Path.{refl}
+use Rattle.sessions.specs.Reply.{yes, no, refused}
+use Rattle.run.specs.Output.{word_bytes}
+use Rattle.writing.proofs.Wrote.{wrote_as}
+use Rattle.run.proofs.Line.{line_yes, line_no, line_refused}
+use Rattle.run.proofs.put_reply.Goals as goal
+
+pub returns-in-Yes : goal.returns-in-Yes
+unfolding word_bytes
+returns-in-Yes c =
+    let r = c in
+    let m = r in
+    (wrote_as (line_yes _ _ _ m.in-Yes.is) (r.put_line.ensures.line_written yes refl), r.put_line.ensures.out_len_unchanged.1)
+
+pub returns-in-No : goal.returns-in-No
+unfolding word_bytes
+returns-in-No c =
+    let r = c in
+    let m = r in
+    (wrote_as (line_no _ _ _ m.in-No.is) (r.put_line-in-No.ensures.line_written no refl), r.put_line-in-No.ensures.out_len_unchanged.1)
+
+pub returns-in-Refused : goal.returns-in-Refused
+unfolding word_bytes
+returns-in-Refused c =
+    let r = c in
+    let m = r in
+    (wrote_as (line_refused _ _ _ _ _ m.in-Refused.is) (r.put_line-in-Refused.ensures.line_written refused refl), r.put_line-in-Refused.ensures.out_len_unchanged.1)

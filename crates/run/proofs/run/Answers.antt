@@ -1,0 +1,82 @@
+-- `run`: the names line; then the refusal of the policy, or the lines of the queries.
+use mathlib.Core.Path.{◌≡◌, refl}
+use Prim.Native.Nat.{◌≤◌}
+use native.Mathlib.Omega.{arith}
+use lib.ListN.{length}
+use Rattle.policy_text.specs.Text.{load, accepted}
+use Rattle.policy_text.specs.Declared.{Declared}
+use Rattle.labelling.specs.Text.{LoadedTo}
+use Rattle.sessions.specs.Reply.{refused}
+use Rattle.labelling.proofs.Posing.{counted, ready}
+use Rattle.run.specs.Sizes.{most_output, names_long}
+use Rattle.run.specs.Output.{output_names, word_bytes}
+use Rattle.run.proofs.Written.{loads_to, loads_not, behind_names, written_refused, written_accepted}
+use Rattle.run.proofs.run.Goals as goal
+use Rattle.run.proofs.run.Goals.{After-put_bytes-at, In-Accepted, Start}
+
+-- ---- the names, and the policy that is loaded
+
+abbrev named : In-Accepted → After-put_bytes-at
+named c = (goal.at.In-Accepted c).After-put_bytes-at
+
+abbrev start : In-Accepted → Start
+start c = (goal.at.In-Accepted c).Start
+
+loaded : (c : In-Accepted)
+    → (d : Declared) × (load (start c).args.policy.now ≡ accepted d) × LoadedTo c.load-l.result.policy d
+loaded c = loads_to (start c).args.policy.now c.load-l.result c.load-l.ensures c.in-Accepted.is
+
+-- ---- the needs
+
+pub prepare_for_many-ready-requires : goal.prepare_for_many-ready-requires
+prepare_for_many-ready-requires c = counted (loaded (goal.at.prepare_for_many-ready-requires c).In-Accepted).2
+
+pub open_loaded-opened-requires : goal.open_loaded-opened-requires
+open_loaded-opened-requires c = c.prepare_for_many-ready.ensures.long
+
+pub decide_all-requires : goal.decide_all-requires
+decide_all-requires c =
+    let made = c in
+    let m = made in
+    let s = start (goal.at.decide_all-requires c).In-Accepted in
+    let (d, e, l) = loaded (goal.at.decide_all-requires c).In-Accepted in
+    let b = named (goal.at.decide_all-requires c).In-Accepted in
+    let n : b.put_bytes-at.result ≡ names_long = b.put_bytes-at.ensures.next in
+    let z : length b.put_bytes-at.new.out ≡ length s.args.out.now = b.put_bytes-at.ensures.size in
+    let h : most_output ≤ length s.args.out.now = s.requires.1 in
+    ((d, ready l made.prepare_for_many-ready.ensures), s.requires.0, omega (arith, n, z, h))
+
+pub returns-in-Refused : goal.returns-in-Refused
+unfolding word_bytes output_names
+returns-in-Refused c =
+    let r = c in
+    let o = r in
+    let a = o in
+    let b = a in
+    let e = loads_not (load _) a.load-l.result _ _ a.load-l.ensures o.in-Refused.is in
+    let n : b.put_bytes-at.result ≡ names_long = b.put_bytes-at.ensures.next in
+    let s = b in
+    let z : length b.put_bytes-at.new.out ≡ length s.args.out.now = b.put_bytes-at.ensures.size in
+    let h : most_output ≤ length s.args.out.now = s.requires.1 in
+    record {
+      wrote = behind_names _ b.put_bytes-at.ensures (r.put_line.ensures.line_written refused refl) (written_refused _ _ _ _ e);
+      upper_bound = omega (arith, r.put_line.ensures.out_len_unchanged.0, r.put_line.ensures.out_len_unchanged.1, z, h);
+    }
+
+pub returns-in-Accepted : goal.returns-in-Accepted
+unfolding output_names
+returns-in-Accepted c =
+    let r = c in
+    let opened = r in
+    let made = opened in
+    let m = made in
+    let (d, e, l) = loaded (goal.at.returns-in-Accepted c).In-Accepted in
+    let n : (named (goal.at.returns-in-Accepted c).In-Accepted).put_bytes-at.result ≡ names_long = (named (goal.at.returns-in-Accepted c).In-Accepted).put_bytes-at.ensures.next in
+    let z : length (named (goal.at.returns-in-Accepted c).In-Accepted).put_bytes-at.new.out ≡ length (start (goal.at.returns-in-Accepted c).In-Accepted).args.out.now = (named (goal.at.returns-in-Accepted c).In-Accepted).put_bytes-at.ensures.size in
+    let h : most_output ≤ length (start (goal.at.returns-in-Accepted c).In-Accepted).args.out.now = (start (goal.at.returns-in-Accepted c).In-Accepted).requires.1 in
+    let prepared = ready l made.prepare_for_many-ready.ensures in
+    let w = r.decide_all.ensures.all_written d prepared in
+    record {
+      wrote = behind_names _ (named (goal.at.returns-in-Accepted c).In-Accepted).put_bytes-at.ensures (rw (opened.open_loaded-opened.ensures d _ prepared) at w) (written_accepted _ _ d e);
+      upper_bound = omega (arith, w.size, r.decide_all.ensures.upper_bound, n, z, h);
+    }

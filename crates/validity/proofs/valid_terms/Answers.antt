@@ -1,0 +1,45 @@
+use native.Mathlib.Omega.{arith}
+use lib.Dec.{ltb}
+use Rattle.model.specs.Value.{unused_term}
+use Rattle.words.proofs.Answers.{no_iff, passes, fails}
+use Rattle.validity.proofs.Columns.{looked_none, looked_more, looked_marked, looked_done, right_within}
+use mathlib.Core.Path.{ap}
+use mathlib.Core.Bool.{not}
+use Rattle.validity.proofs.valid_terms.Goals as goal
+
+pub loop-i-init : goal.loop-i-init
+loop-i-init c = looked_none c.args.w c.args.l.terms
+
+pub offset_bounds-l-i : goal.offset_bounds-l-i
+offset_bounds-l-i c = omega arith
+
+pub returns-then-not-enter_term : goal.returns-then-not-enter_term
+unfolding unused_term
+returns-then-not-enter_term c =
+    let inside = c in
+    let at = inside in
+    no_iff (λ d.
+    fails c.enter_term.ensures.right (ap not c.if-not-enter_term.true)
+    (right_within (ltb at.loop-i.i at.args.w) _ (d.places _ inside.loop-i-test.true)))
+
+pub overflow_add-i : goal.overflow_add-i
+overflow_add-i c = omega arith
+
+pub loop-i-smaller : goal.loop-i-smaller
+loop-i-smaller c = omega arith
+
+pub loop-i-preserved : goal.loop-i-preserved
+unfolding unused_term
+loop-i-preserved c =
+    let inside = c in
+    let entering = c.enter_term.ensures in
+    looked_more _ _ inside.loop-i.invariant inside.loop-i-test.true (passes entering.right (ap not c.if-not-enter_term.false))
+    (entering.done c.if-not-enter_term.false)
+
+pub returns-then-by-ne0 : goal.returns-then-by-ne0
+returns-then-by-ne0 c = no_iff (λ d. c.if-by-ne0.true (looked_marked c.loop-i.invariant c.loop-i-test.false d))
+
+pub returns : goal.returns
+returns c =
+    let done = c in
+    rw c.meets.ensures (looked_done done.loop-i.invariant done.loop-i-test.false c.if-by-ne0.false)
