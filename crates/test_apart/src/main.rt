@@ -2,6 +2,8 @@
 // judged by the answers of the views and of the query. A line is printed for each case in which the desk says another, or gives other
 // rows, and at the end the number of cases.
 
+#![tactic(auto)]
+
 mod compare;
 mod policies;
 mod refusals;

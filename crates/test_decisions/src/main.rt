@@ -1,6 +1,8 @@
 // Document 01's example and its remaining examples, decided. A line is printed for each case in which the desk says another,
 // and at the end the number of cases.
 
+#![tactic(auto)]
+
 mod example;
 mod refusals;
 

@@ -2,6 +2,8 @@
 // another, or leaves other cells, and for each line of the file that is malformed, and at the end the number of cases. Then pseudo-random
 // queries, each beside all sets of views: the same, and how many queries are due each kind of reply.
 
+#![tactic(auto)]
+
 mod cases;
 mod cells;
 mod compare;

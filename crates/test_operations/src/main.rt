@@ -2,6 +2,8 @@
 // line is printed for each case in which the desk says another, or leaves another buffer or session, and for each line of a file that is
 // malformed, and at the end the number of cases.
 
+#![tactic(auto)]
+
 mod answers;
 mod cases;
 mod cells;

@@ -2,6 +2,8 @@
 // each case in which the reply is another, or other bytes stand in the buffer, and for each line of the file that is malformed, and at the
 // end the number of cases.
 
+#![tactic(auto)]
+
 mod cases;
 mod compare;
 mod damage;

@@ -2,6 +2,8 @@
 // names lines altered in one byte or two, and texts as long as the limits. A line is printed for each case in which the desk says
 // another and for each line of a file that is malformed, and at the end the number of cases.
 
+#![tactic(auto)]
+
 mod cases;
 mod expect;
 mod long;
