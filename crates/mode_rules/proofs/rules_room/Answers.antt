@@ -4,14 +4,10 @@ use Prim.Native.Nat.{ℕ}
 use mathlib.Core.Path.{◌≡◌}
 use lib.ListN.{length, replicate, length-replicate}
 use Rattle.mode_rules.specs.Sizes.{rules_room}
-use Rattle.mode_rules.proofs.rules_room.Statement.{statement}
-use Rattle.mode_rules.proofs.rules_room.Tie as tie
+use Rattle.mode_rules.proofs.rules_room.Goals as goal
 
 as_many : (n : ℕ) → n ≡ length {A = ℕ} (replicate n 0)
 as_many n = simp length-replicate
 
-returns : tie.Need-returns
+pub returns : goal.returns
 returns c = as_many rules_room
-
-pub rules_room_spec : {M : Type 1} → statement M
-rules_room_spec = tie.close (tie.spec returns)
