@@ -15,7 +15,7 @@ use Rattle.page.specs.Refusal.{query_refused}
 use Rattle.mode_explain.specs.ExplainPage.{explanation, explain_under}
 use Rattle.mode_explain.proofs.Replied.{settled_told, unsettled_told, not_told}
 use Rattle.mode_explain.proofs.explain_under.Goals as goal
-use Rattle.mode_explain.proofs.explain_under.Goals.{After-explain, In-Refused, In-Refused-2, In-Settled, In-Settled-2, In-Unsettled, In-Unsettled-2, Start}
+use Rattle.mode_explain.proofs.explain_under.Goals.{After-explain, In-Refused, In-Settled, In-Unsettled, Start}
 
 -- ---- the reply, and what it says under any loading of the policy
 
@@ -23,21 +23,21 @@ abbrev begun : After-explain → Start
 begun c = (goal.at.After-explain c).Start
 
 abbrev of-count : In-Settled → After-explain
-of-count c = (goal.at.In-Settled-2 c).After-explain
+of-count c = (goal.at.In-Settled c).After-explain
 
 abbrev of-count2 : In-Unsettled → After-explain
-of-count2 c = (goal.at.In-Unsettled-2 c).After-explain
+of-count2 c = (goal.at.In-Unsettled c).After-explain
 
 abbrev of_number : In-Refused → After-explain
-of_number c = (goal.at.In-Refused-2 c).After-explain
+of_number c = (goal.at.In-Refused c).After-explain
 
 settles : (c : In-Settled) →
     let a = of-count c in
     let s = begun a in
     (l : Loadable s.args.p) →
     let k = c.in-Settled.count in
-    (k ≤ most_lines) × (k ≤ length a.explain.last.1.1.1.0)
-    × (explanation l.declared.views true (take k a.explain.last.1.1.1.0) ≡ explain_under l.declared s.args.n s.args.query.now)
+    (k ≤ most_lines) × (k ≤ length a.explain.new.out)
+    × (explanation l.declared.views true (take k a.explain.new.out) ≡ explain_under l.declared s.args.n s.args.query.now)
 settles c l = settled_told (of-count c).explain.ensures (search rules) l c.in-Settled.is
 
 settles_not : (c : In-Unsettled) →
@@ -45,8 +45,8 @@ settles_not : (c : In-Unsettled) →
     let s = begun a in
     (l : Loadable s.args.p) →
     let k = c.in-Unsettled.count in
-    (k ≤ most_lines) × (k ≤ length a.explain.last.1.1.1.0)
-    × (explanation l.declared.views false (take k a.explain.last.1.1.1.0) ≡ explain_under l.declared s.args.n s.args.query.now)
+    (k ≤ most_lines) × (k ≤ length a.explain.new.out)
+    × (explanation l.declared.views false (take k a.explain.new.out) ≡ explain_under l.declared s.args.n s.args.query.now)
 settles_not c l = unsettled_told (of-count2 c).explain.ensures (search rules) l c.in-Unsettled.is
 
 refuses : (c : In-Refused) →

@@ -32,7 +32,7 @@ loop-i-preserved c =
     let w = c in
     let t = w in
     let inv = t.loop-i.invariant in
-    let same : length w.put_word-to.new.0 ≡ length t.loop-i.out = search rules in (
+    let same : length w.put_word-to.new.out ≡ length t.loop-i.out = search rules in (
       omega (arith, inv.0, w.put_word-to.ensures.1),
       omega (arith, t.loop-i-test.true),
       same ∙ inv.2,

@@ -32,7 +32,7 @@ adds : (c : In-Given) →
     let s = begun a in
     (l : Loadable s.args.p) →
     let k = c.in-Given.count in
-    let cells = a.smallest_grant.last.1.1.1.0 in
+    let cells = a.smallest_grant.new.out in
     (k ≤ most_views) × (k ≤ length cells) × InRange (take k cells)
     × GrantUnder l.declared s.args.n s.args.query.now (grant_lines l.declared.views (take k cells))
 adds c l =

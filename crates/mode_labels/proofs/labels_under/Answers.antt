@@ -31,8 +31,8 @@ told : (c : In-Given) →
     let a = of-count c in
     (l : Loadable (begun a).args.p) →
     let n = c.in-Given.count in
-    (n ≤ most_lines) × (n ≤ length a.labels.last.1.1.0)
-    × (label_lines (take n a.labels.last.1.1.0) ≡ labels_under l.declared (begun a).args.query.now)
+    (n ≤ most_lines) × (n ≤ length a.labels.new.out)
+    × (label_lines (take n a.labels.new.out) ≡ labels_under l.declared (begun a).args.query.now)
 told c l = labels_told (of-count c).labels.ensures (search rules) l c.in-Given.is
 
 untold : (c : In-Refused) →

@@ -107,7 +107,7 @@ returns c =
     let a = tabled w in
     let g = viewed a in
     let (near, same) = placed (goal.at.returns c).After-put_bytes-e in
-    let end = wrote_byte (put_byte-requires e e.put_byte.lifetimes) e.put_byte.ensures in (
+    let end = wrote_byte (search rules) e.put_byte.ensures in (
       wrote_label _ _ _ t.low_half.ensures (views_are g) a.put_bytes-a.ensures w.put_spaced-b.ensures.0
           (middle t).put_bytes-c.ensures t.put_spaced-d.ensures.0 v.put_bytes-e.ensures n.put_numbers-f.ensures.wrote end,
       omega (arith, near, listed g, g.views_of-v.ensures.few, n.put_numbers-f.ensures.upper_bound, e.put_byte.ensures.1),
