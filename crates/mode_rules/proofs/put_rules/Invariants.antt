@@ -1,6 +1,5 @@
 -- `put_rules`. The loop's invariant: the rules so far have their bytes, and those to come are the rules of the rest.
 use Prim.Native.Nat.{◌-◌}
-use borrow.Author.Rules.{rules}
 use lib.ListN.{length}
 use Rattle.mode_rules.proofs.Progress.{Progress}
 use Rattle.mode_rules.proofs.put_rules.Given as goal
