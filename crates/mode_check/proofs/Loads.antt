@@ -6,10 +6,10 @@ use Rattle.policy_text.specs.Text.{load, accepted}
 use Rattle.validity.specs.Loadable.{Loadable}
 use Rattle.load.specs.Value.{loading_value}
 use Rattle.load.specs.declared.Loading.{Loading}
-use Rattle.labelling.proofs.Readings.{Tag}
+use Rattle.model.specs.declared.Outcome.TheVariants.{Accepted}
 use Rattle.run.proofs.Written.{loads_to}
 
-pub loads_loadable : (text : List ℕ) (v : Loading) → v ≡ loading_value (load text) → Tag 0 v.outcome
+pub loads_loadable : (text : List ℕ) (v : Loading) → v ≡ loading_value (load text) → v.outcome ≡ Accepted
     → (l : Loadable v.policy) × (load text ≡ accepted l.declared)
 loads_loadable text v e h =
     let (d, a, l) = loads_to text v e h in (record { text = text; declared = d; loads = a; value = l.policy }, a)

@@ -1,0 +1,17 @@
+-- `put_counts`: what is said, the three numbers and the end.
+use Rattle.text.specs.Names.{bytes}
+use Rattle.writing.proofs.Wrote.{wrote_byte}
+use Rattle.mode_check.proofs.Checked.{wrote_counts}
+use borrow.Author.Rules.{rules}
+use Rattle.mode_check.proofs.put_counts.Goals as goal
+
+pub returns : goal.returns
+unfolding bytes
+returns c =
+    let e = c in
+    let p = e in
+    let v = p in
+    let t = v in
+    let s = t in
+    let end = wrote_byte (search rules) e.put_byte.ensures in
+    wrote_counts _ _ _ s.put_bytes-a.ensures t.put_spaced-b.ensures.0 v.put_spaced-c.ensures.0 p.put_spaced-d.ensures.0 end
