@@ -1,6 +1,8 @@
 // The pages of the modes, in the cases of the file of `data/`. A line is printed for each case whose page is another, and for each line of the
 // file that is malformed, and at the end the number of cases.
 
+#![tactic(auto)]
+
 mod pages;
 
 ghost use Rattle.std.specs.Prelude.{◌≤◌, length};
