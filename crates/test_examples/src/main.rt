@@ -1,6 +1,8 @@
 // The examples, each a folder of `data/`, run as the program runs them, the limits on what it reads, and names lines altered. A line
 // is printed for each that differs from what document 01 lays down, and at the end how many there are.
 
+#![tactic(auto)]
+
 mod compare;
 mod folders;
 mod limits;
