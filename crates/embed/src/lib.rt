@@ -2,6 +2,8 @@
 // come out, and nothing is kept between calls. A policy and a session are values that the caller keeps where it likes; whatever bytes they
 // then have is met by 8 and by 9.
 
+#![tactic(auto)]
+
 mod about;
 mod deciding;
 mod operations;
