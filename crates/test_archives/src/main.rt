@@ -3,6 +3,8 @@
 // that all are gone through, by document 01's definitions; the desk's labels, and what they are made with, are not used. Then the desk's
 // labels are set beside the same answers, and their order beside what single views determine.
 
+#![tactic(auto)]
+
 mod agreement;
 mod answers;
 mod family;
