@@ -15,9 +15,9 @@ use Rattle.page.specs.Sizes.{Shown}
 use Rattle.page.specs.Refusal.{query_refused}
 use Rattle.mode_apart.specs.ApartPage.{apart_lines, settled_line, ApartUnder}
 use Rattle.mode_apart.specs.Rows.{AreRows}
-use Rattle.mode_apart.proofs.Replied.{is_settled, apart_given, apart_settled, apart_refused}
+use Rattle.mode_apart.proofs.Replied.{apart_given, apart_settled, apart_refused}
 use Rattle.mode_apart.proofs.apart_under.Goals as goal
-use Rattle.mode_apart.proofs.apart_under.Goals.{After-tell_apart, In-Apart, In-Apart-2, In-Refused, In-Refused-2, Start}
+use Rattle.mode_apart.proofs.apart_under.Goals.{After-tell_apart, In-Apart, In-Refused, Start}
 
 -- ---- the reply, and what it says under any loading of the policy
 
@@ -25,17 +25,17 @@ abbrev begun : After-tell_apart → Start
 begun c = (goal.at.After-tell_apart c).Start
 
 abbrev of-rows : In-Apart → After-tell_apart
-of-rows c = (goal.at.In-Apart-2 c).After-tell_apart
+of-rows c = (goal.at.In-Apart c).After-tell_apart
 
 abbrev of_number : In-Refused → After-tell_apart
-of_number c = (goal.at.In-Refused-2 c).After-tell_apart
+of_number c = (goal.at.In-Refused c).After-tell_apart
 
 tells : (c : In-Apart) →
     let a = of-rows c in
     let s = begun a in
     (l : Loadable s.args.p) →
     let k = c.in-Apart.rows in
-    let cells = a.tell_apart.last.1.1.1.0 in
+    let cells = a.tell_apart.new.out in
     (k ≤ most_rows) × (k * row_cells ≤ length cells)
     × ((odd : Row)
     × (others : List Row)
@@ -43,7 +43,7 @@ tells : (c : In-Apart) →
     × ApartUnder l.declared s.args.n s.args.query.now (apart_lines odd others))
 tells c l =
     let x = apart_given (of-rows c).tell_apart.ensures (search rules) l c.in-Apart.is in
-    (x.few, x.inside, (x.odd, x.others, x.rows-1, x.page))
+    (x.few, x.inside, (x.odd, x.others, x.rows, x.page))
 
 refuses : (c : In-Refused) →
     let s = begun (of_number c) in
@@ -56,7 +56,7 @@ refuses c l = apart_refused (of_number c).tell_apart.ensures (search rules) l c.
 -- ---- the needs
 
 pub overflow_mul-end : goal.overflow_mul-end
-overflow_mul-end c = let k = c in omega (arith, (tells k (begun (of-rows k)).requires.0).0)
+overflow_mul-end c = let k = c in omega (arith, (tells (goal.at.overflow_mul-end c).In-Apart (begun (of-rows (goal.at.overflow_mul-end c).In-Apart)).requires.0).0)
 
 pub slice_bounds-cells-end : goal.slice_bounds-cells-end
 slice_bounds-cells-end c = let k = c in (tells (goal.at.slice_bounds-cells-end c).In-Apart (begun (of-rows (goal.at.slice_bounds-cells-end c).In-Apart)).requires.0).1
@@ -83,7 +83,7 @@ returns-in-Settled c =
     λ l.
     let r = c in
     let m = r in
-    let e = is_settled m.tell_apart.result m.in-Settled.is in
+    let e = m.in-Settled.is in
     record { page = settled_line; is_page = apart_settled m.tell_apart.ensures (search rules) l e; wrote = r.put_bytes.ensures }
 
 pub returns-in-Apart : goal.returns-in-Apart

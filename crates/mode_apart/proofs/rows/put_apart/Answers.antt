@@ -17,7 +17,7 @@ abbrev counted : After-put_row-c → After-put_field-b
 counted c = (goal.at.After-put_row-c c).After-put_field-b
 
 abbrev begun : After-put_field-b → Start
-begun c = (titled c)
+begun c = (goal.at.After-put_field-b c).Start
 
 pub put_row-c-requires : goal.put_row-c-requires
 put_row-c-requires c =

@@ -73,7 +73,7 @@ returns c =
     let w = b in
     let s = w in
     let o = own (goal.at.returns c).After-width_of-width in
-    let end = wrote_byte (put_byte-requires e e.put_byte.lifetimes) e.put_byte.ensures in
+    let end = wrote_byte (search rules) e.put_byte.ensures in
     record {
       row_put = λ x h. wrote_row h _ _ (row_width h _ w.width_of-width.ensures) b.put_bytes-a.ensures p.put_cells-b.ensures.wrote end;
       upper_bound = (omega (arith, s.requires.0, o, b.put_bytes-a.ensures.next, p.put_cells-b.ensures.upper_bound, e.put_byte.ensures.1), search rules);

@@ -54,9 +54,9 @@ loop-at-preserved c =
     let t = p in
     let l = t in
     let w = p.put_row-to.ensures in (
-      omega (arith, l.loop-at.invariant.0, w.1.0),
-      w.1.1 ∙ l.loop-at.invariant.1,
-      λ xs h. reached_more (l.loop-at.invariant.2 xs h) t.loop-at-test.true (rw (nine l.loop-at.at) at w.0),
+      omega (arith, l.loop-at.invariant.0, w.upper_bound.0),
+      w.upper_bound.1 ∙ l.loop-at.invariant.1,
+      λ xs h. reached_more (l.loop-at.invariant.2 xs h) t.loop-at-test.true (rw (nine l.loop-at.at) at w.row_put),
     )
 
 pub shape_of-out : goal.shape_of-out

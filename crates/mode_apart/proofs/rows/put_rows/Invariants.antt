@@ -10,8 +10,8 @@ use Rattle.mode_apart.proofs.rows.put_rows.Given as goal
 
 abbrev pub invariant-loop-at : goal.invariant-loop-at
 invariant-loop-at l =
-    (l.at ≤ l.start + at * most_cell_bytes) × (length l.to ≡ length l.initial.out)
-    × ((xs : List Row) → AreRows l.tables l.cells xs → Reached l.tables l.cells xs l.initial.out l.start l.to l.at at)
+    (l.to ≤ l.start + l.at * most_cell_bytes) × (length l.out ≡ length l.initial.out)
+    × ((xs : List Row) → AreRows l.tables l.cells xs → Reached l.tables l.cells xs l.initial.out l.start l.out l.to l.at)
 
 abbrev pub decreases-loop-at : goal.decreases-loop-at
-decreases-loop-at l = length l.cells - at
+decreases-loop-at l = length l.cells - l.at
