@@ -1,4 +1,6 @@
 -- `put_apart`: the number of rows, the odd one, and the others.
+use lib.Seq.{length-take-le}
+use mathlib.Core.Path.{sym}
 use native.Mathlib.Omega.{arith}
 use lib.ListN.{length-drop}
 use Rattle.text.specs.Names.{bytes}
@@ -28,6 +30,9 @@ put_row-c-requires c =
       omega (arith, s.requires.0, b.put_bytes-a.ensures.next, b.put_bytes-a.ensures.size, f.put_field-b.ensures.0.size, f.put_field-b.ensures.1),
       (_, rows_first s.requires.2.2),
     )
+
+pub slice_bounds-put_row-end-2 : goal.slice_bounds-put_row-end-2
+slice_bounds-put_row-end-2 c = sym (length-take-le row_cells c.args.cells.now (rows_some c.requires.2.2))
 
 pub slice_bounds-put_rows-count : goal.slice_bounds-put_rows-count
 slice_bounds-put_rows-count c = rows_some (begun (counted (goal.at.slice_bounds-put_rows-count c).After-put_row-c)).requires.2.2
