@@ -56,24 +56,22 @@ refuses c l = apart_refused (of_number c).tell_apart.ensures (search rules) l c.
 -- ---- the needs
 
 pub overflow_mul-end : goal.overflow_mul-end
-overflow_mul-end c = let k = c in omega (arith, (tells (goal.at.overflow_mul-end c).In-Apart (begun (of-rows (goal.at.overflow_mul-end c).In-Apart)).requires.0).0)
+overflow_mul-end c = omega (arith, (tells (goal.at.overflow_mul-end c).In-Apart (begun (of-rows (goal.at.overflow_mul-end c).In-Apart)).requires.0).0)
 
 pub slice_bounds-cells-end : goal.slice_bounds-cells-end
-slice_bounds-cells-end c = let k = c in (tells (goal.at.slice_bounds-cells-end c).In-Apart (begun (of-rows (goal.at.slice_bounds-cells-end c).In-Apart)).requires.0).1
+slice_bounds-cells-end c = (tells (goal.at.slice_bounds-cells-end c).In-Apart (begun (of-rows (goal.at.slice_bounds-cells-end c).In-Apart)).requires.0).1
 
 pub slice_bounds-put_apart-end : goal.slice_bounds-put_apart-end
-slice_bounds-put_apart-end c = let k = c in sym (length-take-le _ _ (tells (goal.at.slice_bounds-put_apart-end c).In-Apart (begun (of-rows (goal.at.slice_bounds-put_apart-end c).In-Apart)).requires.0).1)
+slice_bounds-put_apart-end c = sym (length-take-le _ _ (tells (goal.at.slice_bounds-put_apart-end c).In-Apart (begun (of-rows (goal.at.slice_bounds-put_apart-end c).In-Apart)).requires.0).1)
 
 pub put_apart-requires : goal.put_apart-requires
 put_apart-requires c =
-    let k = c in
     let s = begun (of-rows (goal.at.put_apart-requires c).In-Apart) in
     let (few, inside, (odd, others, rows, page)) = tells (goal.at.put_apart-requires c).In-Apart s.requires.0 in
     (s.requires.1, simp length-take (omega (arith, few)), (odd, others, rows))
 
 pub refusal_page-requires : goal.refusal_page-requires
 refusal_page-requires c =
-    let k = c in
     let s = begun (of_number (goal.at.refusal_page-requires c).In-Refused) in
     (omega arith, s.requires.1, (refuses (goal.at.refusal_page-requires c).In-Refused s.requires.0).0)
 
@@ -81,21 +79,17 @@ pub returns-in-Settled : goal.returns-in-Settled
 unfolding settled_line bytes
 returns-in-Settled c =
     λ l.
-    let r = c in
-    let m = r in
-    let e = m.in-Settled.is in
-    record { page = settled_line; is_page = apart_settled m.tell_apart.ensures (search rules) l e; wrote = r.put_bytes.ensures }
+    let e = c.in-Settled.is in
+    record { page = settled_line; is_page = apart_settled c.tell_apart.ensures (search rules) l e; wrote = c.put_bytes.ensures }
 
 pub returns-in-Apart : goal.returns-in-Apart
 returns-in-Apart c =
     λ l.
-    let r = c in
     let (few, inside, (odd, others, rows, page)) = tells (goal.at.returns-in-Apart c).In-Apart l in
-    record { page = apart_lines odd others; is_page = page; wrote = r.put_apart.ensures odd others rows }
+    record { page = apart_lines odd others; is_page = page; wrote = c.put_apart.ensures odd others rows }
 
 pub returns-in-Refused : goal.returns-in-Refused
 unfolding query_refused bytes
 returns-in-Refused c =
     λ l.
-    let r = c in
-    record { page = _; is_page = (refuses (goal.at.returns-in-Refused c).In-Refused l).1; wrote = r.refusal_page.ensures }
+    record { page = _; is_page = (refuses (goal.at.returns-in-Refused c).In-Refused l).1; wrote = c.refusal_page.ensures }

@@ -58,46 +58,43 @@ refuses : (c : In-Refused) →
 refuses c l = not_told (of_number c).explain.ensures (search rules) l c.in-Refused.is
 
 pub slice_bounds-cells-end : goal.slice_bounds-cells-end
-slice_bounds-cells-end c = let k = c in (settles (goal.at.slice_bounds-cells-end c).In-Settled (begun (of-count (goal.at.slice_bounds-cells-end c).In-Settled)).requires.0).1
+slice_bounds-cells-end c = (settles (goal.at.slice_bounds-cells-end c).In-Settled (begun (of-count (goal.at.slice_bounds-cells-end c).In-Settled)).requires.0).1
 
 pub slice_bounds-put_explanation-end : goal.slice_bounds-put_explanation-end
-slice_bounds-put_explanation-end c = let k = c in sym (length-take-le _ _ (settles (goal.at.slice_bounds-put_explanation-end c).In-Settled (begun (of-count (goal.at.slice_bounds-put_explanation-end c).In-Settled)).requires.0).1)
+slice_bounds-put_explanation-end c = sym (length-take-le _ _ (settles (goal.at.slice_bounds-put_explanation-end c).In-Settled (begun (of-count (goal.at.slice_bounds-put_explanation-end c).In-Settled)).requires.0).1)
 
 pub put_explanation-requires : goal.put_explanation-requires
 put_explanation-requires c =
-    let k = c in
     let s = begun (of-count (goal.at.put_explanation-requires c).In-Settled) in
     let t = settles (goal.at.put_explanation-requires c).In-Settled s.requires.0 in
     (simp length-take (omega (arith, t.0)), s.requires.1, s.requires.0)
 
 pub slice_bounds-cells-end-in-Unsettled : goal.slice_bounds-cells-end-in-Unsettled
-slice_bounds-cells-end-in-Unsettled c = let k = c in (settles_not (goal.at.slice_bounds-cells-end-in-Unsettled c).In-Unsettled (begun (of-count2 (goal.at.slice_bounds-cells-end-in-Unsettled c).In-Unsettled)).requires.0).1
+slice_bounds-cells-end-in-Unsettled c = (settles_not (goal.at.slice_bounds-cells-end-in-Unsettled c).In-Unsettled (begun (of-count2 (goal.at.slice_bounds-cells-end-in-Unsettled c).In-Unsettled)).requires.0).1
 
 pub slice_bounds-put_explanation-end-in-Unsettled : goal.slice_bounds-put_explanation-end-in-Unsettled
-slice_bounds-put_explanation-end-in-Unsettled c = let k = c in sym (length-take-le _ _ (settles_not (goal.at.slice_bounds-put_explanation-end-in-Unsettled c).In-Unsettled (begun (of-count2 (goal.at.slice_bounds-put_explanation-end-in-Unsettled c).In-Unsettled)).requires.0).1)
+slice_bounds-put_explanation-end-in-Unsettled c = sym (length-take-le _ _ (settles_not (goal.at.slice_bounds-put_explanation-end-in-Unsettled c).In-Unsettled (begun (of-count2 (goal.at.slice_bounds-put_explanation-end-in-Unsettled c).In-Unsettled)).requires.0).1)
 
 pub put_explanation-requires-in-Unsettled : goal.put_explanation-requires-in-Unsettled
 put_explanation-requires-in-Unsettled c =
-    let k = c in
     let s = begun (of-count2 (goal.at.put_explanation-requires-in-Unsettled c).In-Unsettled) in
     let t = settles_not (goal.at.put_explanation-requires-in-Unsettled c).In-Unsettled s.requires.0 in
     (simp length-take (omega (arith, t.0)), s.requires.1, s.requires.0)
 
 pub refusal_page-requires : goal.refusal_page-requires
 refusal_page-requires c =
-    let k = c in
     let s = begun (of_number (goal.at.refusal_page-requires c).In-Refused) in
     (omega arith, s.requires.1, (refuses (goal.at.refusal_page-requires c).In-Refused s.requires.0).0)
 
 pub returns-in-Settled : goal.returns-in-Settled
 returns-in-Settled c =
-    λ l. let r = c in wrote_as (settles (goal.at.returns-in-Settled c).In-Settled l).2 (r.put_explanation.ensures l)
+    λ l. wrote_as (settles (goal.at.returns-in-Settled c).In-Settled l).2 (c.put_explanation.ensures l)
 
 pub returns-in-Unsettled : goal.returns-in-Unsettled
 returns-in-Unsettled c =
-    λ l. let r = c in wrote_as (settles_not (goal.at.returns-in-Unsettled c).In-Unsettled l).2 (r.put_explanation-in-Unsettled.ensures l)
+    λ l. wrote_as (settles_not (goal.at.returns-in-Unsettled c).In-Unsettled l).2 (c.put_explanation-in-Unsettled.ensures l)
 
 pub returns-in-Refused : goal.returns-in-Refused
 unfolding query_refused bytes
 returns-in-Refused c =
-    λ l. let r = c in wrote_as (refuses (goal.at.returns-in-Refused c).In-Refused l).1 r.refusal_page.ensures
+    λ l. wrote_as (refuses (goal.at.returns-in-Refused c).In-Refused l).1 c.refusal_page.ensures

@@ -7,17 +7,11 @@ pub returns-then-settled : goal.returns-then-settled
 unfolding bytes
 returns-then-settled c =
     λ l.
-    let w = c in
-    let b = w in
-    let t = b in
-    wrote_explanation l.declared.views _ _ {said = bytes "settled"} (rw t.if-settled.true) b.put_bytes-a.ensures (w.put_words.ensures l)
+    wrote_explanation l.declared.views _ _ {said = bytes "settled"} (rw c.if-settled.true) c.put_bytes-a.ensures (c.put_words.ensures l)
 
 pub returns : goal.returns
 unfolding bytes
 returns c =
     λ l.
-    let w = c in
-    let b = w in
-    let t = b in
-    wrote_explanation l.declared.views _ _ {said = bytes "not settled"} (rw t.if-settled.false) b.put_bytes-a-2.ensures
-    (w.put_words-2.ensures l)
+    wrote_explanation l.declared.views _ _ {said = bytes "not settled"} (rw c.if-settled.false) c.put_bytes-a-2.ensures
+    (c.put_words-2.ensures l)

@@ -30,11 +30,8 @@ listed c = length-take-le _ _ (within c)
 pub returns-then-count-eq0 : goal.returns-then-count-eq0
 unfolding bytes
 returns-then-count-eq0 c =
-    let b = c in
-    let t = b in
-    let v = t in
-    let n : b.put_bytes.result ≡ v.args.at + 11 = b.put_bytes.ensures.next in (
-      λ l. wrote_as (no_views l.declared.views (held (goal.at.returns-then-count-eq0 c).After-views_of-v) (within (goal.at.returns-then-count-eq0 c).After-views_of-v) t.if-count-eq0.true) b.put_bytes.ensures,
+    let n : c.put_bytes.result ≡ c.args.at + 11 = c.put_bytes.ensures.next in (
+      λ l. wrote_as (no_views l.declared.views (held (goal.at.returns-then-count-eq0 c).After-views_of-v) (within (goal.at.returns-then-count-eq0 c).After-views_of-v) c.if-count-eq0.true) c.put_bytes.ensures,
       omega (arith, n),
     )
 
@@ -43,18 +40,16 @@ slice_bounds-numbers-end c = within (goal.at.slice_bounds-numbers-end c).After-v
 
 pub put_list-requires : goal.put_list-requires
 put_list-requires c =
-    let v = c in (
+    (
       omega arith,
-      omega (arith, listed (goal.at.put_list-requires c).After-views_of-v, v.views_of-v.ensures.few, v.requires),
-      subst InRange (sym (held (goal.at.put_list-requires c).After-views_of-v).are) (views_ranged v.args.word),
+      omega (arith, listed (goal.at.put_list-requires c).After-views_of-v, c.views_of-v.ensures.few, c.requires),
+      subst InRange (sym (held (goal.at.put_list-requires c).After-views_of-v).are) (views_ranged c.args.word),
     )
 
 pub returns : goal.returns
 unfolding bytes
 returns c =
-    let b = c in
-    let t = b in
-    let v = t in (
-      λ l. wrote_as (some_views l.declared.views (held (goal.at.returns c).After-views_of-v) (within (goal.at.returns c).After-views_of-v) t.if-count-eq0.false) (b.put_list.ensures.list_put l.declared (loaded_to l)),
-      omega (arith, listed (goal.at.returns c).After-views_of-v, v.views_of-v.ensures.few, b.put_list.ensures.upper_bound.0),
+    (
+      λ l. wrote_as (some_views l.declared.views (held (goal.at.returns c).After-views_of-v) (within (goal.at.returns c).After-views_of-v) c.if-count-eq0.false) (c.put_list.ensures.list_put l.declared (loaded_to l)),
+      omega (arith, listed (goal.at.returns c).After-views_of-v, c.views_of-v.ensures.few, c.put_list.ensures.upper_bound.0),
     )

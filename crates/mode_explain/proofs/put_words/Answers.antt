@@ -15,11 +15,8 @@ loop-i-init c = (omega arith, omega arith, refl, λ l. wrote_none _ _)
 
 pub put_word-to-requires : goal.put_word-to-requires
 put_word-to-requires c =
-    let t = c in
-    let l = t in
-    let s = l in
-    let h : l.loop-i.i < length s.args.words.now = t.loop-i-test.true in
-    omega (arith, h, l.loop-i.invariant.0, l.loop-i.invariant.2, s.requires.0, s.requires.1, s.requires.2)
+    let h : c.loop-i.i < length c.args.words.now = c.loop-i-test.true in
+    omega (arith, h, c.loop-i.invariant.0, c.loop-i.invariant.2, c.requires.0, c.requires.1, c.requires.2)
 
 pub overflow_add-i : goal.overflow_add-i
 overflow_add-i c = omega arith
@@ -29,14 +26,12 @@ loop-i-smaller c = omega arith
 
 pub loop-i-preserved : goal.loop-i-preserved
 loop-i-preserved c =
-    let w = c in
-    let t = w in
-    let inv = t.loop-i.invariant in
-    let same : length w.put_word-to.new.out ≡ length t.loop-i.out = search rules in (
-      omega (arith, inv.0, w.put_word-to.ensures.1),
-      omega (arith, t.loop-i-test.true),
+    let inv = c.loop-i.invariant in
+    let same : length c.put_word-to.new.out ≡ length c.loop-i.out = search rules in (
+      omega (arith, inv.0, c.put_word-to.ensures.1),
+      omega (arith, c.loop-i-test.true),
       same ∙ inv.2,
-      λ l. wrote_word l.declared.views _ _ (inv.3 l) (w.put_word-to.ensures.0 l) t.loop-i-test.true,
+      λ l. wrote_word l.declared.views _ _ (inv.3 l) (c.put_word-to.ensures.0 l) c.loop-i-test.true,
     )
 
 pub shape_of-out : goal.shape_of-out

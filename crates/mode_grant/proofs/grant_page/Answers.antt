@@ -15,30 +15,22 @@ use Rattle.mode_grant.proofs.grant_page.Goals as goal
 
 pub refusal_page-requires : goal.refusal_page-requires
 refusal_page-requires c =
-    let o = c in
-    let a = o in
-    let e = loads_not (load _) a.load-l.result _ _ a.load-l.ensures o.in-Refused.is in
-    let room : most_page ≤ length a.args.out.now = a.requires in
+    let e = loads_not (load _) c.load-l.result _ _ c.load-l.ensures c.in-Refused.is in
+    let room : most_page ≤ length c.args.out.now = c.requires in
     (omega arith, room, policy_shown _ _ _ e)
 
 pub grant_under-requires : goal.grant_under-requires
 grant_under-requires c =
-    let m = c in
-    ((loads_loadable _ m.load-l.result m.load-l.ensures m.in-Accepted.is).0, search rules)
+    ((loads_loadable _ c.load-l.result c.load-l.ensures c.in-Accepted.is).0, search rules)
 
 pub returns-in-Refused : goal.returns-in-Refused
 unfolding policy_refused bytes
 returns-in-Refused c =
-    let r = c in
-    let o = r in
-    let a = o in
-    let e = loads_not (load _) a.load-l.result _ _ a.load-l.ensures o.in-Refused.is in
-    record { page = _; is_page = page_refused _ _ _ _ _ e; wrote = r.refusal_page.ensures }
+    let e = loads_not (load _) c.load-l.result _ _ c.load-l.ensures c.in-Refused.is in
+    record { page = _; is_page = page_refused _ _ _ _ _ e; wrote = c.refusal_page.ensures }
 
 pub returns-in-Accepted : goal.returns-in-Accepted
 returns-in-Accepted c =
-    let r = c in
-    let m = r in
-    let (l, e) = loads_loadable _ m.load-l.result m.load-l.ensures m.in-Accepted.is in
-    let w = r.grant_under.ensures l in
+    let (l, e) = loads_loadable _ c.load-l.result c.load-l.ensures c.in-Accepted.is in
+    let w = c.grant_under.ensures l in
     record { page = w.page; is_page = page_accepted _ _ _ _ l.declared e w.is_page; wrote = w.wrote }

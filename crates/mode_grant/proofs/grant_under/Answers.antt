@@ -47,42 +47,36 @@ refuses : (c : In-Refused) →
 refuses c l = grant_refused (of_number c).smallest_grant.ensures (search rules) l c.in-Refused.is
 
 pub slice_bounds-cells-end : goal.slice_bounds-cells-end
-slice_bounds-cells-end c = let k = c in (adds (goal.at.slice_bounds-cells-end c).In-Given (begun (of-count (goal.at.slice_bounds-cells-end c).In-Given)).requires.0).1
+slice_bounds-cells-end c = (adds (goal.at.slice_bounds-cells-end c).In-Given (begun (of-count (goal.at.slice_bounds-cells-end c).In-Given)).requires.0).1
 
 pub slice_bounds-put_grant-end : goal.slice_bounds-put_grant-end
-slice_bounds-put_grant-end c = let k = c in sym (length-take-le _ _ (adds (goal.at.slice_bounds-put_grant-end c).In-Given (begun (of-count (goal.at.slice_bounds-put_grant-end c).In-Given)).requires.0).1)
+slice_bounds-put_grant-end c = sym (length-take-le _ _ (adds (goal.at.slice_bounds-put_grant-end c).In-Given (begun (of-count (goal.at.slice_bounds-put_grant-end c).In-Given)).requires.0).1)
 
 pub put_grant-requires : goal.put_grant-requires
 put_grant-requires c =
-    let k = c in
     let s = begun (of-count (goal.at.put_grant-requires c).In-Given) in
     let t = adds (goal.at.put_grant-requires c).In-Given s.requires.0 in
     (simp length-take (omega (arith, t.0)), t.2, s.requires.1)
 
 pub refusal_page-requires : goal.refusal_page-requires
 refusal_page-requires c =
-    let k = c in
     let s = begun (of_number (goal.at.refusal_page-requires c).In-Refused) in
     (omega arith, s.requires.1, (refuses (goal.at.refusal_page-requires c).In-Refused s.requires.0).0)
 
 pub returns-in-Given : goal.returns-in-Given
 returns-in-Given c =
     λ l.
-    let r = c in
-    record { page = _; is_page = (adds (goal.at.returns-in-Given c).In-Given l).3; wrote = r.put_grant.ensures l }
+    record { page = _; is_page = (adds (goal.at.returns-in-Given c).In-Given l).3; wrote = c.put_grant.ensures l }
 
 pub returns-in-Nothing : goal.returns-in-Nothing
 unfolding none_line bytes
 returns-in-Nothing c =
     λ l.
-    let r = c in
-    let m = r in
-    let e = m.in-Nothing.is in
-    record { page = none_line; is_page = grant_none m.smallest_grant.ensures (search rules) l e; wrote = r.put_bytes.ensures }
+    let e = c.in-Nothing.is in
+    record { page = none_line; is_page = grant_none c.smallest_grant.ensures (search rules) l e; wrote = c.put_bytes.ensures }
 
 pub returns-in-Refused : goal.returns-in-Refused
 unfolding query_refused bytes
 returns-in-Refused c =
     λ l.
-    let r = c in
-    record { page = _; is_page = (refuses (goal.at.returns-in-Refused c).In-Refused l).1; wrote = r.refusal_page.ensures }
+    record { page = _; is_page = (refuses (goal.at.returns-in-Refused c).In-Refused l).1; wrote = c.refusal_page.ensures }

@@ -9,12 +9,10 @@ pub returns-then-numbers-eq0 : goal.returns-then-numbers-eq0
 unfolding bytes
 returns-then-numbers-eq0 c =
     λ l.
-    let b = c in
-    wrote_as (none_added l.declared.views _ b.if-numbers-eq0.true) b.put_bytes.ensures
+    wrote_as (none_added l.declared.views _ c.if-numbers-eq0.true) c.put_bytes.ensures
 
 pub returns : goal.returns
 unfolding bytes
 returns c =
     λ l.
-    let b = c in
-    wrote_as (some_added l.declared.views _ b.if-numbers-eq0.false) (b.put_list.ensures.list_put l.declared (loaded_to l))
+    wrote_as (some_added l.declared.views _ c.if-numbers-eq0.false) (c.put_list.ensures.list_put l.declared (loaded_to l))

@@ -16,29 +16,21 @@ use Rattle.mode_labels.proofs.labels_page.Goals as goal
 
 pub refusal_page-requires : goal.refusal_page-requires
 refusal_page-requires c =
-    let o = c in
-    let a = o in
-    let e = loads_not (load _) a.load-l.result _ _ a.load-l.ensures o.in-Refused.is in
-    let room : most_page ≤ length a.args.out.now = a.requires in
+    let e = loads_not (load _) c.load-l.result _ _ c.load-l.ensures c.in-Refused.is in
+    let room : most_page ≤ length c.args.out.now = c.requires in
     (omega arith, room, policy_shown _ _ _ e)
 
 pub labels_under-requires : goal.labels_under-requires
 labels_under-requires c =
-    let m = c in
-    ((loads_loadable _ m.load-l.result m.load-l.ensures m.in-Accepted.is).0, search rules)
+    ((loads_loadable _ c.load-l.result c.load-l.ensures c.in-Accepted.is).0, search rules)
 
 pub returns-in-Refused : goal.returns-in-Refused
 unfolding policy_refused bytes
 returns-in-Refused c =
-    let r = c in
-    let o = r in
-    let a = o in
-    let e = loads_not (load _) a.load-l.result _ _ a.load-l.ensures o.in-Refused.is in
-    wrote_as (page_refused _ _ _ _ e) r.refusal_page.ensures
+    let e = loads_not (load _) c.load-l.result _ _ c.load-l.ensures c.in-Refused.is in
+    wrote_as (page_refused _ _ _ _ e) c.refusal_page.ensures
 
 pub returns-in-Accepted : goal.returns-in-Accepted
 returns-in-Accepted c =
-    let r = c in
-    let m = r in
-    let (l, e) = loads_loadable _ m.load-l.result m.load-l.ensures m.in-Accepted.is in
-    wrote_as (page_accepted _ _ l.declared e) (r.labels_under.ensures l)
+    let (l, e) = loads_loadable _ c.load-l.result c.load-l.ensures c.in-Accepted.is in
+    wrote_as (page_accepted _ _ l.declared e) (c.labels_under.ensures l)

@@ -47,28 +47,24 @@ pub slice_bounds-cells-end : goal.slice_bounds-cells-end
 slice_bounds-cells-end c = (told (goal.at.slice_bounds-cells-end c).In-Given (begun (of-count (goal.at.slice_bounds-cells-end c).In-Given)).requires.0).1
 
 pub slice_bounds-put_labels-end : goal.slice_bounds-put_labels-end
-slice_bounds-put_labels-end c = let k = c in sym (length-take-le _ _ (told (goal.at.slice_bounds-put_labels-end c).In-Given (begun (of-count (goal.at.slice_bounds-put_labels-end c).In-Given)).requires.0).1)
+slice_bounds-put_labels-end c = sym (length-take-le _ _ (told (goal.at.slice_bounds-put_labels-end c).In-Given (begun (of-count (goal.at.slice_bounds-put_labels-end c).In-Given)).requires.0).1)
 
 pub put_labels-requires : goal.put_labels-requires
 put_labels-requires c =
-    let k = c in
     let t = told (goal.at.put_labels-requires c).In-Given (begun (of-count (goal.at.put_labels-requires c).In-Given)).requires.0 in
     (simp length-take (omega (arith, t.0)), (begun (of-count (goal.at.put_labels-requires c).In-Given)).requires.1)
 
 pub refusal_page-requires : goal.refusal_page-requires
 refusal_page-requires c =
-    let k = c in
     (omega arith, (begun (of_number (goal.at.refusal_page-requires c).In-Refused)).requires.1, (untold (goal.at.refusal_page-requires c).In-Refused (begun (of_number (goal.at.refusal_page-requires c).In-Refused)).requires.0).0)
 
 pub returns-in-Given : goal.returns-in-Given
 returns-in-Given c =
     λ l.
-    let r = c in
-    wrote_as (told (goal.at.returns-in-Given c).In-Given l).2 r.put_labels.ensures
+    wrote_as (told (goal.at.returns-in-Given c).In-Given l).2 c.put_labels.ensures
 
 pub returns-in-Refused : goal.returns-in-Refused
 unfolding query_refused bytes
 returns-in-Refused c =
     λ l.
-    let r = c in
-    wrote_as (untold (goal.at.returns-in-Refused c).In-Refused l).1 r.refusal_page.ensures
+    wrote_as (untold (goal.at.returns-in-Refused c).In-Refused l).1 c.refusal_page.ensures

@@ -64,25 +64,20 @@ placed c =
 
 pub slice_bounds-numbers-end : goal.slice_bounds-numbers-end
 slice_bounds-numbers-end c =
-    let v = c in
     within (viewed (tabled (worded (said (goal.at.slice_bounds-numbers-end c).After-put_bytes-e))))
 
 pub slice_bounds-put_numbers-end : goal.slice_bounds-put_numbers-end
 slice_bounds-put_numbers-end c =
-    let v = c in
     sym (listed (viewed (tabled (worded (said (goal.at.slice_bounds-put_numbers-end c).After-put_bytes-e)))))
 
 pub put_numbers-f-requires : goal.put_numbers-f-requires
 put_numbers-f-requires c =
-    let v = c in
     let g = viewed (tabled (worded (said (goal.at.put_numbers-f-requires c).After-put_bytes-e))) in
     let (near, same) = placed (goal.at.put_numbers-f-requires c).After-put_bytes-e in
     omega (arith, near, same, listed g, g.views_of-v.ensures.few, g.requires)
 
 pub put_byte-requires : goal.put_byte-requires
 put_byte-requires c =
-    let n = c in
-    let v = n in
     let g = viewed (tabled (worded (said (goal.at.put_byte-requires c).After-put_bytes-e))) in
     let (near, same) = placed (goal.at.put_byte-requires c).After-put_bytes-e in
     omega (
@@ -92,23 +87,20 @@ put_byte-requires c =
       listed g,
       g.views_of-v.ensures.few,
       g.requires,
-      n.put_numbers-f.ensures.upper_bound,
-      n.put_numbers-f.ensures.wrote.size,
+      c.put_numbers-f.ensures.upper_bound,
+      c.put_numbers-f.ensures.wrote.size,
     )
 
 pub returns : goal.returns
 unfolding bytes
 returns c =
-    let e = c in
-    let n = e in
-    let v = n in
     let t = said (goal.at.returns c).After-put_bytes-e in
     let w = worded t in
     let a = tabled w in
     let g = viewed a in
     let (near, same) = placed (goal.at.returns c).After-put_bytes-e in
-    let end = wrote_byte (search rules) e.put_byte.ensures in (
+    let end = wrote_byte (search rules) c.put_byte.ensures in (
       wrote_label _ _ _ t.low_half.ensures (views_are g) a.put_bytes-a.ensures w.put_spaced-b.ensures.0
-          (middle t).put_bytes-c.ensures t.put_spaced-d.ensures.0 v.put_bytes-e.ensures n.put_numbers-f.ensures.wrote end,
-      omega (arith, near, listed g, g.views_of-v.ensures.few, n.put_numbers-f.ensures.upper_bound, e.put_byte.ensures.1),
+          (middle t).put_bytes-c.ensures t.put_spaced-d.ensures.0 c.put_bytes-e.ensures c.put_numbers-f.ensures.wrote end,
+      omega (arith, near, listed g, g.views_of-v.ensures.few, c.put_numbers-f.ensures.upper_bound, c.put_byte.ensures.1),
     )

@@ -14,11 +14,8 @@ loop-i-init c = (wrote_none _ _, omega arith, omega arith)
 
 pub put_label-to-requires : goal.put_label-to-requires
 put_label-to-requires c =
-    let t = c in
-    let l = t in
-    let s = l in
-    let h : l.loop-i.i < length s.args.labels.now = t.loop-i-test.true in
-    omega (arith, h, l.loop-i.invariant.1, s.requires.0, s.requires.1, l.loop-i.invariant.0.size)
+    let h : c.loop-i.i < length c.args.labels.now = c.loop-i-test.true in
+    omega (arith, h, c.loop-i.invariant.1, c.requires.0, c.requires.1, c.loop-i.invariant.0.size)
 
 pub overflow_add-i : goal.overflow_add-i
 overflow_add-i c = omega arith
@@ -28,12 +25,10 @@ loop-i-smaller c = omega arith
 
 pub loop-i-preserved : goal.loop-i-preserved
 loop-i-preserved c =
-    let p = c in
-    let t = p in
-    let inv = t.loop-i.invariant in (
-      wrote_next_label _ _ inv.0 p.put_label-to.ensures.0 t.loop-i-test.true,
-      omega (arith, inv.1, p.put_label-to.ensures.1),
-      omega (arith, t.loop-i-test.true),
+    let inv = c.loop-i.invariant in (
+      wrote_next_label _ _ inv.0 c.put_label-to.ensures.0 c.loop-i-test.true,
+      omega (arith, inv.1, c.put_label-to.ensures.1),
+      omega (arith, c.loop-i-test.true),
     )
 
 pub shape_of-out : goal.shape_of-out

@@ -23,11 +23,10 @@ begun c = (goal.at.After-put_field-b c).Start
 
 pub put_row-c-requires : goal.put_row-c-requires
 put_row-c-requires c =
-    let f = c in
     let b = titled (goal.at.put_row-c-requires c).After-put_field-b in
     let s = begun (goal.at.put_row-c-requires c).After-put_field-b in (
       omega arith,
-      omega (arith, s.requires.0, b.put_bytes-a.ensures.next, b.put_bytes-a.ensures.size, f.put_field-b.ensures.0.size, f.put_field-b.ensures.1),
+      omega (arith, s.requires.0, b.put_bytes-a.ensures.next, b.put_bytes-a.ensures.size, c.put_field-b.ensures.0.size, c.put_field-b.ensures.1),
       (_, rows_first s.requires.2.2),
     )
 
@@ -42,7 +41,6 @@ slice_bounds-put_rows-start c = omega (arith, rows_some (begun (counted (goal.at
 
 pub put_rows-requires : goal.put_rows-requires
 put_rows-requires c =
-    let r = c in
     let f = counted (goal.at.put_rows-requires c).After-put_row-c in
     let b = titled f in
     let s = begun f in
@@ -57,7 +55,7 @@ put_rows-requires c =
             b.put_bytes-a.ensures.size,
             f.put_field-b.ensures.0.size,
             f.put_field-b.ensures.1,
-            r.put_row-c.ensures.upper_bound,
+            c.put_row-c.ensures.upper_bound,
           )),
       (_, rows_rest s.requires.2.2),
     )
@@ -66,8 +64,6 @@ pub returns : goal.returns
 unfolding bytes
 returns c =
     λ odd others h.
-    let e = c in
-    let r = e in
     let f = counted (goal.at.returns c).After-put_row-c in
-    wrote_apart odd others h (titled f).put_bytes-a.ensures f.put_field-b.ensures.0 (r.put_row-c.ensures.row_put odd (rows_first h))
-    (e.put_rows.ensures others (rows_rest h))
+    wrote_apart odd others h (titled f).put_bytes-a.ensures f.put_field-b.ensures.0 (c.put_row-c.ensures.row_put odd (rows_first h))
+    (c.put_rows.ensures others (rows_rest h))

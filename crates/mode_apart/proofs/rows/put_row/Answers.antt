@@ -13,22 +13,18 @@ use Rattle.mode_apart.proofs.rows.put_row.Goals.{After-width_of-width}
 
 pub bounds-row-0 : goal.bounds-row-0
 bounds-row-0 c =
-    let s = c in
-    omega (arith, row_long s.requires.2.1)
+    omega (arith, row_long c.requires.2.1)
 
 pub width_of-width-requires : goal.width_of-width-requires
 width_of-width-requires c =
-    let s = c in
-    row_known s.requires.2.1
+    row_known c.requires.2.1
 
 -- how many numbers are the row's own, and that it has them
 own : (c : After-width_of-width) →
-    let s = c in
     let w = c.width_of-width.result in
-    (w ≤ most_columns) × (length (take (w + 1) s.args.row.now) ≡ w + 1)
+    (w ≤ most_columns) × (length (take (w + 1) c.args.row.now) ≡ w + 1)
 own c =
-    let s = c in
-    let h = s.requires.2.1 in
+    let h = c.requires.2.1 in
     let few : c.width_of-width.result ≤ most_columns = omega (arith, row_width h _ c.width_of-width.ensures, row_narrow h) in
     (few, length-take-le _ _ (omega (arith, few, row_long h)))
 
@@ -41,40 +37,28 @@ slice_bounds-put_cells-end c =
 
 pub put_cells-b-requires : goal.put_cells-b-requires
 put_cells-b-requires c =
-    let b = c in
-    let w = b in
-    let s = w in
     let o = own (goal.at.put_cells-b-requires c).After-width_of-width in
-    omega (arith, s.requires.0, s.requires.1, o, b.put_bytes-a.ensures.next, b.put_bytes-a.ensures.size)
+    omega (arith, c.requires.0, c.requires.1, o, c.put_bytes-a.ensures.next, c.put_bytes-a.ensures.size)
 
 pub put_byte-requires : goal.put_byte-requires
 put_byte-requires c =
-    let p = c in
-    let b = p in
-    let w = b in
-    let s = w in
     let o = own (goal.at.put_byte-requires c).After-width_of-width in
     omega (
       arith,
-      s.requires.0,
-      s.requires.1,
+      c.requires.0,
+      c.requires.1,
       o,
-      b.put_bytes-a.ensures.next,
-      b.put_bytes-a.ensures.size,
-      p.put_cells-b.ensures.wrote.size,
-      p.put_cells-b.ensures.upper_bound,
+      c.put_bytes-a.ensures.next,
+      c.put_bytes-a.ensures.size,
+      c.put_cells-b.ensures.wrote.size,
+      c.put_cells-b.ensures.upper_bound,
     )
 
 pub returns : goal.returns
 returns c =
-    let e = c in
-    let p = e in
-    let b = p in
-    let w = b in
-    let s = w in
     let o = own (goal.at.returns c).After-width_of-width in
-    let end = wrote_byte (search rules) e.put_byte.ensures in
+    let end = wrote_byte (search rules) c.put_byte.ensures in
     record {
-      row_put = λ x h. wrote_row h _ _ (row_width h _ w.width_of-width.ensures) b.put_bytes-a.ensures p.put_cells-b.ensures.wrote end;
-      upper_bound = (omega (arith, s.requires.0, o, b.put_bytes-a.ensures.next, p.put_cells-b.ensures.upper_bound, e.put_byte.ensures.1), search rules);
+      row_put = λ x h. wrote_row h _ _ (row_width h _ c.width_of-width.ensures) c.put_bytes-a.ensures c.put_cells-b.ensures.wrote end;
+      upper_bound = (omega (arith, c.requires.0, o, c.put_bytes-a.ensures.next, c.put_cells-b.ensures.upper_bound, c.put_byte.ensures.1), search rules);
     }
