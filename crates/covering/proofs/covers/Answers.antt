@@ -76,12 +76,11 @@ pub columns-smaller : goal.columns-smaller
 columns-smaller c = c.drop_least-rest.ensures.less
 
 pub columns-preserved : goal.columns-preserved
-columns-preserved c =
-    (
-      c.loop-q.invariant.0,
-      passed_row c.columns.invariant.1 c.least-p.ensures c.drop_least-rest.ensures
-          (λ j l. c.loop-q.invariant.2 j (omega (arith, l, c.loop-q-test.false))),
-    )
+columns-preserved c = (
+  c.loop-q.invariant.0,
+  passed_row c.columns.invariant.1 c.least-p.ensures c.drop_least-rest.ensures
+      (λ j l. c.loop-q.invariant.2 j (omega (arith, l, c.loop-q-test.false))),
+)
 
 pub returns-after-columns : goal.returns-after-columns
 returns-after-columns c view line ev ea t wv wa free =

@@ -39,17 +39,15 @@ pub slice_bounds-numbers-end : goal.slice_bounds-numbers-end
 slice_bounds-numbers-end c = within (goal.at.slice_bounds-numbers-end c).After-views_of-v
 
 pub put_list-requires : goal.put_list-requires
-put_list-requires c =
-    (
-      omega arith,
-      omega (arith, listed (goal.at.put_list-requires c).After-views_of-v, c.views_of-v.ensures.few, c.requires),
-      subst InRange (sym (held (goal.at.put_list-requires c).After-views_of-v).are) (views_ranged c.args.word),
-    )
+put_list-requires c = (
+  omega arith,
+  omega (arith, listed (goal.at.put_list-requires c).After-views_of-v, c.views_of-v.ensures.few, c.requires),
+  subst InRange (sym (held (goal.at.put_list-requires c).After-views_of-v).are) (views_ranged c.args.word),
+)
 
 pub returns : goal.returns
 unfolding bytes
-returns c =
-    (
-      λ l. wrote_as (some_views l.declared.views (held (goal.at.returns c).After-views_of-v) (within (goal.at.returns c).After-views_of-v) c.if-count-eq0.false) (c.put_list.ensures.list_put l.declared (loaded_to l)),
-      omega (arith, listed (goal.at.returns c).After-views_of-v, c.views_of-v.ensures.few, c.put_list.ensures.upper_bound.0),
-    )
+returns c = (
+  λ l. wrote_as (some_views l.declared.views (held (goal.at.returns c).After-views_of-v) (within (goal.at.returns c).After-views_of-v) c.if-count-eq0.false) (c.put_list.ensures.list_put l.declared (loaded_to l)),
+  omega (arith, listed (goal.at.returns c).After-views_of-v, c.views_of-v.ensures.few, c.put_list.ensures.upper_bound.0),
+)

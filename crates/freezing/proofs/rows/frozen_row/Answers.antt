@@ -37,12 +37,11 @@ pub loop-p-smaller : goal.loop-p-smaller
 loop-p-smaller c = omega arith
 
 pub loop-p-preserved : goal.loop-p-preserved
-loop-p-preserved c =
-    (
-      omega arith,
-      frozen_more c.loop-p.invariant.1 c.loop-p-test.true
-          (c.frozen.ensures ∙ ap (frozen_term _) c.term_at-t.ensures),
-    )
+loop-p-preserved c = (
+  omega arith,
+  frozen_more c.loop-p.invariant.1 c.loop-p-test.true
+      (c.frozen.ensures ∙ ap (frozen_term _) c.term_at-t.ensures),
+)
 
 pub returns : goal.returns
 returns c = frozen_all c.loop-p.invariant.1 (omega arith)

@@ -40,12 +40,11 @@ pub loop-p-smaller : goal.loop-p-smaller
 loop-p-smaller c = omega arith
 
 pub loop-p-preserved : goal.loop-p-preserved
-loop-p-preserved c =
-    (
-      omega arith,
-      marked_more c.loop-p.invariant.1 (search rules) c.term_at-t.ensures c.first_column-q.ensures
-          c.marked_cell.ensures,
-    )
+loop-p-preserved c = (
+  omega arith,
+  marked_more c.loop-p.invariant.1 (search rules) c.term_at-t.ensures c.first_column-q.ensures
+      c.marked_cell.ensures,
+)
 
 pub returns : goal.returns
 returns c = marked_all c.loop-p.invariant.1 (omega arith)

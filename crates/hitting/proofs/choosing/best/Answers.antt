@@ -12,12 +12,11 @@ pub low_bits-full-requires : goal.low_bits-full-requires
 low_bits-full-requires c = omega (arith, c.requires.few)
 
 pub fill-requires : goal.fill-requires
-fill-requires c =
-    (
-      (c.args.k, c.requires, omega (arith, c.low_bits-full.ensures, pow_pos c.args.k)),
-      filled_more c.args.hits.now c.args.costs.now _ (omega arith) (filled_none c.args.hits.now c.args.costs.now)
-          (lightest_nothing c.args.hits.now c.args.costs.now) (omega arith),
-    )
+fill-requires c = (
+  (c.args.k, c.requires, omega (arith, c.low_bits-full.ensures, pow_pos c.args.k)),
+  filled_more c.args.hits.now c.args.costs.now _ (omega arith) (filled_none c.args.hits.now c.args.costs.now)
+      (lightest_nothing c.args.hits.now c.args.costs.now) (omega arith),
+)
 
 pub choose-requires : goal.choose-requires
 choose-requires c =

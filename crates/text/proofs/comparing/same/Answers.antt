@@ -42,13 +42,12 @@ pub loop-at-smaller : goal.loop-at-smaller
 loop-at-smaller c = omega arith
 
 pub loop-at-preserved : goal.loop-at-preserved
-loop-at-preserved c =
-    (
-      omega arith,
-      same_behind _ _ c.loop-at.at 8
-          ((words_iff (goal.at.loop-at-preserved c).In-loop-at).0 (sym c.word_at.ensures ∙ c.if-word_at.false ∙ c.word_at-in-loop-at.ensures))
-          ∙ c.loop-at.invariant.1,
-    )
+loop-at-preserved c = (
+  omega arith,
+  same_behind _ _ c.loop-at.at 8
+      ((words_iff (goal.at.loop-at-preserved c).In-loop-at).0 (sym c.word_at.ensures ∙ c.if-word_at.false ∙ c.word_at-in-loop-at.ensures))
+      ∙ c.loop-at.invariant.1,
+)
 
 pub same_from-requires : goal.same_from-requires
 same_from-requires c = omega arith
