@@ -3,6 +3,8 @@
 // answer has a part, so that the compiler can leave none out; it is 0 where a text is turned back. Beside them the program's
 // whole work.
 
+#![tactic(auto)]
+
 mod checking;
 mod deciding;
 mod granting;
