@@ -19,7 +19,7 @@ static const size_t cell_sizes[OPERATIONS] = {
 /* The call of an operation that writes to the lent buffer. */
 static kolbrees_reply listing(const struct call *call, const uint8_t *text, void *out)
 {
-    const kolbrees_policy *policy = call->policy;
+    kolbrees_policy policy = *call->policy;
     size_t length = call->text.length;
     switch (call->operation) {
     case LABELS:
@@ -43,12 +43,12 @@ static struct outcome dispatch(const struct call *call, const uint8_t *text, voi
         outcome.reply = loading.reply;
         outcome.policy = loading.policy;
     } else if (call->operation == OPEN) {
-        kolbrees_opening opening = kolbrees_open(call->policy);
+        kolbrees_opening opening = kolbrees_open(*call->policy);
         outcome.reply = opening.reply;
         outcome.session = opening.session.mask;
     } else if (call->operation == DECIDE) {
         kolbrees_decision decision = kolbrees_decide(
-            call->policy, (kolbrees_session){call->session}, text, call->text.length);
+            *call->policy, (kolbrees_session){call->session}, text, call->text.length);
         outcome.reply = decision.reply;
         outcome.session = decision.session.mask;
     } else {

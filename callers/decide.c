@@ -26,7 +26,7 @@ static void print_line(unsigned query, kolbrees_reply reply, kolbrees_session se
            reply.number, reply.line);
 }
 
-static void decide_all(const kolbrees_policy *policy, struct span queries)
+static void decide_all(kolbrees_policy policy, struct span queries)
 {
     kolbrees_session session = kolbrees_open(policy).session;
     for (unsigned number = 1; queries.length > 0; number++) {
@@ -53,7 +53,7 @@ int main(int argc, char **argv)
     if (loading.reply.word == KOLBREES_REFUSED) {
         print_line(0, loading.reply, (kolbrees_session){0});
     } else {
-        decide_all(&loading.policy, (struct span){queries, query_bytes});
+        decide_all(loading.policy, (struct span){queries, query_bytes});
     }
     return fflush(stdout) == 0 ? 0 : 1;
 }

@@ -39,20 +39,20 @@ static void load(const struct job *job)
 
 static void open_session(const struct job *job)
 {
-    kept = kolbrees_open(&job->policy).session.mask;
+    kept = kolbrees_open(job->policy).session.mask;
 }
 
 static void decide(const struct job *job)
 {
     struct span query = job->query;
-    kept = kolbrees_decide(&job->policy, job->session, query.bytes, query.length).session.mask;
+    kept = kolbrees_decide(job->policy, job->session, query.bytes, query.length).session.mask;
 }
 
 static void labels(const struct job *job)
 {
     uint64_t out[KOLBREES_MOST_LINES];
     struct span query = job->query;
-    kept = kolbrees_labels(&job->policy, query.bytes, query.length, out, KOLBREES_MOST_LINES).count;
+    kept = kolbrees_labels(job->policy, query.bytes, query.length, out, KOLBREES_MOST_LINES).count;
 }
 
 static double now(void)
@@ -155,7 +155,7 @@ int main(int argc, char **argv)
         return 2;
     }
     job.policy = loading.policy;
-    job.session = kolbrees_open(&job.policy).session;
+    job.session = kolbrees_open(job.policy).session;
     print(&job);
     return 0;
 }

@@ -5,12 +5,11 @@
  * (section 5), and the operations with examples (section 6).
  *
  * The caller owns everything. Policies, sessions and replies are values: copy them, keep them,
- * write them to a file. Policies, texts and buffers are lent for the time of a call, and only a
- * buffer is written. Nothing is kept between calls and nothing is allocated, so calls may run in
- * parallel.
+ * write them to a file. Texts and buffers are lent for the time of a call, and a text is never
+ * written. Nothing is kept between calls and nothing is allocated, so calls may run in parallel.
  *
- * No pointer may be null, not even where the length or the room is 0, and the buffer of a call must
- * not overlap its text or its policy. A call takes less than 64 KB of stack. */
+ * No pointer may be null, not even where the length or the room is 0, and the text and the buffer
+ * of a call must not overlap. A call takes less than 64 KB of stack. */
 
 #ifndef KOLBREES_H
 #define KOLBREES_H
@@ -24,7 +23,7 @@ extern "C" {
 #endif
 
 /* The version of these functions and structs; kolbrees_version tells the library's own. */
-#define KOLBREES_VERSION 2
+#define KOLBREES_VERSION 1
 
 /* Document 01's limits, and what they leave for buffers. */
 #define KOLBREES_MOST_TABLES 16
@@ -138,18 +137,18 @@ kolbrees_loading kolbrees_load(const uint8_t *text, size_t length);
 
 /* Opening: a session with every partition open; beside a refusal with none.
  * Refused by 8. */
-kolbrees_opening kolbrees_open(const kolbrees_policy *policy);
+kolbrees_opening kolbrees_open(kolbrees_policy policy);
 
 /* Deciding a query text: yes or no, and the session as the call leaves it. A yes keeps open only
  * the partitions that settle the query; after a no or a refusal it is the session handed in.
  * Refused by 8, 9, then the text: 7 at line 0, then line by line 1, 7, 2, 4, 5, 6. */
-kolbrees_decision kolbrees_decide(const kolbrees_policy *policy, kolbrees_session session,
+kolbrees_decision kolbrees_decide(kolbrees_policy policy, kolbrees_session session,
                                   const uint8_t *text, size_t length);
 
 /* Labels of a query text, one for each line of the reduced query, ascending: the low 32 bits hold
  * the table number and the high 32 bits the views, view n at bit 31 + n.
  * Refused by 8, the text as in deciding, 10. */
-kolbrees_reply kolbrees_labels(const kolbrees_policy *policy, const uint8_t *text, size_t length,
+kolbrees_reply kolbrees_labels(kolbrees_policy policy, const uint8_t *text, size_t length,
                                uint64_t *out, size_t room);
 
 /* Explaining, for a query text and a partition. Settled: each label's views that are granted.
@@ -157,8 +156,8 @@ kolbrees_reply kolbrees_labels(const kolbrees_policy *policy, const uint8_t *tex
  * word that strictly includes another; a word 0 means that no view would do. View n at bit n - 1;
  * words ascend.
  * Refused by 8, 4 at line 0, the text as in deciding, 10. */
-kolbrees_reply kolbrees_explain(const kolbrees_policy *policy, uint64_t partition,
-                                const uint8_t *text, size_t length, uint32_t *out, size_t room);
+kolbrees_reply kolbrees_explain(kolbrees_policy policy, uint64_t partition, const uint8_t *text,
+                                size_t length, uint32_t *out, size_t room);
 
 /* Comparing labels, any two words: x is at or below y when y has no view, or when their low halves
  * are equal and x's high bits include all of y's. */
@@ -169,19 +168,19 @@ bool kolbrees_compare(uint64_t x, uint64_t y);
  * the partition, and the query's answers differ. Settled: no row.
  * Refused by 8, 4 at line 0, the text as in deciding, 10: fewer than KOLBREES_MOST_APART_CELLS
  * cells, settled or not. */
-kolbrees_reply kolbrees_apart(const kolbrees_policy *policy, uint64_t partition,
-                              const uint8_t *text, size_t length, uint64_t *out, size_t room);
+kolbrees_reply kolbrees_apart(kolbrees_policy policy, uint64_t partition, const uint8_t *text,
+                              size_t length, uint64_t *out, size_t room);
 
 /* The smallest extra grant, for a query text and a partition: the fewest views whose addition makes
  * the partition settle the query, ascending; the empty list where it does already.
  * Refused by 8, 4 at line 0, the text as in deciding, 10 where there is a list to write. */
-kolbrees_reply kolbrees_grant(const kolbrees_policy *policy, uint64_t partition,
-                              const uint8_t *text, size_t length, uint32_t *out, size_t room);
+kolbrees_reply kolbrees_grant(kolbrees_policy policy, uint64_t partition, const uint8_t *text,
+                              size_t length, uint32_t *out, size_t room);
 
 /* Importing a rule, one line as the papers print it: its query text is written to the buffer of
  * `room` bytes from the place on, and all other bytes stay.
  * Refused by 8, 7 at line 0, then at line 1 by 1, 7, 2, 4, 5, 11, 12, last 10. */
-kolbrees_reply kolbrees_import(const kolbrees_policy *policy, const uint8_t *rule, size_t length,
+kolbrees_reply kolbrees_import(kolbrees_policy policy, const uint8_t *rule, size_t length,
                                uint8_t *out, size_t room, size_t place);
 
 /* The version of the library. Where it is another than KOLBREES_VERSION, call nothing else. */

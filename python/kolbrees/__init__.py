@@ -20,7 +20,7 @@ bytes, as the desk's manual lays them down. Document 01's example:
 5 refused by 5 at line 2 [1]
 6 yes [1]
 
-The library is libkolbrees.so.2. It is looked for where the environment's KOLBREES_LIBRARY says, or
+The library is libkolbrees.so.1. It is looked for where the environment's KOLBREES_LIBRARY says, or
 beside this package, or on the loader's path. One that does not match this package is not taken: the
 import fails.
 """

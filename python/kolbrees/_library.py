@@ -8,7 +8,7 @@ from ctypes import POINTER, c_bool, c_char, c_char_p, c_size_t, c_uint32, c_uint
 from pathlib import Path
 from typing import Any
 
-VERSION = 2
+VERSION = 1
 NAME = f"libkolbrees.so.{VERSION}"
 
 MOST_TABLES = 16
@@ -120,7 +120,6 @@ class FactsValue(ctypes.Structure):
     _fields_ = [(name, c_uint64) for name in FACTS]
 
 
-_POLICY = POINTER(PolicyValue)
 _TEXT = [c_char_p, c_size_t]
 _WORDS = [POINTER(c_uint64), c_size_t]
 _HALF_WORDS = [POINTER(c_uint32), c_size_t]
@@ -130,14 +129,14 @@ _FUNCTIONS: dict[str, tuple[type, list[Any]]] = {
     "kolbrees_version": (c_uint64, []),
     "kolbrees_about": (FactsValue, []),
     "kolbrees_load": (LoadingValue, _TEXT),
-    "kolbrees_open": (OpeningValue, [_POLICY]),
-    "kolbrees_decide": (DecisionValue, [_POLICY, SessionValue, *_TEXT]),
-    "kolbrees_labels": (ReplyValue, [_POLICY, *_TEXT, *_WORDS]),
-    "kolbrees_explain": (ReplyValue, [_POLICY, c_uint64, *_TEXT, *_HALF_WORDS]),
+    "kolbrees_open": (OpeningValue, [PolicyValue]),
+    "kolbrees_decide": (DecisionValue, [PolicyValue, SessionValue, *_TEXT]),
+    "kolbrees_labels": (ReplyValue, [PolicyValue, *_TEXT, *_WORDS]),
+    "kolbrees_explain": (ReplyValue, [PolicyValue, c_uint64, *_TEXT, *_HALF_WORDS]),
     "kolbrees_compare": (c_bool, [c_uint64, c_uint64]),
-    "kolbrees_apart": (ReplyValue, [_POLICY, c_uint64, *_TEXT, *_WORDS]),
-    "kolbrees_grant": (ReplyValue, [_POLICY, c_uint64, *_TEXT, *_HALF_WORDS]),
-    "kolbrees_import": (ReplyValue, [_POLICY, *_TEXT, POINTER(c_char), c_size_t, c_size_t]),
+    "kolbrees_apart": (ReplyValue, [PolicyValue, c_uint64, *_TEXT, *_WORDS]),
+    "kolbrees_grant": (ReplyValue, [PolicyValue, c_uint64, *_TEXT, *_HALF_WORDS]),
+    "kolbrees_import": (ReplyValue, [PolicyValue, *_TEXT, POINTER(c_char), c_size_t, c_size_t]),
 }
 
 

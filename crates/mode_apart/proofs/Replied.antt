@@ -5,8 +5,6 @@ use mathlib.Core.List.{List, [], ◌∷◌}
 use mathlib.Core.Logic.{inl}
 use Prim.Native.Nat.{ℕ, ◌-◌, ◌*◌, ◌≤◌}
 use native.Mathlib.Omega.{arith}
-use denote.Enum.Declared
-use types.Run.{OneOf}
 use lib.ListN.{length, take, drop, get_or, length-append}
 use lib.Seq.{take_at}
 use Rattle.theory.specs.Query.{Query}
@@ -27,7 +25,6 @@ use Rattle.apart.specs.Archives.{SaidTelling, said_telling, said_rows, said_sett
 use Rattle.apart.specs.Archives.{Owed, refusal, settlement, archives, owed, owed_for, most_rows, most_cells, Gives, ArchivesGiven}
 use Rattle.apart.specs.declared.telling.Telling.{Telling}
 use Rattle.apart.specs.declared.telling.Telling.TheVariants.{Settled, Apart, Refused}
-use Rattle.apart.specs.contracts.telling.Telling.{the_type}
 use Rattle.page.specs.Sizes.{Shown}
 use Rattle.page.specs.Refusal.{policy_refused, query_refused}
 use Rattle.page.proofs.Texts.{query_shown}
@@ -45,12 +42,6 @@ settled≢refused e = let z : ◌≡◌ {A = ℕ} 0 1 = cc in omega arith
 
 apart≢refused : says_apart ≡ says_refused → ⊥
 apart≢refused e = let z : ◌≡◌ {A = ℕ} 0 1 = cc in omega arith
-
--- the first variant, by its tag
-pub is_settled : (r : Telling) → OneOf (0 ∷ []) (Declared.tag_of the_type r) → r ≡ Settled
-is_settled Settled t = refl
-is_settled (Apart n) t = absurd (omega arith)
-is_settled (Refused n k) t = absurd (omega arith)
 
 -- ---- a refusal shows a line of the text, or none
 

@@ -1,5 +1,7 @@
 // The mode `apart`: rows on which the views of a partition agree whether the odd one is there or not, and a query does not.
 
+#![tactic(auto)]
+
 mod rows;
 
 ghost use Rattle.std.specs.Prelude.{◌≤◌, length};

@@ -1,5 +1,7 @@
 // The mode `compare`: whether one label is at or below another. It looks at no policy.
 
+#![tactic(auto)]
+
 ghost use Rattle.std.specs.Prelude.{◌≤◌, length};
 ghost use Rattle.writing.specs.Wrote.{Wrote};
 ghost use Rattle.page.specs.Sizes.{most_page};

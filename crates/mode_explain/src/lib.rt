@@ -1,5 +1,7 @@
 // The mode `explain`: why a partition settles a query or not, by views and their own text.
 
+#![tactic(auto)]
+
 ghost use Rattle.std.specs.Prelude.{◌+◌, ◌≤◌, length};
 ghost use Rattle.model.specs.Limits.{most_lines};
 ghost use Rattle.validity.specs.Loadable.{Loadable};

@@ -5,8 +5,6 @@ use mathlib.Core.List.{List, [], ◌∷◌, ◌++◌}
 use mathlib.Core.Logic.{inl}
 use Prim.Native.Nat.{ℕ, ◌-◌, ◌≤◌}
 use native.Mathlib.Omega.{arith}
-use denote.Enum.Declared
-use types.Run.{OneOf}
 use lib.ListN.{length, take, drop, length-append}
 use lib.Seq.{take_at}
 use Rattle.theory.specs.Query.{Line, Query}
@@ -28,7 +26,6 @@ use Rattle.grants.specs.Granting.{SaidGranting, said_granting, said_list, said_n
 use Rattle.grants.specs.Granting.{Owed, refusal, nothing, list, owed, owed_for, some_bare, Gives, GrantGiven}
 use Rattle.grants.specs.declared.granting.Granting.{Granting}
 use Rattle.grants.specs.declared.granting.Granting.TheVariants.{Given, Nothing, Refused}
-use Rattle.grants.specs.contracts.granting.Granting.{the_type}
 use Rattle.page.specs.Sizes.{Shown}
 use Rattle.page.specs.Refusal.{policy_refused, query_refused}
 use Rattle.page.proofs.Texts.{query_shown}
@@ -45,12 +42,6 @@ list≢refused e = let z : ◌≡◌ {A = ℕ} 0 1 = cc in omega arith
 
 none≢refused : says_none ≡ says_refused → ⊥
 none≢refused e = let z : ◌≡◌ {A = ℕ} 0 1 = cc in omega arith
-
--- the second variant, by its tag
-pub is_nothing : (r : Granting) → OneOf (1 ∷ []) (Declared.tag_of the_type r) → r ≡ Nothing
-is_nothing (Given n) t = absurd (omega arith)
-is_nothing Nothing t = refl
-is_nothing (Refused n k) t = absurd (omega arith)
 
 -- ---- the views of a list
 

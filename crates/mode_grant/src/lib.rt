@@ -1,5 +1,7 @@
 // The mode `grant`: the fewest views that make a partition settle a query, by their numbers and their own text.
 
+#![tactic(auto)]
+
 ghost use Rattle.std.specs.Prelude.{◌≤◌, length};
 ghost use Rattle.model.specs.Limits.{most_views};
 ghost use Rattle.validity.specs.Loadable.{Loadable};

@@ -1,5 +1,7 @@
 // The mode `labels`: the labels of a query, a line for each.
 
+#![tactic(auto)]
+
 ghost use Rattle.std.specs.Prelude.{◌+◌, ◌≤◌, length};
 ghost use Rattle.model.specs.Limits.{most_lines};
 ghost use Rattle.validity.specs.Loadable.{Loadable};

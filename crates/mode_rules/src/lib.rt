@@ -1,5 +1,7 @@
 // The mode `rules`: a file of rules, one a line, turned into one page.
 
+#![tactic(auto)]
+
 mod turned;
 
 ghost use Rattle.std.specs.Prelude.{◌≡◌, ◌+◌, ◌*◌, ◌≤◌, ◌<◌, length};

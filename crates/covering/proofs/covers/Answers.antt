@@ -44,15 +44,13 @@ answer : (c : After-obeys) (view line : TheLine)
     Wide r.width r.views.now r.v view → Wide r.width r.lines.now r.a line
     → c.obeys.result ≡ rule view line found.least-p.result inner.loop-q.q)
 answer c view line v a =
-    let inner = c in
-    let found = inner in
-    let few = found.requires.1 in
-    let p = found.least-p.result in
-    let q = inner.loop-q.q in
+    let few = c.requires.1 in
+    let p = c.least-p.result in
+    let q = c.loop-q.q in
     let p_in = inside (goal.at.After-obeys c).After-least-p in
-    let q_in = inner.loop-q-test.true in
-    let x = inner.term_at-x.ensures ∙ column few v p p_in in
-    let y = inner.term_at-y.ensures ∙ column few a p p_in in
+    let q_in = c.loop-q-test.true in
+    let x = c.term_at-x.ensures ∙ column few v p p_in in
+    let y = c.term_at-y.ensures ∙ column few a p p_in in
     let xq = c.term_at-xq.ensures ∙ column few v q q_in in
     let yq = c.term_at-yq.ensures ∙ column few a q q_in in
     c.obeys.ensures (at view p) (at view q) (at line p) (at line q) x xq y yq
@@ -79,11 +77,10 @@ columns-smaller c = c.drop_least-rest.ensures.less
 
 pub columns-preserved : goal.columns-preserved
 columns-preserved c =
-    let inner = c in
-    let found = inner in (
-      inner.loop-q.invariant.0,
-      passed_row found.columns.invariant.1 found.least-p.ensures c.drop_least-rest.ensures
-          (λ j l. inner.loop-q.invariant.2 j (omega (arith, l, c.loop-q-test.false))),
+    (
+      c.loop-q.invariant.0,
+      passed_row c.columns.invariant.1 c.least-p.ensures c.drop_least-rest.ensures
+          (λ j l. c.loop-q.invariant.2 j (omega (arith, l, c.loop-q-test.false))),
     )
 
 pub returns-after-columns : goal.returns-after-columns
@@ -96,6 +93,5 @@ pub returns-then-not-obeys : goal.returns-then-not-obeys
 returns-then-not-obeys c view line ev ea t wv wa free =
     let v = wide ev wv in
     let a = wide ea wa in
-    let inner = c in
-    broken view line v a _ _ (inside (goal.at.returns-then-not-obeys c).After-least-p) inner.loop-q-test.true
+    broken view line v a _ _ (inside (goal.at.returns-then-not-obeys c).After-least-p) c.loop-q-test.true
     (sym (answer (goal.at.returns-then-not-obeys c).After-obeys view line v a) ∙ c.if-not-obeys.true) t

@@ -52,10 +52,9 @@ bounds-ready-table-2 c = omega (arith, last (goal.at.bounds-ready-table-2 c).Aft
 pub loop-left-init : goal.loop-left-init
 unfolding line_value
 loop-left-init c =
-    let s = c in
-    let r = s.args.ready.now in
-    let table = s.table_at-table.ensures in (
-      rw table s.requires.tabled.views,
+    let r = c.args.ready.now in
+    let table = c.table_at-table.ensures in (
+      rw table c.requires.tabled.views,
       omega arith,
       refl,
       c.low_bits-every.ensures,
@@ -83,14 +82,10 @@ bounds-ready-k c = omega (arith, small (goal.at.bounds-ready-k c).After-least-k)
 
 pub covers-requires : goal.covers-requires
 covers-requires c =
-    let cut = c in
-    let found = cut in
-    let at = found in
-    let s = at in
-    let (long, lines, a) = s.requires.ready_len in
-    let (_, _, width, every, _, _) = at.loop-left.invariant in
+    let (long, lines, a) = c.requires.ready_len in
+    let (_, _, width, every, _, _) = c.loop-left.invariant in
     let k = small (goal.at.covers-requires c).After-least-k in (
-      cut.without-bound.ensures.below _ (rw every (low_bits_below _ _ (le_refl _))),
+      c.without-bound.ensures.below _ (rw every (low_bits_below _ _ (le_refl _))),
       rw width (narrow (goal.at.covers-requires c).After-table_at-table),
       omega (arith, k, long),
       omega (arith, lines, a),
@@ -121,16 +116,12 @@ loop-left-smaller c = c.drop_least-left.ensures.less
 pub loop-left-preserved : goal.loop-left-preserved
 unfolding line_value
 loop-left-preserved c =
-    let tested = c in
-    let cut = tested in
-    let s = cut in
-    let at = s.loop-left in
-    let k = s.least-k in
+    let at = c.loop-left in
+    let k = c.least-k in
     let (small-left, small_word, width, every, union, picked) = at.invariant in
-    let answer = tested.covers in
-    let laid = s in
-    let r = laid.args.ready.now in
-    let table = laid.table_at-table.ensures in (
+    let answer = c.covers in
+    let r = c.args.ready.now in
+    let table = c.table_at-table.ensures in (
       omega (arith, c.drop_least-left.ensures.less),
       elim c.if-covers.branch [ then-covers w ↦ rw (w.word-is, w.set_bit-word.ensures) (set_bit_below most_views _ _ small_word (omega (arith, small (goal.at.loop-left-preserved c).After-least-k))) | else-covers w ↦ rw w.word-is small_word ],
       width,
@@ -139,7 +130,7 @@ loop-left-preserved c =
       λ vs A l.
           let w = picked vs A l in
           let wide = width ∙ ap (table_width r) (table ∙ l.line.table) in
-          let outside = subst (λ (m : ℕ). Without m (free_word r k.result) cut.without-bound.result) every cut.without-bound.ensures in
+          let outside = subst (λ (m : ℕ). Without m (free_word r k.result) c.without-bound.result) every c.without-bound.ensures in
           picked_more answer.result _ w k.ensures c.drop_least-left.ensures
           (true_iff (answered l _ _ wide k.result answer.result (w.some k.result k.ensures.set) outside answer.ensures))
           (elim c.if-covers.branch [ then-covers w ↦ rw (w.if-covers.true, w.word-is) w.set_bit-word.ensures | else-covers w ↦ rw w.if-covers.false w.word-is ]),
@@ -151,8 +142,7 @@ join-requires c = (omega (arith, last (goal.at.join-requires c).After-table_at-t
 pub returns : goal.returns
 returns c = λ vs A l.
     let (_, small_word, _, _, union, picked) = c.loop-left.invariant in
-    let laid = c in
-    let r = laid.args.ready.now in
+    let r = c.args.ready.now in
     let word = c.loop-left.word in
     let done = subst (λ (m : ℕ). Picked (Covering vs A) (table_word r A.table) m word) c.loop-left-test.false (picked vs A l) in
-    (c.join.ensures ∙ labelled l done _ laid.table_at-table.ensures small_word, reached l done union)
+    (c.join.ensures ∙ labelled l done _ c.table_at-table.ensures small_word, reached l done union)

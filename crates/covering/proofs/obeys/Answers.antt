@@ -41,8 +41,7 @@ returns-then-a-ne-HIDDEN c t u x y ev ew ea eb =
 
 pub returns-then-equals : goal.returns-then-equals
 returns-then-equals c t u x y ev ew ea eb =
-    let before = c in
-    both_right (equals t u x y (goal.at.returns-then-equals c).After-implies-equals ev ew ea eb) before.if-equals.true
+    both_right (equals t u x y (goal.at.returns-then-equals c).After-implies-equals ev ew ea eb) c.if-equals.true
     (implied c.implies.ensures (c.same_term-then-equals.ensures ∙ same_held x y ea eb)
     (c.same_term-then-equals-2.ensures ∙ same_held t u ev ew))
     ∙ rules t u x y (goal.at.returns-then-equals c).Else-a-ne-HIDDEN ev ea

@@ -11,6 +11,5 @@ returns-then-at-eq0 c = simp (le-ltb 0 c.args.at (omega arith))
 pub returns : goal.returns
 unfolding table_terms
 returns c =
-    let s = c in
-    let h : 0 < s.args.at = omega arith in
-    simp (lt-ltb 0 s.args.at h) c.same.ensures
+    let h : 0 < c.args.at = omega arith in
+    simp (lt-ltb 0 c.args.at h) c.same.ensures

@@ -51,8 +51,7 @@ slice_bounds-rest-count c = omega arith
 
 pub returns-then-rest-next : goal.returns-then-rest-next
 returns-then-rest-next c =
-    let d = c in
-    stops (turn (goal.at.returns-then-rest-next c).After-next_line-next).loop-at.invariant (turn (goal.at.returns-then-rest-next c).After-next_line-next).requires (stops_here (text (goal.at.returns-then-rest-next c).After-next_line-next) (turn (goal.at.returns-then-rest-next c).After-next_line-next).loop-at.at d.next_line-next.ensures c.if-rest-next.true)
+    stops (turn (goal.at.returns-then-rest-next c).After-next_line-next).loop-at.invariant (turn (goal.at.returns-then-rest-next c).After-next_line-next).requires (stops_here (text (goal.at.returns-then-rest-next c).After-next_line-next) (turn (goal.at.returns-then-rest-next c).After-next_line-next).loop-at.at c.next_line-next.ensures c.if-rest-next.true)
 
 pub slice_bounds-is_cut-length : goal.slice_bounds-is_cut-length
 slice_bounds-is_cut-length c = simp (length-take, length-drop) (omega (arith, line_ends (goal.at.slice_bounds-is_cut-length c).Else-rest-next))
@@ -69,9 +68,8 @@ loop-at-smaller c = omega (arith, line_ends (of_cut (goal.at.loop-at-smaller c).
 
 pub loop-at-preserved : goal.loop-at-preserved
 loop-at-preserved c =
-    let s = c in
     let e = of_cut (goal.at.loop-at-preserved c).After-is_cut in
-    walked_more (turn (of_end e)).loop-at.invariant (line_ends e) (sym (is_start (goal.at.loop-at-preserved c).After-is_cut) ∙ s.if-is_cut.false)
+    walked_more (turn (of_end e)).loop-at.invariant (line_ends e) (sym (is_start (goal.at.loop-at-preserved c).After-is_cut) ∙ c.if-is_cut.false)
 
 pub returns : goal.returns
 returns c = ends c.loop-at.invariant c.requires c.loop-at-test.false

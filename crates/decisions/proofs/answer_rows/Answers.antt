@@ -11,11 +11,10 @@ use Rattle.decisions.proofs.answer_rows.Goals as goal
 pub returns : goal.returns
 unfolding labels_value
 returns c =
-    let a = c in
-    let s = a.args.s in
+    let s = c.args.s in
     record {
       rows_answered = λ d t Q ready g.
-          let left = ap (λ (l : Labels). bit_and s.mask l.settling) (a.label_rows-l.ensures.posed_rows_given d t Q ready g) ∙ left_open d Q s.mask in
+          let left = ap (λ (l : Labels). bit_and s.mask l.settling) (c.label_rows-l.ensures.posed_rows_given d t Q ready g) ∙ left_open d Q s.mask in
           subst (λ (m : ℕ). Gives c.answer.result (answered s m)) left c.answer.ensures;
-      lines_len = a.label_rows-l.ensures.lines_len;
+      lines_len = c.label_rows-l.ensures.lines_len;
     }

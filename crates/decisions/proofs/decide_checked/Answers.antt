@@ -17,14 +17,12 @@ prepare-ready-requires c = counted (loaded_to (passes c.valid.ensures (ap not c.
 
 pub decide_loaded-requires : goal.decide_loaded-requires
 decide_loaded-requires c =
-    let made = c in
-    let l = passes made.valid.ensures (ap not made.if-not-valid.false) in
-    (l.declared, ready (loaded_to l) made.prepare-ready.ensures)
+    let l = passes c.valid.ensures (ap not c.if-not-valid.false) in
+    (l.declared, ready (loaded_to l) c.prepare-ready.ensures)
 
 pub returns : goal.returns
 returns c =
-    let made = c in
     record {
-      unloaded = λ n. absurd (n (passes made.valid.ensures (ap not made.if-not-valid.false)));
-      loaded = λ l. c.decide_loaded.ensures l.declared (ready (loaded_to l) made.prepare-ready.ensures);
+      unloaded = λ n. absurd (n (passes c.valid.ensures (ap not c.if-not-valid.false)));
+      loaded = λ l. c.decide_loaded.ensures l.declared (ready (loaded_to l) c.prepare-ready.ensures);
     }

@@ -35,25 +35,20 @@ query_rows-lines-requires c =
 
 pub answer_rows-requires : goal.answer_rows-requires
 answer_rows-requires c =
-    let q = c in
-    let (d, ready) = q.requires in
+    let (d, ready) = c.requires in
     let (Q, e, g) = posed_query (goal.at.answer_rows-requires c).After-q-1 ready in
     ((d, _, Q, ready, posed_rows g (c.query_rows-lines.ensures Q g.query)), search rules)
 
 pub returns-in-Refused : goal.returns-in-Refused
 returns-in-Refused c = λ d ready.
-    let r = c in
-    let i = r in
-    let fit = sym (unfit_is ready i.every_partition-every.ensures _ i.unfit.ensures) ∙ i.if-unfit.false in
-    let reads = r.read_query-r.ensures d.widths ready.tables_are in
-    let e = reading_refused (read d.widths _) r.read_query-r.result _ _ reads c.in-Refused.is in
+    let fit = sym (unfit_is ready c.every_partition-every.ensures _ c.unfit.ensures) ∙ c.if-unfit.false in
+    let reads = c.read_query-r.ensures d.widths ready.tables_are in
+    let e = reading_refused (read d.widths _) c.read_query-r.result _ _ reads c.in-Refused.is in
     subst (Gives _) (sym (under_refused d _ _ _ _ fit e)) c.refused-in-Refused.ensures
 
 pub returns-in-Accepted : goal.returns-in-Accepted
 returns-in-Accepted c = λ d ready.
-    let q = c in
-    let i = q in
-    let fit = sym (unfit_is ready i.every_partition-every.ensures _ i.unfit.ensures) ∙ i.if-unfit.false in
+    let fit = sym (unfit_is ready c.every_partition-every.ensures _ c.unfit.ensures) ∙ c.if-unfit.false in
     let (Q, e, g) = posed_query (goal.at.returns-in-Accepted c).After-q-1 ready in
     subst (Gives _) (sym (under_accepted d _ _ Q fit e))
     (c.answer_rows.ensures.rows_answered d _ Q ready (posed_rows g (c.query_rows-lines.ensures Q g.query)))

@@ -16,10 +16,9 @@ returns-then-unfit c =
 
 pub returns : goal.returns
 returns c =
-    let i = c in
     record {
       rows_decided = λ d t Q text ready g e.
-          let fit = sym (unfit_is ready i.every_partition-every.ensures _ i.unfit.ensures) ∙ i.if-unfit.false in
+          let fit = sym (unfit_is ready c.every_partition-every.ensures _ c.unfit.ensures) ∙ c.if-unfit.false in
           subst (Gives _) (sym (under_accepted d _ _ Q fit e)) (c.answer_rows.ensures.rows_answered d t Q ready g);
       lines_len = c.answer_rows.ensures.lines_len;
     }

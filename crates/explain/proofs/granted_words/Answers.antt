@@ -18,20 +18,18 @@ bounds-l-i c = omega (arith, c.loop-i-test.true, c.loop-i.invariant.few, c.requi
 
 pub push-r-requires : goal.push-r-requires
 push-r-requires c =
-    let at = c in
-    omega (arith, at.loop-i-test.true, at.loop-i.invariant.few, at.requires)
+    omega (arith, c.loop-i-test.true, c.loop-i.invariant.few, c.requires)
 
 pub loop-i-smaller : goal.loop-i-smaller
 loop-i-smaller c = omega (arith, c.loop-i-test.true)
 
 pub loop-i-preserved : goal.loop-i-preserved
 loop-i-preserved c =
-    let at = c in
-    let loop = at.loop-i in
+    let loop = c.loop-i in
     record {
-      few = omega (arith, at.loop-i-test.true, loop.invariant.few, c.push-r.ensures.count_value);
+      few = omega (arith, c.loop-i-test.true, loop.invariant.few, c.push-r.ensures.count_value);
       words = λ ws e.
-          rw (granted_more _ _ ws e loop.i _ at.loop-i-test.true (omega (arith, loop.invariant.few)) c.high_half-views.ensures)
+          rw (granted_more _ _ ws e loop.i _ c.loop-i-test.true (omega (arith, loop.invariant.few)) c.high_half-views.ensures)
           (c.push-r.ensures.by_index _ (loop.invariant.words ws e));
     }
 

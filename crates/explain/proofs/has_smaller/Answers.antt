@@ -23,16 +23,14 @@ bounds-l-i c = omega (arith, c.loop-i-test.true, c.requires)
 
 -- what the test says of the label at `i`
 tested : (c : After-exceeds_lacking) →
-    let at = c in
-    (ws : List ℕ) → at.args.l ≡ words_value ws
-    → passes at.args.granted (exceeds at.args.v) (get_or ws at.loop-i.i 0) ≡ c.exceeds_lacking.result
+    (ws : List ℕ) → c.args.l ≡ words_value ws
+    → passes c.args.granted (exceeds c.args.v) (get_or ws c.loop-i.i 0) ≡ c.exceeds_lacking.result
 tested c ws e = label_passes _ _ ws e (exceeds _) _ _ c.high_half-views.ensures ∙ sym c.exceeds_lacking.ensures
 
 pub returns-then-exceeds_lacking : goal.returns-then-exceeds_lacking
 returns-then-exceeds_lacking c = λ ws e.
-    let at = c in
     rw any_lacking
-    (one_there (passes _ (exceeds _)) ws 0 at.loop-i.i (inside _ ws e at.loop-i-test.true) (at.loop-i.invariant ws e)
+    (one_there (passes _ (exceeds _)) ws 0 c.loop-i.i (inside _ ws e c.loop-i-test.true) (c.loop-i.invariant ws e)
     (tested (goal.at.returns-then-exceeds_lacking c).After-exceeds_lacking ws e ∙ c.if-exceeds_lacking.true))
 
 pub loop-i-smaller : goal.loop-i-smaller
@@ -40,8 +38,7 @@ loop-i-smaller c = omega (arith, c.loop-i-test.true)
 
 pub loop-i-preserved : goal.loop-i-preserved
 loop-i-preserved c = λ ws e.
-    let at = c in
-    none_more (passes _ (exceeds _)) ws 0 at.loop-i.i (inside _ ws e at.loop-i-test.true) (at.loop-i.invariant ws e)
+    none_more (passes _ (exceeds _)) ws 0 c.loop-i.i (inside _ ws e c.loop-i-test.true) (c.loop-i.invariant ws e)
     (tested (goal.at.loop-i-preserved c).After-exceeds_lacking ws e ∙ c.if-exceeds_lacking.false)
 
 pub returns : goal.returns

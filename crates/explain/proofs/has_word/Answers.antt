@@ -17,8 +17,7 @@ bounds-w-i c = omega (arith, c.loop-i-test.true, c.requires)
 
 pub returns-then-x-w : goal.returns-then-x-w
 returns-then-x-w c = λ l e.
-    let at = c in
-    one_there (eqb _) l 0 at.loop-i.i (inside _ l e at.loop-i-test.true) (at.loop-i.invariant l e)
+    one_there (eqb _) l 0 c.loop-i.i (inside _ l e c.loop-i-test.true) (c.loop-i.invariant l e)
     (ap (eqb _) (sym (word_is _ l e _)) ∙ eq-eqb _ _ c.if-x-w.true)
 
 pub loop-i-smaller : goal.loop-i-smaller
@@ -26,8 +25,7 @@ loop-i-smaller c = omega (arith, c.loop-i-test.true)
 
 pub loop-i-preserved : goal.loop-i-preserved
 loop-i-preserved c = λ l e.
-    let at = c in
-    none_more (eqb _) l 0 at.loop-i.i (inside _ l e at.loop-i-test.true) (at.loop-i.invariant l e)
+    none_more (eqb _) l 0 c.loop-i.i (inside _ l e c.loop-i-test.true) (c.loop-i.invariant l e)
     (ap (eqb _) (sym (word_is _ l e _)) ∙ ne_eqb _ _ c.if-x-w.false)
 
 pub returns : goal.returns

@@ -17,26 +17,23 @@ pub bounds-l-i : goal.bounds-l-i
 bounds-l-i c = omega (arith, c.loop-i-test.true, c.loop-i.invariant.few, c.requires)
 
 pub is_told-requires : goal.is_told-requires
-is_told-requires c = let at = c in at.requires
+is_told-requires c = c.requires
 
 pub add_word-r-requires : goal.add_word-r-requires
 add_word-r-requires c =
-    let at = c in
-    omega (arith, at.loop-i-test.true, at.loop-i.invariant.few, at.requires)
+    omega (arith, c.loop-i-test.true, c.loop-i.invariant.few, c.requires)
 
 pub loop-i-smaller-then-is_told : goal.loop-i-smaller-then-is_told
 loop-i-smaller-then-is_told c = omega (arith, c.loop-i-test.true)
 
 pub loop-i-preserved-then-is_told : goal.loop-i-preserved-then-is_told
 loop-i-preserved-then-is_told c =
-    let told = c in
-    let at = told in
-    let loop = at.loop-i in
+    let loop = c.loop-i in
     record {
-      few = omega (arith, at.loop-i-test.true, loop.invariant.few, c.add_word-r.ensures.count_bound);
+      few = omega (arith, c.loop-i-test.true, loop.invariant.few, c.add_word-r.ensures.count_bound);
       words = λ ws e.
-          rw (lacking_told _ _ ws e loop.i _ at.loop-i-test.true (omega (arith, loop.invariant.few)) told.high_half-views.ensures
-          (sym (told.is_told.ensures ws e) ∙ c.if-is_told.true))
+          rw (lacking_told _ _ ws e loop.i _ c.loop-i-test.true (omega (arith, loop.invariant.few)) c.high_half-views.ensures
+          (sym (c.is_told.ensures ws e) ∙ c.if-is_told.true))
           (c.add_word-r.ensures.by_index _ (loop.invariant.words ws e));
     }
 
@@ -45,14 +42,12 @@ loop-i-smaller c = omega (arith, c.loop-i-test.true)
 
 pub loop-i-preserved : goal.loop-i-preserved
 loop-i-preserved c =
-    let told = c in
-    let at = told in
-    let loop = at.loop-i in
+    let loop = c.loop-i in
     record {
-      few = omega (arith, at.loop-i-test.true, loop.invariant.few);
+      few = omega (arith, c.loop-i-test.true, loop.invariant.few);
       words = λ ws e.
-          rw (lacking_untold _ _ ws e loop.i _ at.loop-i-test.true (omega (arith, loop.invariant.few)) told.high_half-views.ensures
-          (sym (told.is_told.ensures ws e) ∙ c.if-is_told.false))
+          rw (lacking_untold _ _ ws e loop.i _ c.loop-i-test.true (omega (arith, loop.invariant.few)) c.high_half-views.ensures
+          (sym (c.is_told.ensures ws e) ∙ c.if-is_told.false))
           (loop.invariant.words ws e);
     }
 

@@ -53,26 +53,15 @@ has_bit-is_settled-requires c = let (from, to) = place (goal.at.has_bit-is_settl
 
 pub give_words-requires : goal.give_words-requires
 give_words-requires c =
-    let g = c in
-    let m = g in
-    let a = m in
-    let e = a in
     let l = is_loadable (goal.at.give_words-requires c).Else-not-is_among in
-    let q = text_accepted _ _ a.ask-a.ensures l m.in-Accepted.is in
-    (_, q.held, settled_same (record { among = among (goal.at.give_words-requires c).Else-not-is_among; views = g.granted_views-granted.ensures; says = c.has_bit-is_settled.ensures }) l q)
+    let q = text_accepted _ _ c.ask-a.ensures l c.in-Accepted.is in
+    (_, q.held, settled_same (record { among = among (goal.at.give_words-requires c).Else-not-is_among; views = c.granted_views-granted.ensures; says = c.has_bit-is_settled.ensures }) l q)
 
 pub returns-in-Accepted : goal.returns-in-Accepted
 returns-in-Accepted c =
-    let b = c in
-    let g = b in
-    let m = g in
-    let a = m in
-    let e = a in
-    text_explained (is_loadable (goal.at.returns-in-Accepted c).Else-not-is_among) (record { among = among (goal.at.returns-in-Accepted c).Else-not-is_among; views = g.granted_views-granted.ensures; says = b.has_bit-is_settled.ensures })
-    (λ l. text_accepted _ _ a.ask-a.ensures l m.in-Accepted.is) c.give_words.ensures
+    text_explained (is_loadable (goal.at.returns-in-Accepted c).Else-not-is_among) (record { among = among (goal.at.returns-in-Accepted c).Else-not-is_among; views = c.granted_views-granted.ensures; says = c.has_bit-is_settled.ensures })
+    (λ l. text_accepted _ _ c.ask-a.ensures l c.in-Accepted.is) c.give_words.ensures
 
 pub returns-in-Refused : goal.returns-in-Refused
 returns-in-Refused c =
-    let a = c in
-    let e = a in
-    text_refused (is_loadable (goal.at.returns-in-Refused c).Else-not-is_among) (among (goal.at.returns-in-Refused c).Else-not-is_among) (λ l. text_turned _ _ a.ask-a.ensures l c.in-Refused.is)
+    text_refused (is_loadable (goal.at.returns-in-Refused c).Else-not-is_among) (among (goal.at.returns-in-Refused c).Else-not-is_among) (λ l. text_turned _ _ c.ask-a.ensures l c.in-Refused.is)

@@ -28,20 +28,15 @@ returns-then-out-count c = λ ws h e. explains_short _ ws h (value (goal.at.retu
 
 pub write_words-requires : goal.write_words-requires
 write_words-requires c =
-    let w = c in
-    let (ws, h, e) = w.requires in
+    let (ws, h, e) = c.requires in
     let is = value (goal.at.write_words-requires c).After-words_of-w ws h e in (words_count _ ws h is, search rules, words_narrow _ ws h is)
 
 pub returns-then-is_settled : goal.returns-then-is_settled
 unfolding said_explaining
 returns-then-is_settled c = λ ws h e.
-    let t = c in
-    let w = t in
-    explains_given _ ws h (value (goal.at.returns-then-is_settled c).After-words_of-w ws h e) _ refl (sym c.if-is_settled.true ∙ e) (omega arith) t.write_words.ensures
+    explains_given _ ws h (value (goal.at.returns-then-is_settled c).After-words_of-w ws h e) _ refl (sym c.if-is_settled.true ∙ e) (omega arith) c.write_words.ensures
 
 pub returns : goal.returns
 unfolding said_explaining
 returns c = λ ws h e.
-    let t = c in
-    let w = t in
-    explains_given _ ws h (value (goal.at.returns c).After-words_of-w ws h e) _ refl (sym c.if-is_settled.false ∙ e) (omega arith) t.write_words.ensures
+    explains_given _ ws h (value (goal.at.returns c).After-words_of-w ws h e) _ refl (sym c.if-is_settled.false ∙ e) (omega arith) c.write_words.ensures

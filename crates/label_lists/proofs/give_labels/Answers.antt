@@ -8,6 +8,4 @@ returns-then-out-count c = λ ws e. lists_short c.args.l ws e (omega arith)
 
 pub returns : goal.returns
 returns c = λ ws e.
-    let d = c in
-    let s = d in
-    lists_given s.args.l ws e _ (omega arith) d.copy_words.ensures
+    lists_given c.args.l ws e _ (omega arith) c.copy_words.ensures

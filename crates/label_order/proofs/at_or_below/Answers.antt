@@ -9,16 +9,13 @@ returns-then-views-eq0 c = sym (below_bare _ _ (sym c.high_half-views.ensures �
 
 pub returns-then-low_half : goal.returns-then-low_half
 returns-then-low_half c =
-    let viewed = c in
-    sym (other_table _ _ (λ e. viewed.if-views-eq0.false (viewed.high_half-views.ensures ∙ e))
+    sym (other_table _ _ (λ e. c.if-views-eq0.false (c.high_half-views.ensures ∙ e))
     (λ e. c.if-low_half.true (c.low_half.ensures ∙ e ∙ sym c.low_half-2.ensures)))
 
 pub returns : goal.returns
 returns c =
-    let equal = c in
-    let viewed = equal in
     c.includes.ensures
-    ∙ ap₂ (include 64) c.high_half.ensures viewed.high_half-views.ensures
-    ∙ sym (same_table _ _ (λ e. viewed.if-views-eq0.false (viewed.high_half-views.ensures ∙ e))
-    (sym equal.low_half.ensures ∙ equal.if-low_half.false ∙ equal.low_half-2.ensures)
-    viewed.ranges.y.fits)
+    ∙ ap₂ (include 64) c.high_half.ensures c.high_half-views.ensures
+    ∙ sym (same_table _ _ (λ e. c.if-views-eq0.false (c.high_half-views.ensures ∙ e))
+    (sym c.low_half.ensures ∙ c.if-low_half.false ∙ c.low_half-2.ensures)
+    c.ranges.y.fits)

@@ -30,13 +30,11 @@ has_bit-requires c = omega (arith, room c)
 
 pub label_line-l-requires : goal.label_line-l-requires
 label_line-l-requires c =
-    let s = c in
-    let start = s in
-    let (d, t, Q, w, ready, e, rows) = start.requires.0 in
-    let h : s.loop-i.i < length Q = rw e s.loop-i-test.true in
+    let (d, t, Q, w, ready, e, rows) = c.requires.0 in
+    let h : c.loop-i.i < length Q = rw e c.loop-i-test.true in
     record {
-      ready_len = (ready.long, start.requires.1, omega (arith, room (goal.at.label_line-l-requires c).In-loop-i));
-      tabled = line_tabled ready (some_line rows s.loop-i.i h);
+      ready_len = (ready.long, c.requires.1, omega (arith, room (goal.at.label_line-l-requires c).In-loop-i));
+      tabled = line_tabled ready (some_line rows c.loop-i.i h);
     }
 
 pub offset_bounds-words-count : goal.offset_bounds-words-count
@@ -56,14 +54,13 @@ loop-i-smaller c = omega (arith, c.loop-i-test.true)
 
 pub loop-i-preserved : goal.loop-i-preserved
 loop-i-preserved c =
-    let s = c in
-    let at = s.loop-i in
-    let args = s.args in
+    let at = c.loop-i in
+    let args = c.args in
     let bit = c.has_bit.ensures in (
       omega arith,
       elim c.if-has_bit.branch [ then-has_bit x ↦ rw x.count-is (omega arith) | else-has_bit x ↦ rw x.count-is (omega arith) ],
       λ d t Q w ready e rows word.
-          let h : at.i < length Q = rw e s.loop-i-test.true in
+          let h : at.i < length Q = rw e c.loop-i-test.true in
           let before = at.invariant.2 d t Q w ready e rows word in
           elim c.if-has_bit.branch [
             | then-has_bit x ↦ let there : is_set args.left at.i ≡ true = sym bit ∙ x.if-has_bit.true in

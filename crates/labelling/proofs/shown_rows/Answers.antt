@@ -11,17 +11,15 @@ start c = (goal.at.After-lines_left-left c).Start
 pub returns : goal.returns
 returns c =
     let shown = c.show.ensures in
-    let shared = c in
-    let left = shared in
-    let entered = left.enter_query.ensures.worded in
+    let entered = c.enter_query.ensures.worded in
     record {
       rows_shown = λ d Q g.
           let worded = entered Q g.count g.laid g.small in
           record {
             word = _;
             shown = rows_shown _ g shown;
-            shared = shared.shared-shared.ensures Q g.count worded;
-            reduced = left.lines_left-left.ensures Q (rows_given g worded);
+            shared = c.shared-shared.ensures Q g.count worded;
+            reduced = c.lines_left-left.ensures Q (rows_given g worded);
           };
       lines_len = shown.long ∙ (start (goal.at.returns c).After-lines_left-left).requires.1;
     }

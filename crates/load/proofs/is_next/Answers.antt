@@ -10,22 +10,19 @@ returns-then-not-started c = let a = c.args in λ b e. next_of_none a.started b 
 pub returns-then-block-eq-TABLES : goal.returns-then-block-eq-TABLES
 unfolding view_table_terms
 returns-then-block-eq-TABLES c =
-    let at = c in
-    let a = at.args in
+    let a = c.args in
     λ b e. c.same.ensures
-    ∙ next_of_tables a.started b a.line.now at.if-not-started.false (sym e ∙ at.if-block-eq-TABLES.true)
+    ∙ next_of_tables a.started b a.line.now c.if-not-started.false (sym e ∙ c.if-block-eq-TABLES.true)
 
 pub returns-then-block-eq-VIEWS : goal.returns-then-block-eq-VIEWS
 unfolding partition_views
 returns-then-block-eq-VIEWS c =
-    let at = c in
-    let a = at.args in
+    let a = c.args in
     λ b e. c.same-then-block-eq-VIEWS.ensures
-    ∙ next_of_views a.started b a.line.now at.if-not-started.false (sym e ∙ at.if-block-eq-VIEWS.true)
+    ∙ next_of_views a.started b a.line.now c.if-not-started.false (sym e ∙ c.if-block-eq-VIEWS.true)
 
 pub returns : goal.returns
 returns c =
-    let started = c in
-    let a = started.args in
-    λ b e. next_of_partitions a.started b a.line.now started.if-not-started.false (λ q. c.if-block-eq-TABLES.false (e ∙ q))
+    let a = c.args in
+    λ b e. next_of_partitions a.started b a.line.now c.if-not-started.false (λ q. c.if-block-eq-TABLES.false (e ∙ q))
     (λ q. c.if-block-eq-VIEWS.false (e ∙ q))

@@ -37,8 +37,7 @@ returns-then-text-gt-MOST_BYTES c = c.refused.ensures ∙ ap loading_value (too_
 
 pub returns-then-start-eq0 : goal.returns-then-start-eq0
 returns-then-start-eq0 c =
-    let d = c in
-    c.refused-then-start-eq0.ensures ∙ ap loading_value (misnamed (text (goal.at.returns-then-start-eq0 c).After-after_names-start) d.if-text-gt-MOST_BYTES.false (after (goal.at.returns-then-start-eq0 c).After-after_names-start) c.if-start-eq0.true)
+    c.refused-then-start-eq0.ensures ∙ ap loading_value (misnamed (text (goal.at.returns-then-start-eq0 c).After-after_names-start) c.if-text-gt-MOST_BYTES.false (after (goal.at.returns-then-start-eq0 c).After-after_names-start) c.if-start-eq0.true)
 
 pub slice_bounds-load_lines-count : goal.slice_bounds-load_lines-count
 slice_bounds-load_lines-count c = within c
@@ -54,6 +53,5 @@ load_lines-requires c = (
 
 pub returns : goal.returns
 returns c =
-    let e = c in
     let d = of-names (goal.at.returns c).Else-start-eq0 in
-    c.load_lines.ensures ∙ ap loading_value (well_named (text d) d.if-text-gt-MOST_BYTES.false (after d) e.if-start-eq0.false)
+    c.load_lines.ensures ∙ ap loading_value (well_named (text d) d.if-text-gt-MOST_BYTES.false (after d) c.if-start-eq0.false)

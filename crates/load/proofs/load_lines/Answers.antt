@@ -66,14 +66,13 @@ slice_bounds-rest-end c = omega arith
 
 pub next_line-next-requires : goal.next_line-next-requires
 next_line-next-requires c =
-    let t = c in omega (arith, t.loop-at.invariant.number, t.loop-at.invariant.inside, t.requires)
+    omega (arith, c.loop-at.invariant.number, c.loop-at.invariant.inside, c.requires)
 
 pub returns-then-rest-next : goal.returns-then-rest-next
 returns-then-rest-next c =
-    let d = c in
     c.refused.ensures
-    ∙ ap loading_value (stops (turn (goal.at.returns-then-rest-next c).After-next_line-next).loop-at.invariant d.loop-at-test.true
-    (stops_here (text (goal.at.returns-then-rest-next c).After-next_line-next) (turn (goal.at.returns-then-rest-next c).After-next_line-next).loop-at.at d.next_line-next.ensures c.if-rest-next.true))
+    ∙ ap loading_value (stops (turn (goal.at.returns-then-rest-next c).After-next_line-next).loop-at.invariant c.loop-at-test.true
+    (stops_here (text (goal.at.returns-then-rest-next c).After-next_line-next) (turn (goal.at.returns-then-rest-next c).After-next_line-next).loop-at.at c.next_line-next.ensures c.if-rest-next.true))
 
 pub slice_bounds-step-length : goal.slice_bounds-step-length
 slice_bounds-step-length c = simp (length-take, length-drop) (omega (arith, ends (goal.at.slice_bounds-step-length c).Else-rest-next))
@@ -85,9 +84,8 @@ step-r-requires c =
 
 pub returns-then-r-ne0 : goal.returns-then-r-ne0
 returns-then-r-ne0 c =
-    let s = c in
     c.refused-then-r-ne0.ensures
-    ∙ ap loading_value (turns_back (start (goal.at.returns-then-r-ne0 c).After-step-r).loop-at.invariant (ends (of-step (goal.at.returns-then-r-ne0 c).After-step-r)) s.step-r.result (stepped (goal.at.returns-then-r-ne0 c).After-step-r) c.if-r-ne0.true)
+    ∙ ap loading_value (turns_back (start (goal.at.returns-then-r-ne0 c).After-step-r).loop-at.invariant (ends (of-step (goal.at.returns-then-r-ne0 c).After-step-r)) c.step-r.result (stepped (goal.at.returns-then-r-ne0 c).After-step-r) c.if-r-ne0.true)
 
 pub overflow_add-at : goal.overflow_add-at
 overflow_add-at c = let s = (goal.at.overflow_add-at c).After-step-r in omega (arith, ends (of-step s), (start s).requires.0)
@@ -118,9 +116,7 @@ returns-then-not-g c =
 pub returns : goal.returns
 unfolding loading_value
 returns c =
-    let last = c in
-    let end = last in
-    let w = end.loop-at.invariant in
+    let w = c.loop-at.invariant in
     (λ i. record { outcome = Accepted; policy = policy_of w.block w.begun w.declared _ w.held i })
     ∙ ap loading_value
-    (all_declared w end.loop-at-test.false last.if-g-ne-PARTITIONS.false (not-false _ c.if-not-g.false))
+    (all_declared w c.loop-at-test.false c.if-g-ne-PARTITIONS.false (not-false _ c.if-not-g.false))

@@ -5,13 +5,11 @@ use Rattle.load.proofs.step.Goals as goal
 
 pub returns-then-is_next : goal.returns-then-is_next
 returns-then-is_next c = λ b started d e.
-    let asked = c in
-    goes_on b started d _ e asked.args.line.now
-    (sym (asked.is_next.ensures b (block_of b started d _ e)) ∙ c.if-is_next.true)
+    goes_on b started d _ e c.args.line.now
+    (sym (c.is_next.ensures b (block_of b started d _ e)) ∙ c.if-is_next.true)
 
 pub returns : goal.returns
 returns c = λ b started d e.
-    let asked = c in
-    line_entered b started d _ e asked.args.line.now
-    (sym (asked.is_next.ensures b (block_of b started d _ e)) ∙ c.if-is_next.false)
+    line_entered b started d _ e c.args.line.now
+    (sym (c.is_next.ensures b (block_of b started d _ e)) ∙ c.if-is_next.false)
     c.enter_line-e.result (c.enter_line-e.ensures b (block_of b started d _ e) d (policy_of b started d _ e))

@@ -14,24 +14,17 @@ use Rattle.mode_check.proofs.check_page.Goals as goal
 
 pub refusal_page-requires : goal.refusal_page-requires
 refusal_page-requires c =
-    let o = c in
-    let a = o in
-    let e = loads_not (load _) a.load-l.result _ _ a.load-l.ensures o.in-Refused.is in
-    let room : most_page ≤ length a.args.out.now = a.requires in
+    let e = loads_not (load _) c.load-l.result _ _ c.load-l.ensures c.in-Refused.is in
+    let room : most_page ≤ length c.args.out.now = c.requires in
     (omega arith, room, policy_shown _ _ _ e)
 
 pub returns-in-Refused : goal.returns-in-Refused
 unfolding policy_refused bytes
 returns-in-Refused c =
-    let r = c in
-    let o = r in
-    let a = o in
-    let e = loads_not (load _) a.load-l.result _ _ a.load-l.ensures o.in-Refused.is in
-    wrote_as (page_refused _ _ _ e) r.refusal_page.ensures
+    let e = loads_not (load _) c.load-l.result _ _ c.load-l.ensures c.in-Refused.is in
+    wrote_as (page_refused _ _ _ e) c.refusal_page.ensures
 
 pub returns-in-Accepted : goal.returns-in-Accepted
 returns-in-Accepted c =
-    let r = c in
-    let m = r in
-    let (d, e, l) = loads_to _ m.load-l.result m.load-l.ensures m.in-Accepted.is in
-    wrote_as (page_accepted _ _ d e l.policy) r.put_counts.ensures
+    let (d, e, l) = loads_to _ c.load-l.result c.load-l.ensures c.in-Accepted.is in
+    wrote_as (page_accepted _ _ d e l.policy) c.put_counts.ensures

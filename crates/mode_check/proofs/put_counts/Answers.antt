@@ -8,10 +8,5 @@ use Rattle.mode_check.proofs.put_counts.Goals as goal
 pub returns : goal.returns
 unfolding bytes
 returns c =
-    let e = c in
-    let p = e in
-    let v = p in
-    let t = v in
-    let s = t in
-    let end = wrote_byte (search rules) e.put_byte.ensures in
-    wrote_counts _ _ _ s.put_bytes-a.ensures t.put_spaced-b.ensures.0 v.put_spaced-c.ensures.0 p.put_spaced-d.ensures.0 end
+    let end = wrote_byte (search rules) c.put_byte.ensures in
+    wrote_counts _ _ _ c.put_bytes-a.ensures c.put_spaced-b.ensures.0 c.put_spaced-c.ensures.0 c.put_spaced-d.ensures.0 end

@@ -7,28 +7,21 @@ use Rattle.page.proofs.refusal_page.Goals as goal
 pub put_below-requires : goal.put_below-requires
 put_below-requires c =
     λ some.
-    let l = c in
-    let n = l in
-    let w = n in
-    let (said, room, shown) = w.requires in
+    let (said, room, shown) = c.requires in
     ⊎_elim (λ z. absurd (some z))
     (λ h. omega (
       arith,
       said,
       room,
       h,
-      w.put_bytes-a.ensures.next,
-      w.put_bytes-a.ensures.size,
-      n.put_field-b.ensures.1,
-      n.put_field-b.ensures.0.size,
-      l.put_field-c.ensures.1,
-      l.put_field-c.ensures.0.size,
+      c.put_bytes-a.ensures.next,
+      c.put_bytes-a.ensures.size,
+      c.put_field-b.ensures.1,
+      c.put_field-b.ensures.0.size,
+      c.put_field-c.ensures.1,
+      c.put_field-c.ensures.0.size,
     )) shown
 
 pub returns : goal.returns
 returns c =
-    let b = c in
-    let l = b in
-    let n = l in
-    let w = n in
-    wrote_refusal _ _ _ w.put_bytes-a.ensures n.put_field-b.ensures.0 l.put_field-c.ensures.0 b.put_below.ensures
+    wrote_refusal _ _ _ c.put_bytes-a.ensures c.put_field-b.ensures.0 c.put_field-c.ensures.0 c.put_below.ensures

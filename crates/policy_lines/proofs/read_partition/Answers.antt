@@ -16,9 +16,8 @@ slice_bounds-read_numeral-end c = first_length space _ _ c.first-n.ensures
 
 pub returns-in-Malformed : goal.returns-in-Malformed
 returns-in-Malformed c =
-    let d = c in
     c.no_partition.ensures
-    ∙ partition_unnumbered _ d.first-n.ensures d.read_numeral-number.ensures c.in-Malformed.is
+    ∙ partition_unnumbered _ c.first-n.ensures c.read_numeral-number.ensures c.in-Malformed.is
 
 whole : (c : After-read_numeral-number) →
     let s = c.args.line.now in
@@ -27,28 +26,22 @@ whole c = partition_read _ c.first-n.ensures c.read_numeral-number.ensures
 
 pub returns-then-not-listed : goal.returns-then-not-listed
 returns-then-not-listed c =
-    let d = c in
     c.no_partition-then-not-listed.ensures
-    ∙ partition_malformed (whole (goal.at.returns-then-not-listed c).After-read_numeral-number) d.listed_after-listed.ensures (not-true _ c.if-not-listed.true)
+    ∙ partition_malformed (whole (goal.at.returns-then-not-listed c).After-read_numeral-number) c.listed_after-listed.ensures (not-true _ c.if-not-listed.true)
 
 pub returns-then-listed : goal.returns-then-listed
 returns-then-listed c =
-    let d = c in
     c.no_partition-then-listed.ensures
-    ∙ partition_outside (whole (goal.at.returns-then-listed c).After-read_numeral-number) d.listed_after-listed.ensures (not-false _ c.if-not-listed.false)
-    c.if-listed.true d.in_default.not-Malformed
+    ∙ partition_outside (whole (goal.at.returns-then-listed c).After-read_numeral-number) c.listed_after-listed.ensures (not-false _ c.if-not-listed.false)
+    c.if-listed.true c.in_default.not-Malformed
 
 pub returns-then-k-eq0 : goal.returns-then-k-eq0
 returns-then-k-eq0 c =
-    let ok = c in
-    let d = ok in
     c.no_partition-then-k-eq0.ensures
-    ∙ partition_past (whole (goal.at.returns-then-k-eq0 c).After-read_numeral-number) d.listed_after-listed.ensures (not-false _ ok.if-not-listed.false)
-    d.in_default.not-Malformed c.up_to-k.ensures c.if-k-eq0.true
+    ∙ partition_past (whole (goal.at.returns-then-k-eq0 c).After-read_numeral-number) c.listed_after-listed.ensures (not-false _ c.if-not-listed.false)
+    c.in_default.not-Malformed c.up_to-k.ensures c.if-k-eq0.true
 
 pub returns : goal.returns
 returns c =
-    let ok = c in
-    let d = ok in
-    partition_within (whole (goal.at.returns c).After-read_numeral-number) d.listed_after-listed.ensures (not-false _ ok.if-not-listed.false) c.if-listed.false
+    partition_within (whole (goal.at.returns c).After-read_numeral-number) c.listed_after-listed.ensures (not-false _ c.if-not-listed.false) c.if-listed.false
     c.up_to-k.ensures c.if-k-eq0.false

@@ -21,15 +21,13 @@ slice_bounds-read_numeral-end c = first_length space _ _ c.first-n.ensures
 
 pub returns-in-Malformed : goal.returns-in-Malformed
 returns-in-Malformed c =
-    let d = c in
     c.no_table-in-Malformed.ensures
-    ∙ table_unnumbered _ d.first-n.ensures d.read_numeral-number.ensures c.in-Malformed.is
+    ∙ table_unnumbered _ c.first-n.ensures c.read_numeral-number.ensures c.in-Malformed.is
 
 -- the columns follow the first space
 parted : (c : In_default) →
-    let f = c in
-    f.first-n.result < length f.args.line.now
-parted c = let t = c in first_inside space _ _ t.first-n.ensures t.if-n-line.false
+    c.first-n.result < length c.args.line.now
+parted c = first_inside space _ _ c.first-n.ensures c.if-n-line.false
 
 pub overflow_add-from : goal.overflow_add-from
 overflow_add-from c = omega (arith, parted c)
@@ -41,40 +39,33 @@ pub slice_bounds-read_numeral-start : goal.slice_bounds-read_numeral-start
 slice_bounds-read_numeral-start c = omega (arith, parted c)
 
 whole : (c : After-read_numeral-columns) →
-    let d = c in
-    let f = d in
-    let s = f.args.line.now in
-    let n = f.first-n.result in
-    NumberRead (table_line s) d.read_numeral-number.result (numeral (take (length s - (n + 1)) (drop (n + 1) s)))
+    let s = c.args.line.now in
+    let n = c.first-n.result in
+    NumberRead (table_line s) c.read_numeral-number.result (numeral (take (length s - (n + 1)) (drop (n + 1) s)))
 whole c =
-    let d = c in
-    table_read _ d.first-n.ensures d.read_numeral-number.ensures (parted (goal.at.After-read_numeral-columns c).In_default)
+    table_read _ c.first-n.ensures c.read_numeral-number.ensures (parted (goal.at.After-read_numeral-columns c).In_default)
 
 pub returns-in-Malformed-columns : goal.returns-in-Malformed-columns
 unfolding numeral_value
 returns-in-Malformed-columns c =
-    let d = c in
-    c.no_table-in-Malformed-columns.ensures ∙ columns_malformed (whole (goal.at.returns-in-Malformed-columns c).After-read_numeral-columns) d.read_numeral-columns.ensures c.in-Malformed-columns.is
+    c.no_table-in-Malformed-columns.ensures ∙ columns_malformed (whole (goal.at.returns-in-Malformed-columns c).After-read_numeral-columns) c.read_numeral-columns.ensures c.in-Malformed-columns.is
 
 pub returns-then-t-eq0 : goal.returns-then-t-eq0
 unfolding numeral_value
 returns-then-t-eq0 c =
-    let d = c in
     c.no_table-then-t-eq0.ensures
-    ∙ table_past (whole (goal.at.returns-then-t-eq0 c).After-read_numeral-columns) d.read_numeral-columns.ensures d.in_default.not-Malformed
-    d.in_default-columns.not-Malformed c.up_to-t.ensures c.if-t-eq0.true
+    ∙ table_past (whole (goal.at.returns-then-t-eq0 c).After-read_numeral-columns) c.read_numeral-columns.ensures c.in_default.not-Malformed
+    c.in_default-columns.not-Malformed c.up_to-t.ensures c.if-t-eq0.true
 
 pub returns-then-w-eq0 : goal.returns-then-w-eq0
 unfolding numeral_value
 returns-then-w-eq0 c =
-    let d = c in
     c.no_table-then-w-eq0.ensures
-    ∙ columns_past (whole (goal.at.returns-then-w-eq0 c).After-read_numeral-columns) d.read_numeral-columns.ensures d.in_default.not-Malformed
-    d.in_default-columns.not-Malformed c.up_to-w.ensures c.if-w-eq0.true
+    ∙ columns_past (whole (goal.at.returns-then-w-eq0 c).After-read_numeral-columns) c.read_numeral-columns.ensures c.in_default.not-Malformed
+    c.in_default-columns.not-Malformed c.up_to-w.ensures c.if-w-eq0.true
 
 pub returns : goal.returns
 unfolding numeral_value
 returns c =
-    let d = c in
-    table_within (whole (goal.at.returns c).After-read_numeral-columns) d.read_numeral-columns.ensures c.up_to-t.ensures c.if-t-eq0.false
+    table_within (whole (goal.at.returns c).After-read_numeral-columns) c.read_numeral-columns.ensures c.up_to-t.ensures c.if-t-eq0.false
     c.up_to-w.ensures c.if-w-eq0.false

@@ -20,15 +20,13 @@ slice_bounds-read_numeral-end c = first_length space _ _ c.first-n.ensures
 
 pub returns-in-Malformed : goal.returns-in-Malformed
 returns-in-Malformed c =
-    let d = c in
     c.no_view-in-Malformed.ensures
-    ∙ view_unnumbered _ d.first-n.ensures d.read_numeral-number.ensures c.in-Malformed.is
+    ∙ view_unnumbered _ c.first-n.ensures c.read_numeral-number.ensures c.in-Malformed.is
 
 -- a line of terms follows the first space
 parted : (c : In_default) →
-    let f = c in
-    f.first-n.result < length f.args.line.now
-parted c = let t = c in first_inside space _ _ t.first-n.ensures t.if-n-line.false
+    c.first-n.result < length c.args.line.now
+parted c = first_inside space _ _ c.first-n.ensures c.if-n-line.false
 
 pub overflow_add-from : goal.overflow_add-from
 overflow_add-from c = omega (arith, parted c)
@@ -40,37 +38,29 @@ pub slice_bounds-read_line-start : goal.slice_bounds-read_line-start
 slice_bounds-read_line-start c = omega (arith, parted c)
 
 whole : (c : After-read_line-view) →
-    let d = c in
-    let f = d in
-    let s = f.args.line.now in
-    let n = f.first-n.result in
-    NumberRead (view_line s) d.read_numeral-number.result (query_line (take (length s - (n + 1)) (drop (n + 1) s)))
+    let s = c.args.line.now in
+    let n = c.first-n.result in
+    NumberRead (view_line s) c.read_numeral-number.result (query_line (take (length s - (n + 1)) (drop (n + 1) s)))
 whole c =
-    let d = c in
-    view_read _ d.first-n.ensures d.read_numeral-number.ensures (parted (goal.at.After-read_line-view c).In_default)
+    view_read _ c.first-n.ensures c.read_numeral-number.ensures (parted (goal.at.After-read_line-view c).In_default)
 
 pub returns-then-not-view : goal.returns-then-not-view
 returns-then-not-view c =
-    let d = c in
-    c.no_view-then-not-view.ensures ∙ view_malformed (whole (goal.at.returns-then-not-view c).After-read_line-view) d.read_line-view.ensures (not-true _ c.if-not-view.true)
+    c.no_view-then-not-view.ensures ∙ view_malformed (whole (goal.at.returns-then-not-view c).After-read_line-view) c.read_line-view.ensures (not-true _ c.if-not-view.true)
 
 pub returns-then-view : goal.returns-then-view
 returns-then-view c =
-    let d = c in
     c.no_view-then-view.ensures
-    ∙ view_outside (whole (goal.at.returns-then-view c).After-read_line-view) d.read_line-view.ensures (not-false _ c.if-not-view.false) c.if-view.true
-    d.in_default.not-Malformed
+    ∙ view_outside (whole (goal.at.returns-then-view c).After-read_line-view) c.read_line-view.ensures (not-false _ c.if-not-view.false) c.if-view.true
+    c.in_default.not-Malformed
 
 pub returns-then-k-eq0 : goal.returns-then-k-eq0
 returns-then-k-eq0 c =
-    let ok = c in
-    let d = ok in
     c.no_view-then-k-eq0.ensures
-    ∙ view_past (whole (goal.at.returns-then-k-eq0 c).After-read_line-view) d.read_line-view.ensures (not-false _ ok.if-not-view.false) d.in_default.not-Malformed
+    ∙ view_past (whole (goal.at.returns-then-k-eq0 c).After-read_line-view) c.read_line-view.ensures (not-false _ c.if-not-view.false) c.in_default.not-Malformed
     c.up_to-k.ensures c.if-k-eq0.true
 
 pub returns : goal.returns
 returns c =
-    let d = c in
-    view_within (whole (goal.at.returns c).After-read_line-view) d.read_line-view.ensures (not-false _ c.if-not-view.false) c.if-view.false
+    view_within (whole (goal.at.returns c).After-read_line-view) c.read_line-view.ensures (not-false _ c.if-not-view.false) c.if-view.false
     c.up_to-k.ensures c.if-k-eq0.false

@@ -20,18 +20,15 @@ pub slice_bounds-read_numeral-end : goal.slice_bounds-read_numeral-end
 slice_bounds-read_numeral-end c = first_length space _ _ c.first-n.ensures
 
 next : (c : After-first-n) →
-    let l = c in
-    let s = l.args.s.now in
+    let s = c.args.s.now in
     let n = c.first-n.result in
-    NextView s l.loop-at.l l.loop-at.outside l.loop-at.at n (take n (take (length s - l.loop-at.at) (drop l.loop-at.at s)))
+    NextView s c.loop-at.l c.loop-at.outside c.loop-at.at n (take n (take (length s - c.loop-at.at) (drop c.loop-at.at s)))
 next c =
-    let t = c in
-    record { passed = t.loop-at.invariant; here = part_at (omega (arith, t.loop-at-test.true)) c.first-n.ensures }
+    record { passed = c.loop-at.invariant; here = part_at (omega (arith, c.loop-at-test.true)) c.first-n.ensures }
 
 pub returns-in-Malformed : goal.returns-in-Malformed
 returns-in-Malformed c =
-    let f = c in
-    c.no_views.ensures ∙ next_malformed (next (goal.at.returns-in-Malformed c).After-first-n) f.read_numeral-number.ensures c.in-Malformed.is
+    c.no_views.ensures ∙ next_malformed (next (goal.at.returns-in-Malformed c).After-first-n) c.read_numeral-number.ensures c.in-Malformed.is
 
 pub with_view-l-requires : goal.with_view-l-requires
 with_view-l-requires c = next_bounds _ c.up_to-v.ensures c.if-v-eq0.false
@@ -47,18 +44,16 @@ loop-at-smaller c = omega (arith, part_room (next (goal.at.loop-at-smaller c).Af
 
 pub loop-at-preserved : goal.loop-at-preserved
 loop-at-preserved c =
-    let f = c in
     let x = next (goal.at.loop-at-preserved c).After-first-n in
     elim c.if-v-eq0.branch [
       | then-v-eq0 w ↦ rw (w.l-is, w.outside-is)
-          (next_outside x f.read_numeral-number.ensures c.in_default.not-Malformed c.up_to-v.ensures w.if-v-eq0.true)
-      | else-v-eq0 w ↦ rw (w.l-is, w.outside-is) (next_within x f.read_numeral-number.ensures c.up_to-v.ensures w.if-v-eq0.false w.with_view-l.ensures)
+          (next_outside x c.read_numeral-number.ensures c.in_default.not-Malformed c.up_to-v.ensures w.if-v-eq0.true)
+      | else-v-eq0 w ↦ rw (w.l-is, w.outside-is) (next_within x c.read_numeral-number.ensures c.up_to-v.ensures w.if-v-eq0.false w.with_view-l.ensures)
     ]
 
 pub returns-then-outside : goal.returns-then-outside
 returns-then-outside c =
-    let t = c in
-    c.no_views-then-outside.ensures ∙ all_outside t.loop-at.invariant t.loop-at-test.false c.if-outside.true
+    c.no_views-then-outside.ensures ∙ all_outside c.loop-at.invariant c.loop-at-test.false c.if-outside.true
 
 pub returns : goal.returns
 returns c = all_within c.loop-at.invariant c.loop-at-test.false c.if-outside.false

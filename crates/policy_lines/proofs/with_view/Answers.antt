@@ -15,4 +15,4 @@ ascending c =
 
 pub returns : goal.returns
 returns c =
-    let s = c in listed_more _ _ _ _ s.requires.0 s.requires.1 (ascending (goal.at.returns c).Joined-v-l) c.set_bit.ensures
+    listed_more _ _ _ _ c.requires.0 c.requires.1 (ascending (goal.at.returns c).Joined-v-l) c.set_bit.ensures

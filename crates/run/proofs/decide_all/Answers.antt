@@ -60,9 +60,8 @@ slice_bounds-decide_next-count c = omega arith
 
 pub decide_next-next-requires : goal.decide_next-next-requires
 decide_next-next-requires c =
-    let at = c in
-    let (some, short, _) = at.requires in
-    (some, simp (length-take, length-drop) (omega arith), simp (length-take, length-drop) (omega (arith, short)), at.loop-at.invariant.0)
+    let (some, short, _) = c.requires in
+    (some, simp (length-take, length-drop) (omega arith), simp (length-take, length-drop) (omega (arith, short)), c.loop-at.invariant.0)
 
 pub put_reply-to-requires : goal.put_reply-to-requires
 put_reply-to-requires c = room (goal.at.put_reply-to-requires c).After-decide_next-next
@@ -79,13 +78,11 @@ loop-at-smaller c = let e = of-line (goal.at.loop-at-smaller c).After-slice_know
 pub loop-at-preserved : goal.loop-at-preserved
 loop-at-preserved c =
     let e = of-line (goal.at.loop-at-preserved c).After-slice_known-in-loop-at-1 in
-    let r = c in
-    let o = r in
     let next = decided e in (
       e.decide_next-next.ensures.lines_len,
       progress_more (turn e).loop-at.invariant.1 e.decide_next-next.result.end next.cuts e.loop-at-test.true
-          e.decide_next-next.result.decision o.ones.result r.put_reply-to.result _ next.gives o.ones.ensures
-          r.put_reply-to.ensures.0 r.put_reply-to.ensures.1,
+          e.decide_next-next.result.decision c.ones.result c.put_reply-to.result _ next.gives c.ones.ensures
+          c.put_reply-to.ensures.0 c.put_reply-to.ensures.1,
     )
 
 pub shape_of-out : goal.shape_of-out
@@ -94,8 +91,7 @@ shape_of-out c = c.loop-at.invariant.1.wrote.size
 pub returns : goal.returns
 returns c =
     let inv = c.loop-at.invariant.1 in
-    let s = c in
-    let n : length s.args.queries.now ≤ most_input = s.requires.1 in
+    let n : length c.args.queries.now ≤ most_input = c.requires.1 in
     record {
       all_written = progress_all inv c.loop-at-test.false;
       upper_bound = omega (arith, inv.room, inv.few, inv.within);

@@ -6,15 +6,9 @@ use Rattle.run.proofs.put_line.Goals as goal
 
 pub returns : goal.returns
 returns c =
-    let v = c in
-    let u = v in
-    let t = u in
-    let s = t in
-    let q = s in
-    let p = q in
-    let space = wrote_byte (search rules) s.put_byte-c.ensures in
+    let space = wrote_byte (search rules) c.put_byte-c.ensures in
     record {
-      line_written = wrote_line _ _ _ _ p.put_field-a.ensures.0 q.put_bytes-b.ensures space
-          t.put_field-d.ensures.0 u.put_field-e.ensures.0 v.put_field.ensures.0;
+      line_written = wrote_line _ _ _ _ c.put_field-a.ensures.0 c.put_bytes-b.ensures space
+          c.put_field-d.ensures.0 c.put_field-e.ensures.0 c.put_field.ensures.0;
       out_len_unchanged = (search rules, search rules);
     }

@@ -36,47 +36,36 @@ open_loaded-opened-requires c = c.prepare_for_many-ready.ensures.long
 
 pub decide_all-requires : goal.decide_all-requires
 decide_all-requires c =
-    let made = c in
-    let m = made in
     let s = start (goal.at.decide_all-requires c).In-Accepted in
     let (d, e, l) = loaded (goal.at.decide_all-requires c).In-Accepted in
     let b = named (goal.at.decide_all-requires c).In-Accepted in
     let n : b.put_bytes-at.result ≡ names_long = b.put_bytes-at.ensures.next in
     let z : length b.put_bytes-at.new.out ≡ length s.args.out.now = b.put_bytes-at.ensures.size in
     let h : most_output ≤ length s.args.out.now = s.requires.1 in
-    ((d, ready l made.prepare_for_many-ready.ensures), s.requires.0, omega (arith, n, z, h))
+    ((d, ready l c.prepare_for_many-ready.ensures), s.requires.0, omega (arith, n, z, h))
 
 pub returns-in-Refused : goal.returns-in-Refused
 unfolding word_bytes output_names
 returns-in-Refused c =
-    let r = c in
-    let o = r in
-    let a = o in
-    let b = a in
-    let e = loads_not (load _) a.load-l.result _ _ a.load-l.ensures o.in-Refused.is in
-    let n : b.put_bytes-at.result ≡ names_long = b.put_bytes-at.ensures.next in
-    let s = b in
-    let z : length b.put_bytes-at.new.out ≡ length s.args.out.now = b.put_bytes-at.ensures.size in
-    let h : most_output ≤ length s.args.out.now = s.requires.1 in
+    let e = loads_not (load _) c.load-l.result _ _ c.load-l.ensures c.in-Refused.is in
+    let n : c.put_bytes-at.result ≡ names_long = c.put_bytes-at.ensures.next in
+    let z : length c.put_bytes-at.new.out ≡ length c.args.out.now = c.put_bytes-at.ensures.size in
+    let h : most_output ≤ length c.args.out.now = c.requires.1 in
     record {
-      wrote = behind_names _ b.put_bytes-at.ensures (r.put_line.ensures.line_written refused refl) (written_refused _ _ _ _ e);
-      upper_bound = omega (arith, r.put_line.ensures.out_len_unchanged.0, r.put_line.ensures.out_len_unchanged.1, z, h);
+      wrote = behind_names _ c.put_bytes-at.ensures (c.put_line.ensures.line_written refused refl) (written_refused _ _ _ _ e);
+      upper_bound = omega (arith, c.put_line.ensures.out_len_unchanged.0, c.put_line.ensures.out_len_unchanged.1, z, h);
     }
 
 pub returns-in-Accepted : goal.returns-in-Accepted
 unfolding output_names
 returns-in-Accepted c =
-    let r = c in
-    let opened = r in
-    let made = opened in
-    let m = made in
     let (d, e, l) = loaded (goal.at.returns-in-Accepted c).In-Accepted in
     let n : (named (goal.at.returns-in-Accepted c).In-Accepted).put_bytes-at.result ≡ names_long = (named (goal.at.returns-in-Accepted c).In-Accepted).put_bytes-at.ensures.next in
     let z : length (named (goal.at.returns-in-Accepted c).In-Accepted).put_bytes-at.new.out ≡ length (start (goal.at.returns-in-Accepted c).In-Accepted).args.out.now = (named (goal.at.returns-in-Accepted c).In-Accepted).put_bytes-at.ensures.size in
     let h : most_output ≤ length (start (goal.at.returns-in-Accepted c).In-Accepted).args.out.now = (start (goal.at.returns-in-Accepted c).In-Accepted).requires.1 in
-    let prepared = ready l made.prepare_for_many-ready.ensures in
-    let w = r.decide_all.ensures.all_written d prepared in
+    let prepared = ready l c.prepare_for_many-ready.ensures in
+    let w = c.decide_all.ensures.all_written d prepared in
     record {
-      wrote = behind_names _ (named (goal.at.returns-in-Accepted c).In-Accepted).put_bytes-at.ensures (rw (opened.open_loaded-opened.ensures d _ prepared) at w) (written_accepted _ _ d e);
-      upper_bound = omega (arith, w.size, r.decide_all.ensures.upper_bound, n, z, h);
+      wrote = behind_names _ (named (goal.at.returns-in-Accepted c).In-Accepted).put_bytes-at.ensures (rw (c.open_loaded-opened.ensures d _ prepared) at w) (written_accepted _ _ d e);
+      upper_bound = omega (arith, w.size, c.decide_all.ensures.upper_bound, n, z, h);
     }

@@ -13,10 +13,8 @@ slice_bounds-same-length c = simp length-take (omega arith)
 
 pub returns-then-not-same : goal.returns-then-not-same
 returns-then-not-same c =
-    let e = c in
-    names_other _ _ e.next_line-behind.ensures e.if-text-behind.false (sym c.same.ensures ∙ c.if-not-same.true)
+    names_other _ _ c.next_line-behind.ensures c.if-text-behind.false (sym c.same.ensures ∙ c.if-not-same.true)
 
 pub returns : goal.returns
 returns c =
-    let e = c in
-    names_same _ _ e.next_line-behind.ensures e.if-text-behind.false (sym c.same.ensures ∙ c.if-not-same.false)
+    names_same _ _ c.next_line-behind.ensures c.if-text-behind.false (sym c.same.ensures ∙ c.if-not-same.false)

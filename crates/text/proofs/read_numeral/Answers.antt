@@ -74,11 +74,9 @@ returns-then-d-gt9-2 c =
 
 pub returns : goal.returns
 returns c =
-    let digit = c in
-    let three = digit in
     c.with_digit.ensures
-    ∙ valued (bytes (goal.at.returns c).After-digit-d-2) _ (sym (three.leading_zero.ensures (omega arith)) ∙ ap not three.if-leading_zero.false) (omega arith)
+    ∙ valued (bytes (goal.at.returns c).After-digit-d-2) _ (sym (c.leading_zero.ensures (omega arith)) ∙ ap not c.if-leading_zero.false) (omega arith)
     (digits_all
     (digits_more (before_last (goal.at.returns c).After-digit-d-2) (omega arith) (omega arith)
-    (digit_taken _ _ digit.digit-d-2.ensures.lower_bound digit.digit-d-2.ensures.value (omega arith)))
+    (digit_taken _ _ c.digit-d-2.ensures.lower_bound c.digit-d-2.ensures.value (omega arith)))
     (omega arith))

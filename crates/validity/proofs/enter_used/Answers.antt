@@ -17,15 +17,13 @@ returns-then-not-within c = not_entering true _ _ (λ w. false≢true (sym c.if-
 pub returns : goal.returns
 unfolding entered
 returns c =
-    let two = c in
-    let one = two in
     record {
       right =
           yes_iff
           (record {
-            marked = omega (arith, one.if-t-gt-HIDDEN.false);
+            marked = omega (arith, c.if-t-gt-HIDDEN.false);
             most = word_within _ (omega arith);
-            small = sym two.within.ensures ∙ two.if-not-within.false;
+            small = sym c.within.ensures ∙ c.if-not-within.false;
           });
       done = λ e. rw (← c.set_bit.ensures) refl;
     }

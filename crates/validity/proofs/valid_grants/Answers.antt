@@ -18,7 +18,7 @@ offset_bounds-grants-k c = omega arith
 
 pub valid_grant-requires : goal.valid_grant-requires
 valid_grant-requires c =
-    let s = c in (passes s.counted.ensures (ap not s.if-not-counted.false)).1
+    (passes c.counted.ensures (ap not c.if-not-counted.false)).1
 
 pub returns-then-not-valid_grant : goal.returns-then-not-valid_grant
 returns-then-not-valid_grant c =

@@ -19,10 +19,9 @@ offset_bounds-t-i c = omega arith
 
 pub returns-then-not-valid_width : goal.returns-then-not-valid_width
 returns-then-not-valid_width c =
-    let inside = c in
     no_iff (λ r.
     fails c.valid_width.ensures (ap not c.if-not-valid_width.true)
-    ((tables_checked inside.args.t r).places _ inside.loop-i-test.true))
+    ((tables_checked c.args.t r).places _ c.loop-i-test.true))
 
 pub overflow_add-i : goal.overflow_add-i
 overflow_add-i c = omega arith

@@ -16,11 +16,9 @@ offset_bounds-l-i c = omega arith
 pub returns-then-not-enter_term : goal.returns-then-not-enter_term
 unfolding unused_term
 returns-then-not-enter_term c =
-    let inside = c in
-    let at = inside in
     no_iff (λ d.
     fails c.enter_term.ensures.right (ap not c.if-not-enter_term.true)
-    (right_within (ltb at.loop-i.i at.args.w) _ (d.places _ inside.loop-i-test.true)))
+    (right_within (ltb c.loop-i.i c.args.w) _ (d.places _ c.loop-i-test.true)))
 
 pub overflow_add-i : goal.overflow_add-i
 overflow_add-i c = omega arith
@@ -31,9 +29,8 @@ loop-i-smaller c = omega arith
 pub loop-i-preserved : goal.loop-i-preserved
 unfolding unused_term
 loop-i-preserved c =
-    let inside = c in
     let entering = c.enter_term.ensures in
-    looked_more _ _ inside.loop-i.invariant inside.loop-i-test.true (passes entering.right (ap not c.if-not-enter_term.false))
+    looked_more _ _ c.loop-i.invariant c.loop-i-test.true (passes entering.right (ap not c.if-not-enter_term.false))
     (entering.done c.if-not-enter_term.false)
 
 pub returns-then-by-ne0 : goal.returns-then-by-ne0
@@ -41,5 +38,4 @@ returns-then-by-ne0 c = no_iff (λ d. c.if-by-ne0.true (looked_marked c.loop-i.i
 
 pub returns : goal.returns
 returns c =
-    let done = c in
-    rw c.meets.ensures (looked_done done.loop-i.invariant done.loop-i-test.false c.if-by-ne0.false)
+    rw c.meets.ensures (looked_done c.loop-i.invariant c.loop-i-test.false c.if-by-ne0.false)

@@ -12,7 +12,6 @@ returns-then-w c widths tables =
 
 pub returns : goal.returns
 returns c widths tables =
-    let known = c in
     Iff.trans c.valid_terms.ensures
-    (width_iff_place widths _ tables known.args.l known.width_for-w.ensures known.if-w.false
+    (width_iff_place widths _ tables c.args.l c.width_for-w.ensures c.if-w.false
     (search (rules, mapped_long)))

@@ -25,6 +25,5 @@ returns-then-count-at c =
 
 pub returns : goal.returns
 returns c =
-    let known = c in
-    rw (not-false known.args.used (ap not known.if-not-used.false))
-    (of_view_lem (omega (arith, known.if-table-eq0-2.false)) (omega (arith, known.if-table-eq0-2.false, known.if-count-at.false)))
+    rw (not-false c.args.used (ap not c.if-not-used.false))
+    (of_view_lem (omega (arith, c.if-table-eq0-2.false)) (omega (arith, c.if-table-eq0-2.false, c.if-count-at.false)))

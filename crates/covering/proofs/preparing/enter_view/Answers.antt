@@ -24,7 +24,6 @@ shape_of-ready c =
 
 pub returns : goal.returns
 returns c =
-    let s = c in
-    let (e, k) = s.requires in
-    let l = s.lay_line.ensures in
+    let (e, k) = c.requires in
+    let l = c.lay_line.ensures in
     elim c.if-table.branch [ then-table w ↦ rw w.ready-is (entered_table _ _ _ e k l _ w.if-table.true w.set_bit.ensures) | else-table w ↦ rw w.ready-is (entered_none _ _ _ e k l w.if-table.false) ]

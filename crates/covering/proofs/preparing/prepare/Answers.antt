@@ -21,7 +21,7 @@ bounds-p-k-in-loop-k c = omega arith
 
 pub enter_view-requires : goal.enter_view-requires
 enter_view-requires c =
-    let s = c in (s.loop-k.invariant.1.long, omega arith)
+    (c.loop-k.invariant.1.long, omega arith)
 
 pub overflow_add-k : goal.overflow_add-k
 overflow_add-k c = omega arith
@@ -42,6 +42,4 @@ bounds-ready-593 c = omega arith
 
 pub returns : goal.returns
 returns c =
-    let e = c in
-    let b = e in
-    partly_all _ b.loop-k.invariant.1 b.loop-k-test.false _ b.low_bits.ensures e.enter_widths.ensures
+    partly_all _ c.loop-k.invariant.1 c.loop-k-test.false _ c.low_bits.ensures c.enter_widths.ensures

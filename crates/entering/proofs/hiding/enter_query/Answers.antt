@@ -17,13 +17,11 @@ loop-i-smaller c = omega arith
 
 pub loop-i-preserved : goal.loop-i-preserved
 loop-i-preserved c =
-    let called = c in
-    let test = called in
-    let at = test.loop-i in
-    let line = called.enter_words.ensures in (
+    let at = c.loop-i in
+    let line = c.enter_words.ensures in (
       omega arith,
       line.long ∙ at.invariant.1,
-      λ Q e laid small. words_more at.i laid small (omega (arith, e, test.loop-i-test.true)) (at.invariant.2 Q e laid small) line,
+      λ Q e laid small. words_more at.i laid small (omega (arith, e, c.loop-i-test.true)) (at.invariant.2 Q e laid small) line,
     )
 
 pub returns : goal.returns

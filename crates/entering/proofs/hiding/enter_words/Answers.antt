@@ -31,8 +31,7 @@ loop-p-preserved c =
     let at = c.loop-p in (
       omega arith,
       λ A row few small.
-          let test = c in
-          let read = c.term_at-t.ensures ∙ row.term at.p test.loop-p-test.true in
+          let read = c.term_at-t.ensures ∙ row.term at.p c.loop-p-test.true in
           let word : bit.result ≡ hidden_bit (term_at (line_value A) at.p) = bit.ensures ∙ ap hidden_bit read in
           rw c.set_bit_if-columns.ensures
           (columns_more (at.invariant.1 A row few small) bit.result (rw word (bit_hidden A few small at.p)) (not (eqb bit.result 0))

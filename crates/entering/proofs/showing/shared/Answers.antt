@@ -31,10 +31,9 @@ loop-i-preserved c = (
   omega arith,
   λ Q e worded.
       let there = c.has_bit-there in
-      let test = c in
-      let at = test.loop-i in
-      let left = test.args.left in
-      let l : at.i < length Q = omega (arith, e, test.loop-i-test.true) in
+      let at = c.loop-i in
+      let left = c.args.left in
+      let l : at.i < length Q = omega (arith, e, c.loop-i-test.true) in
       let hidden = c.hidden_of in
       rw (left_more left Q at.i l, c.value_if-w.ensures, there.ensures, hidden.ensures)
       (seen_more (at.invariant.1 Q e worded) (is_set left at.i) (line_at Q at.i) _ (worded.line at.i l).variables),

@@ -29,9 +29,8 @@ loop-j-smaller c = omega arith
 pub loop-j-preserved : goal.loop-j-preserved
 loop-j-preserved c =
     let at = c.loop-j in
-    let s = c in
     let all = below_more _ _ at.invariant.1 c.loop-j-test.true in
-    let few = taken_few (none_taken most_blocks) s.take_rows.ensures s.take_rows-2.ensures (at.j + 1) all in
+    let few = taken_few (none_taken most_blocks) c.take_rows.ensures c.take_rows-2.ensures (at.j + 1) all in
     (omega (arith, few), all)
 
 pub overflow_mul-result : goal.overflow_mul-result
@@ -40,5 +39,4 @@ overflow_mul-result c = omega arith
 pub returns : goal.returns
 returns c =
     let at = c.loop-j in
-    let s = c in
-    spare_found s.take_rows.ensures s.take_rows-2.ensures at.j at.invariant.0 c.loop-j-test.false
+    spare_found c.take_rows.ensures c.take_rows-2.ensures at.j at.invariant.0 c.loop-j-test.false

@@ -13,18 +13,17 @@ pub loop-q-init : goal.loop-q-init
 loop-q-init c = (omega arith, below_none _)
 
 pub term_at-u-requires : goal.term_at-u-requires
-term_at-u-requires c = let at = c in (at.requires.0, omega (arith, at.requires.1))
+term_at-u-requires c = (c.requires.0, omega (arith, c.requires.1))
 
 pub returns-then-same_term : goal.returns-then-same_term
 returns-then-same_term c =
-    let at = c in
     let here = c.term_at-u.ensures in
     record {
-      upto = at.loop-q.invariant.0;
+      upto = c.loop-q.invariant.0;
       same =
           sym here ∙ (same_term_iff _ _).0 (true_holds (sym c.same_term.ensures ∙ c.if-same_term.true))
-          ∙ at.term_at-t.ensures;
-      least = at.loop-q.invariant.1;
+          ∙ c.term_at-t.ensures;
+      least = c.loop-q.invariant.1;
     }
 
 pub overflow_add-q : goal.overflow_add-q
@@ -35,11 +34,10 @@ loop-q-smaller c = omega arith
 
 pub loop-q-preserved : goal.loop-q-preserved
 loop-q-preserved c =
-    let at = c in
     let here = c.term_at-u.ensures in
-    let sought = at.term_at-t.ensures in (
+    let sought = c.term_at-t.ensures in (
       omega arith,
-      below_more _ _ at.loop-q.invariant.1 (λ e.
+      below_more _ _ c.loop-q.invariant.1 (λ e.
           false≢true (sym c.if-same_term.false ∙ c.same_term.ensures
           ∙ sym (holds_true _ ((same_term_iff _ _).1 (here ∙ e ∙ sym sought))))),
     )

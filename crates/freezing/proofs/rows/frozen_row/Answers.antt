@@ -18,9 +18,8 @@ term_at-t-requires c = (c.requires.1, omega arith)
 
 pub frozen-requires : goal.frozen-requires
 frozen-requires c =
-    let at = c in
-    let some = at.requires.2 in
-    (at.requires.0, rw c.term_at-t.ensures (small_term _ _ some.0 some.1 _ c.loop-p-test.true))
+    let some = c.requires.2 in
+    (c.requires.0, rw c.term_at-t.ensures (small_term _ _ some.0 some.1 _ c.loop-p-test.true))
 
 pub overflow_add-cells : goal.overflow_add-cells
 overflow_add-cells c = omega arith
@@ -39,9 +38,9 @@ loop-p-smaller c = omega arith
 
 pub loop-p-preserved : goal.loop-p-preserved
 loop-p-preserved c =
-    let at = c in (
+    (
       omega arith,
-      frozen_more at.loop-p.invariant.1 c.loop-p-test.true
+      frozen_more c.loop-p.invariant.1 c.loop-p-test.true
           (c.frozen.ensures ∙ ap (frozen_term _) c.term_at-t.ensures),
     )
 

@@ -41,9 +41,9 @@ loop-p-smaller c = omega arith
 
 pub loop-p-preserved : goal.loop-p-preserved
 loop-p-preserved c =
-    let at = c in (
+    (
       omega arith,
-      marked_more at.loop-p.invariant.1 (search rules) at.term_at-t.ensures c.first_column-q.ensures
+      marked_more c.loop-p.invariant.1 (search rules) c.term_at-t.ensures c.first_column-q.ensures
           c.marked_cell.ensures,
     )
 

@@ -28,12 +28,11 @@ bounds-cells-p c = omega arith
 
 pub returns-then-t-cells : goal.returns-then-t-cells
 returns-then-t-cells c =
-    let at = c in
-    let read = at.term_at-t.ensures in
+    let read = c.term_at-t.ensures in
     not_matched (λ v r beside m.
     c.if-t-cells.true
     (ap (λ (t : Term). t.number) read
-    ∙ match_constant v r beside m _ at.loop-p-test.true
+    ∙ match_constant v r beside m _ c.loop-p-test.true
     (omega (arith, ap (λ (t : Term). t.mark) read, c.if-t-eq-CONSTANT.true))))
 
 pub overflow_add-q : goal.overflow_add-q
@@ -56,9 +55,8 @@ bounds-cells-p-in-loop-p c = omega arith
 
 pub returns-then-cells-q : goal.returns-then-cells-q
 returns-then-cells-q c =
-    let at = c in
     not_matched (λ v r beside m.
-    c.if-cells-q.true (omega (arith, match_equal v r beside m _ at.loop-p-test.true at.first_column-q.ensures)))
+    c.if-cells-q.true (omega (arith, match_equal v r beside m _ c.loop-p-test.true c.first_column-q.ensures)))
 
 pub overflow_add-p-in-loop-p-2 : goal.overflow_add-p-in-loop-p-2
 overflow_add-p-in-loop-p-2 c = omega arith
@@ -68,17 +66,16 @@ loop-p-smaller c = omega arith
 
 pub loop-p-preserved : goal.loop-p-preserved
 loop-p-preserved c =
-    let at = c in
-    let read = at.term_at-t.ensures in (
+    let read = c.term_at-t.ensures in (
       omega arith,
-      below_more _ _ at.loop-p.invariant.1 (record {
+      below_more _ _ c.loop-p.invariant.1 (record {
         constants = λ e.
             elim c.else-t-eq-CONSTANT.branch [
               | else-t-eq-CONSTANT-via-then-t-eq-CONSTANT+else-t-cells w ↦ ap (λ (t : Term). t.number) (sym read) ∙ w.if-t-cells.false
               | else-t-eq-CONSTANT-via-else-t-eq-CONSTANT w ↦ absurd (w.if-t-eq-CONSTANT.false (omega (arith, e, ap (λ (t : Term). t.mark) read)))
             ];
-        first = at.first_column-q.result;
-        alike = at.first_column-q.ensures;
+        first = c.first_column-q.result;
+        alike = c.first_column-q.ensures;
         equals = c.if-cells-q.false;
       }),
     )

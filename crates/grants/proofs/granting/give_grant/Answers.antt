@@ -26,17 +26,14 @@ returns-then-has_word c = λ ws h. granted_none (sym c.if-has_word.true ∙ bare
 
 pub returns-then-lacking-eq0 : goal.returns-then-lacking-eq0
 returns-then-lacking-eq0 c = λ ws h.
-    let e = c in
-    granted_list (sym e.if-has_word.false ∙ bare (goal.at.returns-then-lacking-eq0 c).After-has_word ws h)
-    (none_best _ ws h e.lacking_views-lacking.ensures.by_index c.if-lacking-eq0.true) (written_nothing _)
+    granted_list (sym c.if-has_word.false ∙ bare (goal.at.returns-then-lacking-eq0 c).After-has_word ws h)
+    (none_best _ ws h c.lacking_views-lacking.ensures.by_index c.if-lacking-eq0.true) (written_nothing _)
 
 -- the words hold views, each of them
 lacking : (c : Else-lacking-eq0) (ws : List ℕ) →
-    let l = c in
-    HoldsLabels l.args.l ws → Lacking l.lacking_views-lacking.result (lacking_views l.args.granted ws)
+    HoldsLabels c.args.l ws → Lacking c.lacking_views-lacking.result (lacking_views c.args.granted ws)
 lacking c ws h =
-    let e = c in
-    lacking_some _ ws h e.lacking_views-lacking.ensures.by_index e.has_word.ensures e.if-has_word.false
+    lacking_some _ ws h c.lacking_views-lacking.ensures.by_index c.has_word.ensures c.if-has_word.false
 
 pub best_views-best-requires : goal.best_views-best-requires
 best_views-best-requires c =
@@ -44,15 +41,10 @@ best_views-best-requires c =
 
 pub give_numbers-requires : goal.give_numbers-requires
 give_numbers-requires c =
-    let b = c in
-    let e = b in
-    let (ws, h) = e.requires in
-    let (added, is, few, best) = b.best_views-best.ensures _ (lacking (goal.at.give_numbers-requires c).Else-lacking-eq0 ws h).is in (added, is, few, best.numbered)
+    let (ws, h) = c.requires in
+    let (added, is, few, best) = c.best_views-best.ensures _ (lacking (goal.at.give_numbers-requires c).Else-lacking-eq0 ws h).is in (added, is, few, best.numbered)
 
 pub returns : goal.returns
 returns c = λ ws h.
-    let n = c in
-    let b = n in
-    let e = b in
-    let (added, is, few, best) = b.best_views-best.ensures _ (lacking (goal.at.returns c).Else-lacking-eq0 ws h).is in
-    granted_list (sym e.if-has_word.false ∙ bare (goal.at.returns c).After-has_word ws h) best (n.give_numbers.ensures added is)
+    let (added, is, few, best) = c.best_views-best.ensures _ (lacking (goal.at.returns c).Else-lacking-eq0 ws h).is in
+    granted_list (sym c.if-has_word.false ∙ bare (goal.at.returns c).After-has_word ws h) best (c.give_numbers.ensures added is)

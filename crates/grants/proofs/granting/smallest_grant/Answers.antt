@@ -48,21 +48,13 @@ granted_views-granted-requires c = let (from, to) = place (goal.at.granted_views
 
 pub give_grant-requires : goal.give_grant-requires
 give_grant-requires c =
-    let m = c in
-    let a = m in
-    let q = text_accepted _ _ a.ask-a.ensures (is_loadable (goal.at.give_grant-requires c).Else-not-is_among) m.in-Accepted.is in (_, q.held)
+    let q = text_accepted _ _ c.ask-a.ensures (is_loadable (goal.at.give_grant-requires c).Else-not-is_among) c.in-Accepted.is in (_, q.held)
 
 pub returns-in-Accepted : goal.returns-in-Accepted
 returns-in-Accepted c =
-    let g = c in
-    let m = g in
-    let a = m in
-    let e = a in
-    text_granted (is_loadable (goal.at.returns-in-Accepted c).Else-not-is_among) (among (goal.at.returns-in-Accepted c).Else-not-is_among) g.granted_views-granted.ensures
-    (λ l. text_accepted _ _ a.ask-a.ensures l m.in-Accepted.is) c.give_grant.ensures
+    text_granted (is_loadable (goal.at.returns-in-Accepted c).Else-not-is_among) (among (goal.at.returns-in-Accepted c).Else-not-is_among) c.granted_views-granted.ensures
+    (λ l. text_accepted _ _ c.ask-a.ensures l c.in-Accepted.is) c.give_grant.ensures
 
 pub returns-in-Refused : goal.returns-in-Refused
 returns-in-Refused c =
-    let a = c in
-    let e = a in
-    text_refused (is_loadable (goal.at.returns-in-Refused c).Else-not-is_among) (among (goal.at.returns-in-Refused c).Else-not-is_among) (λ l. text_turned _ _ a.ask-a.ensures l c.in-Refused.is)
+    text_refused (is_loadable (goal.at.returns-in-Refused c).Else-not-is_among) (among (goal.at.returns-in-Refused c).Else-not-is_among) (λ l. text_turned _ _ c.ask-a.ensures l c.in-Refused.is)

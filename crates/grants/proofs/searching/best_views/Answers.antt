@@ -16,14 +16,12 @@ hits_of-hits-requires c = let (ws, h) = c.requires in omega (arith, h.few, count
 
 pub best-requires : goal.best-requires
 best-requires c =
-    let b = c in
-    let (ws, h) = b.requires in
-    subst (λ (k : ℕ). Searched b.hits_of-hits.result no_costs k) (sym (count_is _ ws h.is))
-    (subst (λ (l : List ℕ). Searched l no_costs (length ws)) (sym (b.hits_of-hits.ensures ws h.is)) (searched ws h.few h.each))
+    let (ws, h) = c.requires in
+    subst (λ (k : ℕ). Searched c.hits_of-hits.result no_costs k) (sym (count_is _ ws h.is))
+    (subst (λ (l : List ℕ). Searched l no_costs (length ws)) (sym (c.hits_of-hits.ensures ws h.is)) (searched ws h.few h.each))
 
 pub returns : goal.returns
 returns c = λ ws e.
-    let b = c in
     let r = c.best.result in
     subst (λ (k : ℕ). HoldsBest (hits_of ws) no_costs (2 ^ k - 1) r) (count_is _ ws e)
-    (subst (λ (h : List ℕ). HoldsBest h no_costs (2 ^ b.args.l.count - 1) r) (b.hits_of-hits.ensures ws e) c.best.ensures)
+    (subst (λ (h : List ℕ). HoldsBest h no_costs (2 ^ c.args.l.count - 1) r) (c.hits_of-hits.ensures ws e) c.best.ensures)

@@ -19,19 +19,18 @@ has_bit-on-requires c = omega (arith, c.requires.1)
 
 pub set_bit_if-word-requires : goal.set_bit_if-word-requires
 set_bit_if-word-requires c =
-    let at = c in omega (arith, at.loop-i-test.true, at.requires.0)
+    omega (arith, c.loop-i-test.true, c.requires.0)
 
 pub overflow_add-i : goal.overflow_add-i
 overflow_add-i c =
-    let at = c in omega (arith, at.loop-i-test.true, at.requires.0)
+    omega (arith, c.loop-i-test.true, c.requires.0)
 
 pub loop-i-smaller : goal.loop-i-smaller
 loop-i-smaller c = omega (arith, c.loop-i-test.true)
 
 pub loop-i-preserved : goal.loop-i-preserved
 loop-i-preserved c =
-    let at = c in
-    holding_more _ _ at.loop-i-test.true c.has_bit-on.ensures c.set_bit_if-word.ensures at.loop-i.invariant
+    holding_more _ _ c.loop-i-test.true c.has_bit-on.ensures c.set_bit_if-word.ensures c.loop-i.invariant
 
 pub returns : goal.returns
 returns c = holding_all _ _ c.loop-i-test.false c.loop-i.invariant

@@ -17,27 +17,24 @@ bounds-l-i c = omega (arith, c.loop-i-test.true, c.requires)
 
 pub push-r-requires : goal.push-r-requires
 push-r-requires c =
-    let at = c in
-    omega (arith, at.loop-i-test.true, at.loop-i.invariant.1.few, at.requires)
+    omega (arith, c.loop-i-test.true, c.loop-i.invariant.1.few, c.requires)
 
 pub overflow_add-i : goal.overflow_add-i
 overflow_add-i c =
-    let at = c in omega (arith, at.loop-i-test.true, at.requires)
+    omega (arith, c.loop-i-test.true, c.requires)
 
 pub loop-i-smaller : goal.loop-i-smaller
 loop-i-smaller c = omega (arith, c.loop-i-test.true)
 
 pub loop-i-preserved : goal.loop-i-preserved
 loop-i-preserved c =
-    let m = c in
-    let at = m in
-    let inv = at.loop-i.invariant in
-    let views = m.high_half-views.ensures in (
-      omega (arith, at.loop-i-test.true),
+    let inv = c.loop-i.invariant in
+    let views = c.high_half-views.ensures in (
+      omega (arith, c.loop-i-test.true),
       elim c.if-not-meets.branch [
-        | then-not-meets w ↦ lacking_more _ at.loop-i-test.true views inv.1 (failing m.meets.ensures (ap not w.if-not-meets.true)) w.push-r.ensures.count_value
+        | then-not-meets w ↦ lacking_more _ c.loop-i-test.true views inv.1 (failing c.meets.ensures (ap not w.if-not-meets.true)) w.push-r.ensures.count_value
             w.push-r.ensures.by_index w.r-is
-        | else-not-meets w ↦ lacking_kept _ at.loop-i-test.true views inv.1 (passing m.meets.ensures (ap not w.if-not-meets.false)) w.r-is
+        | else-not-meets w ↦ lacking_kept _ c.loop-i-test.true views inv.1 (passing c.meets.ensures (ap not w.if-not-meets.false)) w.r-is
       ],
     )
 

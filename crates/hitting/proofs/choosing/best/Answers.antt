@@ -13,29 +13,24 @@ low_bits-full-requires c = omega (arith, c.requires.few)
 
 pub fill-requires : goal.fill-requires
 fill-requires c =
-    let b = c in
-    let a = b in (
-      (a.args.k, a.requires, omega (arith, b.low_bits-full.ensures, pow_pos a.args.k)),
-      filled_more a.args.hits.now a.args.costs.now _ (omega arith) (filled_none a.args.hits.now a.args.costs.now)
-          (lightest_nothing a.args.hits.now a.args.costs.now) (omega arith),
+    (
+      (c.args.k, c.requires, omega (arith, c.low_bits-full.ensures, pow_pos c.args.k)),
+      filled_more c.args.hits.now c.args.costs.now _ (omega arith) (filled_none c.args.hits.now c.args.costs.now)
+          (lightest_nothing c.args.hits.now c.args.costs.now) (omega arith),
     )
 
 pub choose-requires : goal.choose-requires
 choose-requires c =
-    let f = c in
-    let b = f in
-    let a = b in
     record {
-      labels = a.args.k;
-      end = b.low_bits-full.result + 1;
-      searched = a.requires;
+      labels = c.args.k;
+      end = c.low_bits-full.result + 1;
+      searched = c.requires;
       below = omega arith;
-      within = omega (arith, b.low_bits-full.ensures, pow_pos a.args.k);
-      filled = f.fill.ensures;
+      within = omega (arith, c.low_bits-full.ensures, pow_pos c.args.k);
+      filled = c.fill.ensures;
     }
 
 pub returns : goal.returns
 returns c =
-    let b = c in
-    let a = b.args in
-    subst (λ (m : ℕ). HoldsBest a.hits.now a.costs.now m c.choose.result) b.low_bits-full.ensures c.choose.ensures
+    let a = c.args in
+    subst (λ (m : ℕ). HoldsBest a.hits.now a.costs.now m c.choose.result) c.low_bits-full.ensures c.choose.ensures

@@ -17,7 +17,7 @@ overflow_add-v c = omega (arith, c.first_view-v.ensures.numbered.1)
 
 pub push-r-requires : goal.push-r-requires
 push-r-requires c =
-    let at = c in room_left _ _ _ at.requires at.loop-left.invariant (omega (arith, at.loop-left-test.true))
+    room_left _ _ _ c.requires c.loop-left.invariant (omega (arith, c.loop-left-test.true))
 
 pub offset_bounds-hits-v : goal.offset_bounds-hits-v
 offset_bounds-hits-v c = omega (arith, c.first_view-v.ensures.numbered.1)
@@ -27,15 +27,11 @@ bounds-hits-v c = omega (arith, c.first_view-v.ensures.numbered.1)
 
 -- one view more, and fewer labels left
 next : (c : After-without-left) →
-    let at = c in
-    let a = at.args in
+    let a = c.args in
     ChosenTo a.hits.now a.costs.now a.m c.push-r.result c.without-left.result
-    × (c.without-left.result < at.loop-left.left)
+    × (c.without-left.result < c.loop-left.left)
 next c =
-    let p = c in
-    let f = p in
-    let at = f in
-    chosen_more _ _ _ _ _ at.requires at.loop-left.invariant f.first_view-v.ensures c.without-left.ensures p.push-r.ensures.by_index
+    chosen_more _ _ _ _ _ c.requires c.loop-left.invariant c.first_view-v.ensures c.without-left.ensures c.push-r.ensures.by_index
 
 pub loop-left-smaller : goal.loop-left-smaller
 loop-left-smaller c = (next c).1
@@ -45,7 +41,6 @@ loop-left-preserved c = (next c).0
 
 pub returns : goal.returns
 returns c =
-    let a = c in
     let none : c.loop-left.left ≡ 0 = omega (arith, c.loop-left-test.false) in
-    chosen_all _ _ _ a.requires
-    (subst (ChosenTo a.args.hits.now a.args.costs.now a.args.m c.loop-left.r) none c.loop-left.invariant)
+    chosen_all _ _ _ c.requires
+    (subst (ChosenTo c.args.hits.now c.args.costs.now c.args.m c.loop-left.r) none c.loop-left.invariant)

@@ -12,16 +12,14 @@ loop-m-init c = (omega arith, omega arith, c.requires.1)
 
 pub least_weight-requires : goal.least_weight-requires
 least_weight-requires c =
-    let at = c in
-    let (k, searched, below) = at.requires.0 in
-    ((k, searched, omega (arith, below, c.loop-m-test.true)), at.loop-m.invariant.2, omega (arith, at.loop-m.invariant.0))
+    let (k, searched, below) = c.requires.0 in
+    ((k, searched, omega (arith, below, c.loop-m-test.true)), c.loop-m.invariant.2, omega (arith, c.loop-m.invariant.0))
 
 -- a set of at most eight labels
 few : (c : After-least_weight) → c.loop-m.m < sets
 few c =
-    let at = c in
-    let (k, searched, below) = at.requires.0 in
-    few_sets _ _ _ searched (omega (arith, below, at.loop-m-test.true))
+    let (k, searched, below) = c.requires.0 in
+    few_sets _ _ _ searched (omega (arith, below, c.loop-m-test.true))
 
 pub offset_bounds-table-m : goal.offset_bounds-table-m
 offset_bounds-table-m c = omega (arith, few c)
@@ -37,9 +35,8 @@ loop-m-smaller c = omega (arith, c.loop-m-test.true)
 
 pub loop-m-preserved : goal.loop-m-preserved
 loop-m-preserved c =
-    let at = c in
     let (light, bound) = c.least_weight.ensures in
-    (omega arith, omega (arith, at.loop-m-test.true), filled_more _ _ _ (few (goal.at.loop-m-preserved c).After-least_weight) at.loop-m.invariant.2 light bound)
+    (omega arith, omega (arith, c.loop-m-test.true), filled_more _ _ _ (few (goal.at.loop-m-preserved c).After-least_weight) c.loop-m.invariant.2 light bound)
 
 pub returns : goal.returns
 returns c =

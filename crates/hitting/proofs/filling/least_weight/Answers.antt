@@ -17,13 +17,11 @@ loop-v-smaller c = omega (arith, c.loop-v-test.true)
 
 pub loop-v-preserved : goal.loop-v-preserved
 loop-v-preserved c =
-    let w = c in
-    let at = w in
-    let (set, filled, some) = at.requires in (
-      omega (arith, at.loop-v-test.true),
-      subst (LeastTo _ _ _ _ (at.loop-v.v + 1))
-          (sym (c.lesser-least.ensures ∙ ap (min at.loop-v.least) w.weight_with.ensures))
-          (least_more _ _ _ _ set filled at.loop-v-test.true at.loop-v.invariant.1),
+    let (set, filled, some) = c.requires in (
+      omega (arith, c.loop-v-test.true),
+      subst (LeastTo _ _ _ _ (c.loop-v.v + 1))
+          (sym (c.lesser-least.ensures ∙ ap (min c.loop-v.least) c.weight_with.ensures))
+          (least_more _ _ _ _ set filled c.loop-v-test.true c.loop-v.invariant.1),
     )
 
 pub returns : goal.returns

@@ -38,7 +38,7 @@ bounds-table-rest c = rest_below (goal.at.bounds-table-rest c).After-result-1
 
 pub overflow_add-result-2 : goal.overflow_add-result-2
 overflow_add-result-2 c =
-    let a = c in omega (arith, a.requires.cheap, a.requires.light c.without-rest.result)
+    omega (arith, c.requires.cheap, c.requires.light c.without-rest.result)
 
 pub returns : goal.returns
 returns c =

@@ -16,29 +16,22 @@ returns-then-rule-gt-MOST_BYTES c =
 
 pub returns-then-t-ne0 : goal.returns-then-t-ne0
 returns-then-t-ne0 c =
-    let t = c in
-    let e = t in
-    let a = e.args in
+    let a = c.args in
     record {
-      rule_given = turned_back a.tables a.rule.now a.place a.out.now e.if-rule-gt-MOST_BYTES.false _ t.translate-t.result t.translate-t.ensures.translates
+      rule_given = turned_back a.tables a.rule.now a.place a.out.now c.if-rule-gt-MOST_BYTES.false _ c.translate-t.result c.translate-t.ensures.translates
           c.if-t-ne0.true;
-      result_in_bounds = none_said t.translate-t.result.fault 1;
+      result_in_bounds = none_said c.translate-t.result.fault 1;
     }
 
 pub slice_bounds-put_text-end : goal.slice_bounds-put_text-end
 slice_bounds-put_text-end c =
-    let t = c in
-    sym (length-take-le t.translate-t.result.bytes _ (omega (arith, t.translate-t.ensures.out_len)))
+    sym (length-take-le c.translate-t.result.bytes _ (omega (arith, c.translate-t.ensures.out_len)))
 
 pub returns : goal.returns
 returns c =
-    let p = c in
-    let f = p in
-    let t = f in
-    let e = t in
-    let a = e.args in
+    let a = c.args in
     record {
-      rule_given = text_given a.tables a.rule.now a.place a.out.now e.if-rule-gt-MOST_BYTES.false _ t.translate-t.result t.translate-t.ensures.translates _ _
-          f.if-t-ne0.false p.put_text.ensures.text_given;
-      result_in_bounds = p.put_text.ensures.result_in_bounds;
+      rule_given = text_given a.tables a.rule.now a.place a.out.now c.if-rule-gt-MOST_BYTES.false _ c.translate-t.result c.translate-t.ensures.translates _ _
+          c.if-t-ne0.false c.put_text.ensures.text_given;
+      result_in_bounds = c.put_text.ensures.result_in_bounds;
     }

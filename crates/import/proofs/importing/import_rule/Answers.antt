@@ -10,6 +10,4 @@ returns-then-not-valid c = not_loaded _ _ _ _ (fails c.valid.ensures (ap not c.i
 
 pub returns : goal.returns
 returns c =
-    let r = c in
-    let e = r in
-    under_policy _ _ _ _ (passes e.valid.ensures (ap not e.if-not-valid.false)) _ _ r.import_checked.ensures.rule_given
+    under_policy _ _ _ _ (passes c.valid.ensures (ap not c.if-not-valid.false)) _ _ c.import_checked.ensures.rule_given

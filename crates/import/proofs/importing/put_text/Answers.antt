@@ -21,10 +21,9 @@ returns-then-out-place-2 c =
 
 pub returns : goal.returns
 returns c =
-    let e = c in
-    let a = e.args in
+    let a = c.args in
     record {
-      text_given = text_placed a.text.now a.place a.out.now (omega (arith, e.if-out-place.false, e.if-out-place-2.false))
+      text_given = text_placed a.text.now a.place a.out.now (omega (arith, c.if-out-place.false, c.if-out-place-2.false))
           c.put_bytes.ensures;
-      result_in_bounds = written_said (omega (arith, e.if-out-place.false, e.if-out-place-2.false));
+      result_in_bounds = written_said (omega (arith, c.if-out-place.false, c.if-out-place-2.false));
     }

@@ -12,20 +12,15 @@ returns-then-b-ne0 c = let a = c.args in sym (first_body a.b a.h (not-false _ c.
 
 pub returns-then-h : goal.returns-then-h
 returns-then-h c =
-    let s = c in
-    let a = s.args in
-    sym (first_head a.b a.h (not-false _ s.if-not-h.false) s.if-b-ne0.false ∙ rw c.if-h.true)
+    let a = c.args in
+    sym (first_head a.b a.h (not-false _ c.if-not-h.false) c.if-b-ne0.false ∙ rw c.if-h.true)
 
 pub returns-then-h-2 : goal.returns-then-h-2
 returns-then-h-2 c =
-    let t = c in
-    let s = t in
-    let a = s.args in
-    sym (first_head a.b a.h (not-false _ s.if-not-h.false) s.if-b-ne0.false ∙ rw (t.if-h.false, c.if-h-2.true))
+    let a = c.args in
+    sym (first_head a.b a.h (not-false _ c.if-not-h.false) c.if-b-ne0.false ∙ rw (c.if-h.false, c.if-h-2.true))
 
 pub returns : goal.returns
 returns c =
-    let t = c in
-    let s = t in
-    let a = s.args in
-    sym (first_head a.b a.h (not-false _ s.if-not-h.false) s.if-b-ne0.false ∙ rw (t.if-h.false, c.if-h-2.false))
+    let a = c.args in
+    sym (first_head a.b a.h (not-false _ c.if-not-h.false) c.if-b-ne0.false ∙ rw (c.if-h.false, c.if-h-2.false))

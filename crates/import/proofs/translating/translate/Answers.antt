@@ -17,9 +17,8 @@ use Rattle.import.proofs.translating.translate.Goals.{Else-h-to, Else-n-lt2, Els
 
 pub returns-then-n-lt2 : goal.returns-then-n-lt2
 returns-then-n-lt2 c =
-    let a = c in
     record {
-      translates = (λ w t n. rw (too_short a.args.rule.now c.if-n-lt2.true) refl);
+      translates = (λ w t n. rw (too_short c.args.rule.now c.if-n-lt2.true) refl);
       out_len = search rules;
     }
 
@@ -30,11 +29,9 @@ end_starts c = omega (arith, c.if-n-lt2.false)
 pub returns-then-not-same : goal.returns-then-not-same
 unfolding bytes
 returns-then-not-same c =
-    let s = c in
-    let e = s in
-    let rule = e.args.rule.now in
+    let rule = c.args.rule.now in
     let differs : take (length rule - (length rule - 2)) (drop (length rule - 2) rule) ≡ rule_end → ⊥ =
-    λ q. true≢false (same_true _ rule_end q ∙ sym s.same.ensures ∙ c.if-not-same.true) in
+    λ q. true≢false (same_true _ rule_end q ∙ sym c.same.ensures ∙ c.if-not-same.true) in
     record {
       translates = (λ w t n. rw (other_end rule (length rule - 2) (end_starts (goal.at.returns-then-not-same c).Else-n-lt2) differs) refl);
       out_len = search rules;
@@ -56,12 +53,9 @@ ends c = (same_bytes_iff _ rule_end).0 (true_holds (sym c.same.ensures ∙ c.if-
 
 pub returns-then-h-to : goal.returns-then-h-to
 returns-then-h-to c =
-    let f = c in
-    let e = f in
-    let g = e in
-    let rule = g.args.rule.now in
+    let rule = c.args.rule.now in
     record {
-      translates = (λ w t n. rw (one_piece rule (length rule - 2) (end_starts (goal.at.returns-then-h-to c).Else-n-lt2) (ends (goal.at.returns-then-h-to c).Else-not-same) f.first-h.result f.first-h.ensures c.if-h-to.true) refl);
+      translates = (λ w t n. rw (one_piece rule (length rule - 2) (end_starts (goal.at.returns-then-h-to c).Else-n-lt2) (ends (goal.at.returns-then-h-to c).Else-not-same) c.first-h.result c.first-h.ensures c.if-h-to.true) refl);
       out_len = search rules;
     }
 
@@ -69,14 +63,11 @@ returns-then-h-to c =
 inside : (c : Else-h-to) → let rule = c.args.rule.now in
     c.first-h.result < length (take (length rule - 2) rule)
 inside c =
-    let f = c in
-    let g = f in
-    first_inside closing f.first-h.result _ f.first-h.ensures (λ e. c.if-h-to.false (e ∙ sym (whole_long (goal.at.Else-h-to c).Else-n-lt2)))
+    first_inside closing c.first-h.result _ c.first-h.ensures (λ e. c.if-h-to.false (e ∙ sym (whole_long (goal.at.Else-h-to c).Else-n-lt2)))
 
 pub overflow_add-from : goal.overflow_add-from
 overflow_add-from c =
-    let g = c in
-    omega (arith, inside c, whole_long (goal.at.overflow_add-from c).Else-n-lt2, g.requires.0)
+    omega (arith, inside c, whole_long (goal.at.overflow_add-from c).Else-n-lt2, c.requires.0)
 
 pub slice_bounds-translate_parts-end : goal.slice_bounds-translate_parts-end
 slice_bounds-translate_parts-end c = first_length closing _ _ c.first-h.ensures
@@ -90,15 +81,12 @@ slice_bounds-translate_parts-start c =
 
 pub translate_parts-requires : goal.translate_parts-requires
 translate_parts-requires c =
-    let l = c in
-    let f = l in
-    let g = f in
-    let rule = g.args.rule.now in
+    let rule = c.args.rule.now in
     let whole = take (length rule - 2) rule in
-    let n = f.first-h.result in
-    let first = first_length closing n whole f.first-h.ensures in
+    let n = c.first-h.result in
+    let first = first_length closing n whole c.first-h.ensures in
     let last = ap length (to_end (n + 1) whole) ∙ length-drop (n + 1) whole in
-    let most = g.requires.0 in (
+    let most = c.requires.0 in (
       omega (arith, inside (goal.at.translate_parts-requires c).Else-h-to, whole_long (goal.at.translate_parts-requires c).Else-n-lt2, first, most),
       omega (arith, inside (goal.at.translate_parts-requires c).Else-h-to, whole_long (goal.at.translate_parts-requires c).Else-n-lt2, last, most),
       search rules,
@@ -106,14 +94,9 @@ translate_parts-requires c =
 
 pub returns : goal.returns
 returns c =
-    let p = c in
-    let l = p in
-    let f = l in
-    let e = f in
-    let g = e in
-    let rule = g.args.rule.now in
+    let rule = c.args.rule.now in
     record {
-      translates = (λ w t n. rw (two_pieces rule (length rule - 2) (end_starts (goal.at.returns c).Else-n-lt2) (ends (goal.at.returns c).Else-not-same) f.first-h.result f.first-h.ensures l.if-h-to.false)
-          (p.translate_parts.ensures.parts_translated w t n));
-      out_len = p.translate_parts.ensures.out_len;
+      translates = (λ w t n. rw (two_pieces rule (length rule - 2) (end_starts (goal.at.returns c).Else-n-lt2) (ends (goal.at.returns c).Else-not-same) c.first-h.result c.first-h.ensures c.if-h-to.false)
+          (c.translate_parts.ensures.parts_translated w t n));
+      out_len = c.translate_parts.ensures.out_len;
     }

@@ -26,12 +26,11 @@ with_partition-r-requires c = c.partition_fault-fault.ensures.partitions_lt_most
 
 pub returns : goal.returns
 returns c = λ d e.
-    let checked = c in
-    let l = checked.args.line.now in
-    let line = checked.read_partition-e.ensures in
+    let l = c.args.line.now in
+    let line = c.read_partition-e.ensures in
     let views = view_count_of d _ e in
     let count = partition_count_of d _ e in
-    let fault = sym c.if-fault-ne0.false ∙ checked.partition_fault-fault.ensures.fault_of_partition d (partition_line l) views count line in
+    let fault = sym c.if-fault-ne0.false ∙ c.partition_fault-fault.ensures.fault_of_partition d (partition_line l) views count line in
     entered_more d l partition_block _ _
     (c.with_partition-r.ensures d (new_partition d l _ _ _ views count line fault) e (new_partition_value d l _ _ _ views count line fault))
     (partition_declared d l _ _ _ views count line fault)

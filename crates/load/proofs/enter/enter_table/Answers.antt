@@ -24,10 +24,9 @@ with_table-r-requires c = c.table_fault-fault.ensures.count_lt_most_tables c.if-
 
 pub returns : goal.returns
 returns c = λ d e.
-    let checked = c in
-    let l = checked.args.line.now in
-    let line = checked.read_table-t.ensures in
+    let l = c.args.line.now in
+    let line = c.read_table-t.ensures in
     let known = tables_of d _ e in
-    let fault = checked.table_fault-fault.ensures.fault_of_table d (table_line l) known line in
+    let fault = c.table_fault-fault.ensures.fault_of_table d (table_line l) known line in
     entered_more d l table_block _ _ (c.with_table-r.ensures d e)
     (table_declared d l _ _ known line (sym c.if-fault-ne0.false ∙ fault))

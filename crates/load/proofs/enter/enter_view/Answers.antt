@@ -26,11 +26,10 @@ with_view-r-requires c = c.view_fault-fault.ensures.views_lt_most_views c.if-fau
 
 pub returns : goal.returns
 returns c = λ d e.
-    let checked = c in
-    let l = checked.args.line.now in
-    let line = checked.read_view-e.ensures in
+    let l = c.args.line.now in
+    let line = c.read_view-e.ensures in
     let count = view_count_of d _ e in
-    let fault = sym c.if-fault-ne0.false ∙ checked.view_fault-fault.ensures.fault_of_view d (view_line l) (tables_of d _ e) count line in
+    let fault = sym c.if-fault-ne0.false ∙ c.view_fault-fault.ensures.fault_of_view d (view_line l) (tables_of d _ e) count line in
     entered_more d l view_block _ _
     (c.with_view-r.ensures d (new_view d l _ _ count line fault) e (new_view_value d l _ _ count line fault))
     (view_declared d l _ _ count line fault)

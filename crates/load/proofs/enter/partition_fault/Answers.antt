@@ -34,35 +34,32 @@ returns-then-e-partitions c =
 
 pub returns-then-not-l : goal.returns-then-not-l
 returns-then-not-l c =
-    let turn = c in
-    let ok = not-false _ turn.if-not-e.false in
-    let inside = turn.if-e.false in
-    let limits = turn.requires ok inside in
+    let ok = not-false _ c.if-not-e.false in
+    let inside = c.if-e.false in
+    let limits = c.requires ok inside in
     record {
-      fault_of_partition = λ d o v e f. partition_not_ascending d o _ _ _ v e f ok inside limits.0 turn.if-e-partitions.false (not-true _ c.if-not-l.true);
+      fault_of_partition = λ d o v e f. partition_not_ascending d o _ _ _ v e f ok inside limits.0 c.if-e-partitions.false (not-true _ c.if-not-l.true);
       partitions_lt_most_partitions = λ z. omega arith;
     }
 
 pub returns-then-views-l : goal.returns-then-views-l
 returns-then-views-l c =
-    let turn = c in
-    let ok = not-false _ turn.if-not-e.false in
-    let inside = turn.if-e.false in
-    let limits = turn.requires ok inside in
+    let ok = not-false _ c.if-not-e.false in
+    let inside = c.if-e.false in
+    let limits = c.requires ok inside in
     let ascending = not-false _ c.if-not-l.false in
     record {
-      fault_of_partition = λ d o v e f. partition_unknown d o _ _ _ v e f ok inside limits.0 turn.if-e-partitions.false ascending c.if-views-l.true;
+      fault_of_partition = λ d o v e f. partition_unknown d o _ _ _ v e f ok inside limits.0 c.if-e-partitions.false ascending c.if-views-l.true;
       partitions_lt_most_partitions = λ z. omega arith;
     }
 
 pub returns : goal.returns
 returns c =
-    let turn = c in
-    let ok = not-false _ turn.if-not-e.false in
-    let inside = turn.if-e.false in
-    let limits = turn.requires ok inside in
+    let ok = not-false _ c.if-not-e.false in
+    let inside = c.if-e.false in
+    let limits = c.requires ok inside in
     let ascending = not-false _ c.if-not-l.false in
     record {
-      fault_of_partition = λ d o v e f. partition_taken d o _ _ _ v e f ok inside limits.0 turn.if-e-partitions.false ascending c.if-views-l.false;
-      partitions_lt_most_partitions = λ z. omega (arith, limits.0, limits.1, turn.if-e-partitions.false);
+      fault_of_partition = λ d o v e f. partition_taken d o _ _ _ v e f ok inside limits.0 c.if-e-partitions.false ascending c.if-views-l.false;
+      partitions_lt_most_partitions = λ z. omega (arith, limits.0, limits.1, c.if-e-partitions.false);
     }

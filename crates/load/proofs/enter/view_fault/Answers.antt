@@ -37,17 +37,16 @@ returns-then-e-views c =
 
 pub check_line-requires : goal.check_line-requires
 check_line-requires c =
-    let at = c in at.requires.1 (not-false _ at.if-not-e.false) at.if-e.false
+    c.requires.1 (not-false _ c.if-not-e.false) c.if-e.false
 
 pub returns : goal.returns
 returns c =
-    let turn = c in
-    let ok = not-false _ turn.if-not-e.false in
-    let inside = turn.if-e.false in
-    let limits = turn.requires.0 ok inside in
+    let ok = not-false _ c.if-not-e.false in
+    let inside = c.if-e.false in
+    let limits = c.requires.0 ok inside in
     record {
       fault_of_view = λ d o t n e. c.check_line.ensures d.widths [] (view_within d o _ _ n e ok inside).entry.value t marked_none
           (view_line_within d o _ _ n e ok inside) (view_line_lem d o _ _ n e ok inside)
-          ∙ view_checked d o _ _ n e ok inside limits.0 turn.if-e-views.false;
-      views_lt_most_views = λ z. omega (arith, limits.0, limits.1, turn.if-e-views.false);
+          ∙ view_checked d o _ _ n e ok inside limits.0 c.if-e-views.false;
+      views_lt_most_views = λ z. omega (arith, limits.0, limits.1, c.if-e-views.false);
     }

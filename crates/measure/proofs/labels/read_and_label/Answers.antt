@@ -9,9 +9,7 @@ prepare_for_many-ready-requires c = let (d, l) = c.requires in counted l
 
 pub label_again-requires : goal.label_again-requires
 label_again-requires c =
-    let m = c in
-    let made = m in
-    let read = m.read_query-r in
-    let (d, l) = made.requires in
-    let (Q, e, o, q) = read_accepted (read_text d.widths _) read.result (read.ensures d.widths (tables_of l)) m.in-Accepted.is in
-    (d, _, Q, ready l made.prepare_for_many-ready.ensures, posed d _ Q l.good e q)
+    let read = c.read_query-r in
+    let (d, l) = c.requires in
+    let (Q, e, o, q) = read_accepted (read_text d.widths _) read.result (read.ensures d.widths (tables_of l)) c.in-Accepted.is in
+    (d, _, Q, ready l c.prepare_for_many-ready.ensures, posed d _ Q l.good e q)

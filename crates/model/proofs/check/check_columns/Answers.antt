@@ -7,12 +7,10 @@ returns-then-tables-number c = let a = c.args in λ w A t e n. unknown_table w A
 
 pub returns-then-tables-at : goal.returns-then-tables-at
 returns-then-tables-at c =
-    let f = c in
-    let a = f.args in
-    λ w A t e n. wrong_width w A a.tables a.table a.count t e n f.if-tables-number.false c.if-tables-at.true
+    let a = c.args in
+    λ w A t e n. wrong_width w A a.tables a.table a.count t e n c.if-tables-number.false c.if-tables-at.true
 
 pub returns : goal.returns
 returns c =
-    let f = c in
-    let a = f.args in
-    λ w A t e n. right_width w A a.tables a.table a.count t e n f.if-tables-number.false c.if-tables-at.false
+    let a = c.args in
+    λ w A t e n. right_width w A a.tables a.table a.count t e n c.if-tables-number.false c.if-tables-at.false

@@ -8,22 +8,17 @@ returns-then-f-ne0 c = λ w e A t m i g. columns_fault c.check_columns-f.ensures
 
 pub returns-then-meets : goal.returns-then-meets
 returns-then-meets c =
-    let f = c in
     λ w e A t m i g.
-    shown_clashes f.check_columns-f.ensures w e A t m i g f.if-f-ne0.false (sym c.meets.ensures ∙ c.if-meets.true)
+    shown_clashes c.check_columns-f.ensures w e A t m i g c.if-f-ne0.false (sym c.meets.ensures ∙ c.if-meets.true)
 
 pub returns-then-meets-2 : goal.returns-then-meets-2
 returns-then-meets-2 c =
-    let d = c in
-    let f = d in
     λ w e A t m i g.
-    hidden_clashes f.check_columns-f.ensures w e A t m i g f.if-f-ne0.false
-    (sym d.meets.ensures ∙ d.if-meets.false) (sym c.meets-2.ensures ∙ c.if-meets-2.true)
+    hidden_clashes c.check_columns-f.ensures w e A t m i g c.if-f-ne0.false
+    (sym c.meets.ensures ∙ c.if-meets.false) (sym c.meets-2.ensures ∙ c.if-meets-2.true)
 
 pub returns : goal.returns
 returns c =
-    let d = c in
-    let f = d in
     λ w e A t m i g.
-    fitting f.check_columns-f.ensures w e A t m i g f.if-f-ne0.false
-    (sym d.meets.ensures ∙ d.if-meets.false) (sym c.meets-2.ensures ∙ c.if-meets-2.false)
+    fitting c.check_columns-f.ensures w e A t m i g c.if-f-ne0.false
+    (sym c.meets.ensures ∙ c.if-meets.false) (sym c.meets-2.ensures ∙ c.if-meets-2.false)

@@ -18,16 +18,14 @@ slice_bounds-read_numeral-end c = first_length space _ _ c.first-n.ensures
 
 pub returns-in-Malformed : goal.returns-in-Malformed
 returns-in-Malformed c =
-    let d = c in
     c.blank-in-Malformed.ensures
-    ∙ line_unnumbered _ d.first-n.ensures d.if-n-s.false d.read_numeral-number.ensures
+    ∙ line_unnumbered _ c.first-n.ensures c.if-n-s.false c.read_numeral-number.ensures
     c.in-Malformed.is
 
 -- terms follow the first space
 parted : (c : In_default) →
-    let f = c in
-    f.first-n.result < length f.args.s.now
-parted c = let t = c in first_inside space _ _ t.first-n.ensures t.if-n-s.false
+    c.first-n.result < length c.args.s.now
+parted c = first_inside space _ _ c.first-n.ensures c.if-n-s.false
 
 pub overflow_add-from : goal.overflow_add-from
 overflow_add-from c = omega (arith, parted c)
@@ -39,32 +37,25 @@ pub slice_bounds-read_terms-start : goal.slice_bounds-read_terms-start
 slice_bounds-read_terms-start c = omega (arith, parted c)
 
 whole : (c : After-read_terms-p) →
-    let d = c in
-    LineRead d.args.s.now d.read_numeral-number.result c.read_terms-p.result
+    LineRead c.args.s.now c.read_numeral-number.result c.read_terms-p.result
 whole c =
-    let d = c in
-    let t = d in
-    line_read _ t.first-n.ensures t.if-n-s.false d.read_numeral-number.ensures c.read_terms-p.ensures
+    line_read _ c.first-n.ensures c.if-n-s.false c.read_numeral-number.ensures c.read_terms-p.ensures
 
 pub returns-then-not-p : goal.returns-then-not-p
 returns-then-not-p c = line_malformed (whole (goal.at.returns-then-not-p c).After-read_terms-p) (not-true _ c.if-not-p.true)
 
 pub returns-then-table-eq0 : goal.returns-then-table-eq0
 returns-then-table-eq0 c =
-    let d = c in
-    let r = d in
     c.blank-then-table-eq0.ensures
-    ∙ line_table_past (whole (goal.at.returns-then-table-eq0 c).After-read_terms-p) (not-false _ d.if-not-p.false) c.in_default.not-Malformed
+    ∙ line_table_past (whole (goal.at.returns-then-table-eq0 c).After-read_terms-p) (not-false _ c.if-not-p.false) c.in_default.not-Malformed
     c.up_to-table.ensures c.if-table-eq0.true
 
 pub returns-then-p : goal.returns-then-p
 returns-then-p c =
-    let d = c in
-    line_terms_past (whole (goal.at.returns-then-p c).After-read_terms-p) (not-false _ d.if-not-p.false) c.up_to-table.ensures c.if-table-eq0.false
+    line_terms_past (whole (goal.at.returns-then-p c).After-read_terms-p) (not-false _ c.if-not-p.false) c.up_to-table.ensures c.if-table-eq0.false
     c.if-p.true
 
 pub returns : goal.returns
 returns c =
-    let d = c in
-    line_within_lem (whole (goal.at.returns c).After-read_terms-p) (not-false _ d.if-not-p.false) c.up_to-table.ensures c.if-table-eq0.false
+    line_within_lem (whole (goal.at.returns c).After-read_terms-p) (not-false _ c.if-not-p.false) c.up_to-table.ensures c.if-table-eq0.false
     c.if-p.false

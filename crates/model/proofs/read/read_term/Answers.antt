@@ -19,12 +19,10 @@ returns-then-mark-eq0 c = unmarked_read _ (omega arith) (sym c.mark_of-mark.ensu
 
 -- the field by what `mark_of` and `read_numeral` gave
 by_mark : (c : After-read_numeral) →
-    let k = c in
-    marked k.mark_of-mark.result c.read_numeral.result ≡ field_value (term k.args.field.now)
+    marked c.mark_of-mark.result c.read_numeral.result ≡ field_value (term c.args.field.now)
 by_mark c =
-    let k = c in
-    let f = k.args.field.now in
-    let m : k.mark_of-mark.result ≡ mark_of (get_or f 0 0) = k.mark_of-mark.ensures in
+    let f = c.args.field.now in
+    let m : c.mark_of-mark.result ≡ mark_of (get_or f 0 0) = c.mark_of-mark.ensures in
     ap₂ marked m (c.read_numeral.ensures ∙ ap numeral_value (to_end 1 f))
     ∙ marked_read f (omega arith) (λ e. c.if-mark-eq0.false (m ∙ e))
 

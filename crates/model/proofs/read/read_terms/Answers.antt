@@ -16,27 +16,22 @@ pub slice_bounds-read_term-end : goal.slice_bounds-read_term-end
 slice_bounds-read_term-end c = first_length space _ _ c.first-n.ensures
 
 next : (c : After-first-n) →
-    let l = c in
-    let s = l.args.s.now in
+    let s = c.args.s.now in
     let n = c.first-n.result in
-    NextTerm s l.loop-at.p l.loop-at.outside l.loop-at.at n (take n (take (length s - l.loop-at.at) (drop l.loop-at.at s)))
+    NextTerm s c.loop-at.p c.loop-at.outside c.loop-at.at n (take n (take (length s - c.loop-at.at) (drop c.loop-at.at s)))
 next c =
-    let t = c in
-    record { passed = t.loop-at.invariant.terms; here = part_at (omega (arith, t.loop-at-test.true)) c.first-n.ensures }
+    record { passed = c.loop-at.invariant.terms; here = part_at (omega (arith, c.loop-at-test.true)) c.first-n.ensures }
 
 pub returns-in-Malformed : goal.returns-in-Malformed
 returns-in-Malformed c =
-    let f = c in
-    c.blank.ensures ∙ next_malformed (next (goal.at.returns-in-Malformed c).After-first-n) (sym c.in-Malformed.is ∙ f.read_term.ensures)
+    c.blank.ensures ∙ next_malformed (next (goal.at.returns-in-Malformed c).After-first-n) (sym c.in-Malformed.is ∙ c.read_term.ensures)
 
 pub with_term-p-requires : goal.with_term-p-requires
 with_term-p-requires c =
-    let f = c in
     let x = next (goal.at.with_term-p-requires c).After-first-n in
-    let l = f in
     record {
-      count_bound = omega (arith, l.loop-at.invariant.few, x.here.inside, l.requires);
-      number_le_last_variable = next_small x (sym c.in-Within.is ∙ f.read_term.ensures);
+      count_bound = omega (arith, c.loop-at.invariant.few, x.here.inside, c.requires);
+      number_le_last_variable = next_small x (sym c.in-Within.is ∙ c.read_term.ensures);
     }
 
 pub overflow_add-at : goal.overflow_add-at
@@ -59,7 +54,7 @@ loop-at-preserved c =
 
 pub returns-then-outside : goal.returns-then-outside
 returns-then-outside c =
-    let t = c in c.blank-then-outside.ensures ∙ all_outside t.loop-at.invariant t.loop-at-test.false c.if-outside.true
+    c.blank-then-outside.ensures ∙ all_outside c.loop-at.invariant c.loop-at-test.false c.if-outside.true
 
 pub returns : goal.returns
 returns c = all_within c.loop-at.invariant c.loop-at-test.false c.if-outside.false

@@ -25,67 +25,44 @@ slice_bounds-rest-end c = omega arith
 
 pub slice_bounds-put_indented-end : goal.slice_bounds-put_indented-end
 slice_bounds-put_indented-end c =
-    let f = c in
-    let l = f in
-    sym (length-take-le _ _ (first_within l.loop-at.invariant.0 _ f.first-n.ensures))
+    sym (length-take-le _ _ (first_within c.loop-at.invariant.0 _ c.first-n.ensures))
 
 pub put_indented-requires : goal.put_indented-requires
 put_indented-requires c =
-    let f = c in
-    let l = f in
-    let s = l in
-    omega (arith, s.requires l.if-line-eq0.false, line_short l.loop-at.invariant.0 _ f.first-n.ensures, ap length l.loop-at.invariant.1)
+    omega (arith, c.requires c.if-line-eq0.false, line_short c.loop-at.invariant.0 _ c.first-n.ensures, ap length c.loop-at.invariant.1)
 
 pub shape_of-out-then-left-eq1 : goal.shape_of-out-then-left-eq1
 shape_of-out-then-left-eq1 c =
-    let p = c in
-    let l = p in
-    p.put_indented.ensures.size ∙ ap length l.loop-at.invariant.1
+    c.put_indented.ensures.size ∙ ap length c.loop-at.invariant.1
 
 pub returns-then-left-eq1 : goal.returns-then-left-eq1
 returns-then-left-eq1 c =
-    let p = c in
-    let t = p in
-    let f = t in
-    let l = f in
-    wrote_from l.loop-at.invariant.1
-    (wrote_as (reached_line l.loop-at.invariant.0 _ f.first-n.ensures f.loop-at-test.true t.if-left-eq1.true) p.put_indented.ensures)
+    wrote_from c.loop-at.invariant.1
+    (wrote_as (reached_line c.loop-at.invariant.0 _ c.first-n.ensures c.loop-at-test.true c.if-left-eq1.true) c.put_indented.ensures)
 
 pub returns-then-n-rest : goal.returns-then-n-rest
 returns-then-n-rest c =
-    let e = c in
-    let f = e in
-    let l = f in
-    wrote_nothing l.loop-at.invariant.1 (reached_end l.loop-at.invariant.0 _ f.first-n.ensures e.if-left-eq1.false c.if-n-rest.true)
+    wrote_nothing c.loop-at.invariant.1 (reached_end c.loop-at.invariant.0 _ c.first-n.ensures c.if-left-eq1.false c.if-n-rest.true)
 
 pub overflow_sub-left : goal.overflow_sub-left
 overflow_sub-left c =
-    let l = c in
-    omega (arith, l.loop-at.invariant.0.some)
+    omega (arith, c.loop-at.invariant.0.some)
 
 pub overflow_add-at : goal.overflow_add-at
 overflow_add-at c =
-    let f = c in
-    let l = f in
-    omega (arith, next_within l.loop-at.invariant.0 _ f.first-n.ensures c.if-left-eq1.false c.if-n-rest.false)
+    omega (arith, next_within c.loop-at.invariant.0 _ c.first-n.ensures c.if-left-eq1.false c.if-n-rest.false)
 
 pub overflow_add-at-in-loop-at : goal.overflow_add-at-in-loop-at
 overflow_add-at-in-loop-at c =
-    let f = c in
-    let l = f in
-    omega (arith, next_within l.loop-at.invariant.0 _ f.first-n.ensures c.if-left-eq1.false c.if-n-rest.false)
+    omega (arith, next_within c.loop-at.invariant.0 _ c.first-n.ensures c.if-left-eq1.false c.if-n-rest.false)
 
 pub loop-at-smaller : goal.loop-at-smaller
 loop-at-smaller c =
-    let f = c in
-    let l = f in
-    omega (arith, next_within l.loop-at.invariant.0 _ f.first-n.ensures c.if-left-eq1.false c.if-n-rest.false)
+    omega (arith, next_within c.loop-at.invariant.0 _ c.first-n.ensures c.if-left-eq1.false c.if-n-rest.false)
 
 pub loop-at-preserved : goal.loop-at-preserved
 loop-at-preserved c =
-    let f = c in
-    let l = f in
-    (reached_more l.loop-at.invariant.0 _ f.first-n.ensures c.if-left-eq1.false c.if-n-rest.false, l.loop-at.invariant.1)
+    (reached_more c.loop-at.invariant.0 _ c.first-n.ensures c.if-left-eq1.false c.if-n-rest.false, c.loop-at.invariant.1)
 
 pub returns : goal.returns
 returns c = wrote_nothing c.loop-at.invariant.1 (reached_all c.loop-at.invariant.0 c.loop-at-test.false)

@@ -14,12 +14,9 @@ loop-i-init c = (wrote_none _ _, omega arith, omega arith)
 
 pub put_spaced-to-requires : goal.put_spaced-to-requires
 put_spaced-to-requires c =
-    let t = c in
-    let l = t in
-    let s = l in
-    let w = l.loop-i.invariant.0 in
-    let h : l.loop-i.i < length s.args.numbers.now = t.loop-i-test.true in
-    omega (arith, s.requires, w.size)
+    let w = c.loop-i.invariant.0 in
+    let h : c.loop-i.i < length c.args.numbers.now = c.loop-i-test.true in
+    omega (arith, c.requires, w.size)
 
 pub overflow_add-i : goal.overflow_add-i
 overflow_add-i c = omega arith
@@ -29,13 +26,10 @@ loop-i-smaller c = omega arith
 
 pub loop-i-preserved : goal.loop-i-preserved
 loop-i-preserved c =
-    let p = c in
-    let d = p in
-    let t = d in
-    let inv = t.loop-i.invariant in (
-      wrote_number _ _ inv.0 p.put_spaced-to.ensures.0 d.wide.ensures t.loop-i-test.true,
-      omega (arith, inv.1, p.put_spaced-to.ensures.1),
-      omega (arith, t.loop-i-test.true),
+    let inv = c.loop-i.invariant in (
+      wrote_number _ _ inv.0 c.put_spaced-to.ensures.0 c.wide.ensures c.loop-i-test.true,
+      omega (arith, inv.1, c.put_spaced-to.ensures.1),
+      omega (arith, c.loop-i-test.true),
     )
 
 pub shape_of-out : goal.shape_of-out

@@ -36,10 +36,9 @@ loop-k-smaller c = omega arith
 
 pub loop-k-preserved : goal.loop-k-preserved
 loop-k-preserved c =
-    let t = c in
-    let f = t.loop-k.invariant in
+    let f = c.loop-k.invariant in
     let e = c.has_bit.ensures in
-    elim c.if-has_bit.branch [ then-has_bit w ↦ rw (w.numbers-is, w.count-is) (view_more f t.loop-k-test.true (sym e ∙ w.if-has_bit.true)) | else-has_bit w ↦ rw (w.numbers-is, w.count-is) (view_not f t.loop-k-test.true (sym e ∙ w.if-has_bit.false)) ]
+    elim c.if-has_bit.branch [ then-has_bit w ↦ rw (w.numbers-is, w.count-is) (view_more f c.loop-k-test.true (sym e ∙ w.if-has_bit.true)) | else-has_bit w ↦ rw (w.numbers-is, w.count-is) (view_not f c.loop-k-test.true (sym e ∙ w.if-has_bit.false)) ]
 
 pub returns : goal.returns
 returns c =

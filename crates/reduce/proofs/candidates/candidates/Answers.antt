@@ -29,12 +29,10 @@ loop-rest-smaller c = c.drop_least-rest.ensures.less
 
 pub loop-rest-preserved : goal.loop-rest-preserved
 loop-rest-preserved c = λ Q n g goings.
-    let test = c in
-    let least = test in
-    let k = least.loop-rest.invariant Q n g goings in
-    let going = (goings least.least-p.result).0 (k.some _ least.least-p.ensures.set) in
-    let answer = candidate_test g _ going test.goes_itself.ensures in
-    elim c.if-not-goes_itself.branch [ then-not-goes_itself w ↦ rw (w.m-is, w.clear_bit-m.ensures) (sieved_out k least.least-p.ensures c.drop_least-rest.ensures (fails answer (ap not w.if-not-goes_itself.true))) | else-not-goes_itself w ↦ rw w.m-is (sieved_kept k least.least-p.ensures c.drop_least-rest.ensures (passes answer (ap not w.if-not-goes_itself.false))) ]
+    let k = c.loop-rest.invariant Q n g goings in
+    let going = (goings c.least-p.result).0 (k.some _ c.least-p.ensures.set) in
+    let answer = candidate_test g _ going c.goes_itself.ensures in
+    elim c.if-not-goes_itself.branch [ then-not-goes_itself w ↦ rw (w.m-is, w.clear_bit-m.ensures) (sieved_out k c.least-p.ensures c.drop_least-rest.ensures (fails answer (ap not w.if-not-goes_itself.true))) | else-not-goes_itself w ↦ rw w.m-is (sieved_kept k c.least-p.ensures c.drop_least-rest.ensures (passes answer (ap not w.if-not-goes_itself.false))) ]
 
 pub returns : goal.returns
 returns c = λ Q n g goings. candidates_all goings (rw c.loop-rest-test.false at (c.loop-rest.invariant Q n g goings))

@@ -25,14 +25,10 @@ term_at-requires-then-is_shared c = (omega arith, omega (arith, c.column_of-q.en
 
 pub returns-then-not-same_term : goal.returns-then-not-same_term
 returns-then-not-same_term c =
-    let same = c in
-    let column = same in
-    let shared = column in
-    let test = shared in
     no_iff
-    (own_failed _ _ _ _ test.loop-p.p shared.is_shared.result shared.term_at-x.ensures shared.is_shared.ensures
-    same.same_term.result column.column_of-q.ensures same.term_at.ensures same.term_at-then-is_shared.ensures
-    same.same_term.ensures test.loop-p-test.true column.if-is_shared.true (ap not c.if-not-same_term.true))
+    (own_failed _ _ _ _ c.loop-p.p c.is_shared.result c.term_at-x.ensures c.is_shared.ensures
+    c.same_term.result c.column_of-q.ensures c.term_at.ensures c.term_at-then-is_shared.ensures
+    c.same_term.ensures c.loop-p-test.true c.if-is_shared.true (ap not c.if-not-same_term.true))
 
 pub overflow_add-p : goal.overflow_add-p
 overflow_add-p c = omega arith
@@ -42,10 +38,9 @@ loop-p-smaller c = omega arith
 
 pub loop-p-preserved : goal.loop-p-preserved
 loop-p-preserved c =
-    let shared = c in
-    let at = shared.loop-p in
-    let read = shared.term_at-x.ensures in
-    let test = shared.is_shared in (
+    let at = c.loop-p in
+    let read = c.term_at-x.ensures in
+    let test = c.is_shared in (
       omega arith,
       elim c.if-is_shared.branch [
         | then-is_shared+else-not-same_term w ↦ own_passed _ _ _ _ at.p test.result read test.ensures w.same_term.result w.column_of-q.ensures w.term_at.ensures

@@ -12,8 +12,7 @@ term_at-u-requires c = (omega arith, omega arith)
 
 pub returns-then-same_term : goal.returns-then-same_term
 returns-then-same_term c =
-    let at = c in
-    first_found _ at.loop-q-test.true at.loop-q.invariant.1 c.term_at-u.ensures c.same_term.ensures
+    first_found _ c.loop-q-test.true c.loop-q.invariant.1 c.term_at-u.ensures c.same_term.ensures
     c.if-same_term.true
 
 pub overflow_add-q : goal.overflow_add-q

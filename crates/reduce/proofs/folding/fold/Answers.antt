@@ -30,46 +30,39 @@ clear_bit-rest-requires c = omega arith
 rest_small : (c : After-clear_bit-rest)
     → c.clear_bit-rest.result < 2 ^ c.args.n
 rest_small c =
-    let at = c in cleared at.args.n _ _ c.clear_bit-rest.ensures at.loop-i.invariant.1
+    cleared c.args.n _ _ c.clear_bit-rest.ensures c.loop-i.invariant.1
 
 rest_lines : (c : After-clear_bit-rest) → LineBits c.clear_bit-rest.result
 rest_lines c i e =
-    let s = c in
-    bit_within most_lines i (lines_below (rest_small c) s.requires.0) e
+    bit_within most_lines i (lines_below (rest_small c) c.requires.0) e
 
 pub row_of-targets-requires : goal.row_of-targets-requires
 row_of-targets-requires c =
-    let s = c in (omega arith, lines_below (rest_small c) s.requires.0)
+    (omega arith, lines_below (rest_small c) c.requires.0)
 
 pub variables-requires : goal.variables-requires
-variables-requires c = let rest = c in (omega arith, rest_lines (goal.at.variables-requires c).After-clear_bit-rest)
+variables-requires c = (omega arith, rest_lines (goal.at.variables-requires c).After-clear_bit-rest)
 
 pub goes_alone-requires : goal.goes_alone-requires
 goes_alone-requires c =
-    let row = c in
-    (omega arith, omega arith, λ b e. rest_lines (goal.at.goes_alone-requires c).After-clear_bit-rest b (row.row_of-targets.ensures.some b e).0)
+    (omega arith, omega arith, λ b e. rest_lines (goal.at.goes_alone-requires c).After-clear_bit-rest b (c.row_of-targets.ensures.some b e).0)
 
 pub loop-i-smaller-then-goes_alone : goal.loop-i-smaller-then-goes_alone
 loop-i-smaller-then-goes_alone c = omega arith
 
 pub loop-i-preserved-then-goes_alone : goal.loop-i-preserved-then-goes_alone
 loop-i-preserved-then-goes_alone c =
-    let variables = c in
-    let row = variables in
-    let rest = row in
-    let at = rest in
-    let s = at in
     let small = rest_small (goal.at.loop-i-preserved-then-goes_alone c).After-clear_bit-rest in (
       omega arith,
       small,
       λ Q g m.
           let alone = c.goes_alone.ensures c.if-goes_alone.true in
           let b = alone.target in
-          let (allowed, candidate) = row.row_of-targets.ensures.some b alone.among in
-          rw rest.clear_bit-rest.ensures
-          (folds_alone g (at.loop-i.i - 1) b at.loop-i.rows variables.variables.result (omega (arith, g.count))
-          (rw g.count (bit_within s.args.n b small allowed)) (rw rest.clear_bit-rest.ensures at allowed) ((m _).0 candidate)
-          alone.keeps (rw rest.clear_bit-rest.ensures at variables.variables.ensures) (at.loop-i.invariant.2 Q g m)),
+          let (allowed, candidate) = c.row_of-targets.ensures.some b alone.among in
+          rw c.clear_bit-rest.ensures
+          (folds_alone g (c.loop-i.i - 1) b c.loop-i.rows c.variables.result (omega (arith, g.count))
+          (rw g.count (bit_within c.args.n b small allowed)) (rw c.clear_bit-rest.ensures c allowed) ((m _).0 candidate)
+          alone.keeps (rw c.clear_bit-rest.ensures c c.variables.ensures) (c.loop-i.invariant.2 Q g m)),
     )
 
 pub loop-i-smaller-else-goes_alone : goal.loop-i-smaller-else-goes_alone

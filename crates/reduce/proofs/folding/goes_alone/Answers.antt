@@ -11,15 +11,13 @@ least-requires c = omega arith
 
 pub stays-requires : goal.stays-requires
 stays-requires c =
-    let at = c in
-    let (long, line, targets) = at.requires in (long, line, targets _ (at.loop-rest.invariant _ c.least.ensures.set))
+    let (long, line, targets) = c.requires in (long, line, targets _ (c.loop-rest.invariant _ c.least.ensures.set))
 
 pub returns-then-stays : goal.returns-then-stays
 returns-then-stays c =
-    let k = c in
     λ _. record {
-      target = k.least.result;
-      among = k.loop-rest.invariant _ k.least.ensures.set;
+      target = c.least.result;
+      among = c.loop-rest.invariant _ c.least.ensures.set;
       keeps = c.stays.ensures c.if-stays.true;
     }
 
@@ -31,8 +29,7 @@ loop-rest-smaller c = c.drop_least-rest.ensures.less
 
 pub loop-rest-preserved : goal.loop-rest-preserved
 loop-rest-preserved c =
-    let k = c in
-    λ b e. k.loop-rest.invariant b (left_before b k.least.ensures c.drop_least-rest.ensures e)
+    λ b e. c.loop-rest.invariant b (left_before b c.least.ensures c.drop_least-rest.ensures e)
 
 pub returns : goal.returns
 returns c = λ e. absurd (false≢true e)

@@ -28,11 +28,10 @@ loop-p-smaller c = omega arith
 
 pub loop-p-preserved : goal.loop-p-preserved
 loop-p-preserved c =
-    let shared = c in
-    let kept = shared.loop-p.invariant.1 in
-    let read = shared.term_at-t.ensures in (
+    let kept = c.loop-p.invariant.1 in
+    let read = c.term_at-t.ensures in (
       omega arith,
-      elim c.if-is_shared.branch [ then-is_shared+else-not-same_term w ↦ kept_same_term kept read w.same_term.result w.term_at-u.ensures w.same_term.ensures (ap not w.if-not-same_term.false) | else-is_shared w ↦ kept_skip kept read shared.is_shared.result shared.is_shared.ensures w.if-is_shared.false ],
+      elim c.if-is_shared.branch [ then-is_shared+else-not-same_term w ↦ kept_same_term kept read w.same_term.result w.term_at-u.ensures w.same_term.ensures (ap not w.if-not-same_term.false) | else-is_shared w ↦ kept_skip kept read c.is_shared.result c.is_shared.ensures w.if-is_shared.false ],
     )
 
 pub returns : goal.returns

@@ -10,8 +10,7 @@ least-requires c = omega arith
 
 pub hidden_of-m-requires : goal.hidden_of-m-requires
 hidden_of-m-requires c =
-    let at = c in
-    let (long, lines) = at.requires in (long, lines _ (at.loop-rest.invariant.some _ c.least.ensures.set))
+    let (long, lines) = c.requires in (long, lines _ (c.loop-rest.invariant.some _ c.least.ensures.set))
 
 pub drop_least-rest-requires : goal.drop_least-rest-requires
 drop_least-rest-requires c = omega arith
@@ -22,8 +21,7 @@ loop-rest-smaller c = c.drop_least-rest.ensures.less
 pub loop-rest-preserved : goal.loop-rest-preserved
 loop-rest-preserved c =
     let word = c.hidden_of-m in
-    let k = c in
-    variables_more word.result k.loop-rest.invariant k.least.ensures c.drop_least-rest.ensures word.ensures
+    variables_more word.result c.loop-rest.invariant c.least.ensures c.drop_least-rest.ensures word.ensures
 
 pub returns : goal.returns
 returns c = variables_all (rw c.loop-rest-test.false at c.loop-rest.invariant)

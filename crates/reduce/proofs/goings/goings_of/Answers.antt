@@ -19,11 +19,9 @@ clear_bit-rest-requires c = omega arith
 
 pub loop-rest-init : goal.loop-rest-init
 loop-rest-init c =
-    let near = c in
-    let cut = near in
-    let kept = rw cut.columns_of.ensures at cut.without-kept.ensures in
-    let (few, _, _, l) = cut.requires in
-    (kept, rw (near.set_bit-m.ensures, c.clear_bit-rest.ensures) (targets_first _ _ _ _ _ _ kept few l near.near.ensures))
+    let kept = rw c.columns_of.ensures at c.without-kept.ensures in
+    let (few, _, _, l) = c.requires in
+    (kept, rw (c.set_bit-m.ensures, c.clear_bit-rest.ensures) (targets_first _ _ _ _ _ _ kept few l c.near.ensures))
 
 pub least-s-requires : goal.least-s-requires
 least-s-requires c = omega arith
@@ -45,13 +43,11 @@ loop-rest-smaller c = c.drop_least-rest.ensures.less
 
 pub loop-rest-preserved : goal.loop-rest-preserved
 loop-rest-preserved c =
-    let same = c in
-    let least = same in
-    let (kept, targets) = least.loop-rest.invariant in
-    let (few, _, _, l) = least.requires in (
+    let (kept, targets) = c.loop-rest.invariant in
+    let (few, _, _, l) = c.requires in (
       kept,
-      targets_more _ _ _ _ _ same.same_at-same.result c.set_bit_if-m.result kept few l targets least.least-s.ensures
-          c.drop_least-rest.ensures (true_iff same.same_at-same.ensures) c.set_bit_if-m.ensures,
+      targets_more _ _ _ _ _ c.same_at-same.result c.set_bit_if-m.result kept few l targets c.least-s.ensures
+          c.drop_least-rest.ensures (true_iff c.same_at-same.ensures) c.set_bit_if-m.ensures,
     )
 
 pub returns : goal.returns

@@ -27,14 +27,12 @@ loop-s-smaller c = omega arith
 
 pub loop-s-preserved : goal.loop-s-preserved
 loop-s-preserved c =
-    let read = c in
-    let at = read.loop-s in
-    let start = read in
+    let at = c.loop-s in
     let table = at.invariant.1 in (
       omega arith,
       table,
-      near_more start.args.lines.now start.args.words.now start.args.a start.args.kept at.s c.set_bit_if-m.result
-          (omega (arith, start.ranges.kept)) table read.table_at.ensures c.columns_of.ensures c.set_bit_if-m.ensures
+      near_more c.args.lines.now c.args.words.now c.args.a c.args.kept at.s c.set_bit_if-m.result
+          (omega (arith, c.ranges.kept)) table c.table_at.ensures c.columns_of.ensures c.set_bit_if-m.ensures
           at.invariant.2,
     )
 

@@ -45,9 +45,8 @@ answer c =
 
 pub returns-then-not-same_term : goal.returns-then-not-same_term
 returns-then-not-same_term c =
-    let least = c in
     no_iff (λ same.
-    let holds = (answer (goal.at.returns-then-not-same_term c).After-same_term).1 (same _ (least.loop-rest.invariant.1.some _ least.least-p.ensures.set)) in
+    let holds = (answer (goal.at.returns-then-not-same_term c).After-same_term).1 (same _ (c.loop-rest.invariant.1.some _ c.least-p.ensures.set)) in
     subst T (not-true c.same_term.result (ap not c.if-not-same_term.true)) holds)
 
 pub drop_least-rest-requires : goal.drop_least-rest-requires
@@ -58,11 +57,9 @@ loop-rest-smaller c = c.drop_least-rest.ensures.less
 
 pub loop-rest-preserved : goal.loop-rest-preserved
 loop-rest-preserved c =
-    let same = c in
-    let least = same in
-    let holds = true_holds (not-false same.same_term.result (ap not c.if-not-same_term.false)) in (
+    let holds = true_holds (not-false c.same_term.result (ap not c.if-not-same_term.false)) in (
       omega (arith, c.drop_least-rest.ensures.less),
-      looked_more least.loop-rest.invariant.1 least.least-p.ensures c.drop_least-rest.ensures ((answer (goal.at.loop-rest-preserved c).After-same_term).0 holds),
+      looked_more c.loop-rest.invariant.1 c.least-p.ensures c.drop_least-rest.ensures ((answer (goal.at.loop-rest-preserved c).After-same_term).0 holds),
     )
 
 pub returns : goal.returns

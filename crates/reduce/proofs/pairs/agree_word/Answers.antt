@@ -37,9 +37,8 @@ pub loop-rest-preserved : goal.loop-rest-preserved
 loop-rest-preserved c =
     let row = c.agree_row-agreeing in
     let read = c.term_at in
-    let k = c in
-    rows_more row.result k.loop-rest.invariant k.least-t.ensures c.drop_least-rest.ensures
-    (upto_below row.ensures) (small (goal.at.loop-rest-preserved c).After-least-t) (agreeing _ k.least-t.result _ _ read.ensures row.ensures)
+    rows_more row.result c.loop-rest.invariant c.least-t.ensures c.drop_least-rest.ensures
+    (upto_below row.ensures) (small (goal.at.loop-rest-preserved c).After-least-t) (agreeing _ c.least-t.result _ _ read.ensures row.ensures)
 
 pub returns : goal.returns
 returns c = rows_all (rw c.loop-rest-test.false at c.loop-rest.invariant)

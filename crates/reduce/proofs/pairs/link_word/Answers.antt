@@ -18,8 +18,7 @@ column_of-q-requires c = (omega arith, omega arith)
 
 pub agree_word-w-requires : goal.agree_word-w-requires
 agree_word-w-requires c =
-    let s = c in
-    (s.requires.0, c.column_of-p.ensures.below, c.column_of-q.ensures.below, s.requires.3)
+    (c.requires.0, c.column_of-p.ensures.below, c.column_of-q.ensures.below, c.requires.3)
 
 pub drop_least-rest-requires : goal.drop_least-rest-requires
 drop_least-rest-requires c = omega arith
@@ -33,11 +32,10 @@ loop-rest-preserved c = λ has.
     let word = c.agree_word-w in
     let second = c.column_of-q in
     let first = c.column_of-p in
-    let k = c in
-    let n = k.least.result in
-    let passed = k.loop-rest.invariant has in
-    let (x, y) = has n (passed.some n k.least.ensures.set) in
-    passed_more word.result passed k.least.ensures c.drop_least-rest.ensures
+    let n = c.least.result in
+    let passed = c.loop-rest.invariant has in
+    let (x, y) = has n (passed.some n c.least.ensures.set) in
+    passed_more word.result passed c.least.ensures c.drop_least-rest.ensures
     (linking n _ word.result x y first.ensures second.ensures word.ensures)
 
 pub returns : goal.returns

@@ -25,8 +25,7 @@ least-b-requires c = omega arith
 -- a later line is a line
 small : (c : After-least-b) → c.least-b.result < most_lines
 small c =
-    let at = c in
-    at.requires.a_lt_most_lines.1 _ (at.loop-rest.invariant.1 _ c.least-b.ensures.set)
+    c.requires.a_lt_most_lines.1 _ (c.loop-rest.invariant.1 _ c.least-b.ensures.set)
 
 pub hidden_of-requires : goal.hidden_of-requires
 hidden_of-requires c = (omega arith, omega arith)
@@ -36,13 +35,11 @@ hidden_of-requires-in-loop-rest c = (omega arith, small (goal.at.hidden_of-requi
 
 pub link_word-w-requires : goal.link_word-w-requires
 link_word-w-requires c =
-    let k = c in
     (omega arith, omega arith, small (goal.at.link_word-w-requires c).After-least-b, targets (goal.at.link_word-w-requires c).After-row_of-row)
 
 pub put_links-requires : goal.put_links-requires
 put_links-requires c =
-    let k = c in
-    (k.loop-rest.invariant.0, omega arith, small (goal.at.put_links-requires c).After-least-b, targets (goal.at.put_links-requires c).After-row_of-row)
+    (c.loop-rest.invariant.0, omega arith, small (goal.at.put_links-requires c).After-least-b, targets (goal.at.put_links-requires c).After-row_of-row)
 
 pub drop_least-rest-requires : goal.drop_least-rest-requires
 drop_least-rest-requires c = omega arith
@@ -53,17 +50,15 @@ loop-rest-smaller c = c.drop_least-rest.ensures.less
 pub loop-rest-preserved : goal.loop-rest-preserved
 loop-rest-preserved c =
     let put = c.put_links in
-    let link = c in
-    let second = link.hidden_of-in-loop-rest in
-    let first = link.hidden_of in
-    let k = link in
-    let (long, some, row) = k.loop-rest.invariant in
-    let word = rw (first.ensures, second.ensures) at link.link_word-w.ensures in (
+    let second = c.hidden_of-in-loop-rest in
+    let first = c.hidden_of in
+    let (long, some, row) = c.loop-rest.invariant in
+    let word = rw (first.ensures, second.ensures) at c.link_word-w.ensures in (
       put.ensures.long ∙ long,
-      λ i e. some i (left_before i k.least-b.ensures c.drop_least-rest.ensures e),
+      λ i e. some i (left_before i c.least-b.ensures c.drop_least-rest.ensures e),
       λ Q n g m.
-          row_more g m _ k.least-b.result _ _ k.row_of-row.ensures word
-          (row Q n g m) k.least-b.ensures c.drop_least-rest.ensures some put.ensures,
+          row_more g m _ c.least-b.result _ _ c.row_of-row.ensures word
+          (row Q n g m) c.least-b.ensures c.drop_least-rest.ensures some put.ensures,
     )
 
 pub shape_of-table : goal.shape_of-table

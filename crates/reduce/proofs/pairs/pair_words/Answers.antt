@@ -17,15 +17,12 @@ drop_least-rest-requires c = omega arith
 
 pub pair_row-requires : goal.pair_row-requires
 pair_row-requires c =
-    let k = c in
-    let at = k in
-    let s = at in
-    let (long, small, _) = at.loop-rest.invariant in
+    let (long, small, _) = c.loop-rest.invariant in
     record {
-      lines_len = (s.requires.0, s.requires.1, long);
+      lines_len = (c.requires.0, c.requires.1, long);
       a_lt_most_lines = (
-        small k.least-a.result k.least-a.ensures.set,
-        λ i e. small i (left_before i k.least-a.ensures c.drop_least-rest.ensures e),
+        small c.least-a.result c.least-a.ensures.set,
+        λ i e. small i (left_before i c.least-a.ensures c.drop_least-rest.ensures e),
       );
     }
 
@@ -36,11 +33,10 @@ pub loop-rest-preserved : goal.loop-rest-preserved
 loop-rest-preserved c =
     let row = c.pair_row in
     let drop = c.drop_least-rest in
-    let k = c in
-    let (_, small, paired) = k.loop-rest.invariant in (
+    let (_, small, paired) = c.loop-rest.invariant in (
       row.ensures.table_len,
-      λ i e. small i (left_before i k.least-a.ensures drop.ensures e),
-      λ Q n g m. paired_more (paired Q n g m) k.least-a.ensures drop.ensures (row.ensures.row_paired Q n g m),
+      λ i e. small i (left_before i c.least-a.ensures drop.ensures e),
+      λ Q n g m. paired_more (paired Q n g m) c.least-a.ensures drop.ensures (row.ensures.row_paired Q n g m),
     )
 
 pub returns : goal.returns

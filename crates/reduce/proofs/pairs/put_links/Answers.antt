@@ -53,9 +53,8 @@ loop-rest-smaller c = c.drop_least-rest.ensures.less
 
 pub loop-rest-preserved : goal.loop-rest-preserved
 loop-rest-preserved c =
-    let k = c in
-    let (size, a, b, lines) = k.requires in
-    links_more k.loop-rest.invariant k.least-t.ensures c.drop_least-rest.ensures lines size a b
+    let (size, a, b, lines) = c.requires in
+    links_more c.loop-rest.invariant c.least-t.ensures c.drop_least-rest.ensures lines size a b
 
 pub shape_of-table : goal.shape_of-table
 shape_of-table c = c.loop-rest.invariant.long

@@ -28,11 +28,10 @@ clear_bit-rest-requires c = omega arith
 
 pub search-requires : goal.search-requires
 search-requires c =
-    let s = c in
     let at = c.loop-i in
     record {
-      rows_bound = (lines_below s.requires.1 s.requires.0, cleared most_lines _ _ c.clear_bit-rest.ensures at.invariant.1);
-      table_len = s.requires.2;
+      rows_bound = (lines_below c.requires.1 c.requires.0, cleared most_lines _ _ c.clear_bit-rest.ensures at.invariant.1);
+      table_len = c.requires.2;
     }
 
 pub loop-i-smaller-then-search : goal.loop-i-smaller-then-search
@@ -69,7 +68,6 @@ loop-i-preserved c =
 pub returns : goal.returns
 returns c =
     λ Q e t f.
-    let start = c in
-    let there : (j : ℕ) → bit start.args.rows j ≡ 1 → j < length Q = λ j h. rw e (bit_within start.args.n j start.requires.1 h) in
+    let there : (j : ℕ) → bit c.args.rows j ≡ 1 → j < length Q = λ j h. rw e (bit_within c.args.n j c.requires.1 h) in
     let none : c.loop-i.i ≡ 0 = omega arith in
     taking_all t there f _ (rw none at (c.loop-i.invariant.2 Q e t there f))

@@ -41,15 +41,13 @@ found c {d} ready = c.first_query-p.ensures.scanned_under c.if-p-eq0.false d.wid
 
 pub decide_rows-decision-requires : goal.decide_rows-decision-requires
 decide_rows-decision-requires c =
-    let other = c in
-    let ((d, ready), _, _, _) = other.requires in
+    let ((d, ready), _, _, _) = c.requires in
     let s = found (goal.at.decide_rows-decision-requires c).Else-p-eq0 ready in
-    ((d, _, s.query, ready, scanned_rows ready s), other.first_query-p.ensures.rows_len)
+    ((d, _, s.query, ready, scanned_rows ready s), c.first_query-p.ensures.rows_len)
 
 pub returns : goal.returns
 returns c =
-    let other = c in
-    let ((_, some), _, _, _) = other.requires in
+    let ((_, some), _, _, _) = c.requires in
     record {
       next_decided = record {
         cuts = (found (goal.at.returns c).Else-p-eq0 some).cuts;

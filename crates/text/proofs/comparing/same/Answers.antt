@@ -25,17 +25,15 @@ word_at-requires-in-loop-at c = omega arith
 words_iff : (c : In-loop-at)
     → let s = c.args in WordIff s.a.now s.b.now c.loop-at.at
 words_iff c =
-    let known = c in
-    let s = known.args in
-    word_iff s.a.now s.b.now (λ k. omega (arith, known.type_inv.a k))
-    (λ k. omega (arith, known.type_inv.b k)) c.loop-at.at (omega arith) (omega arith)
+    let s = c.args in
+    word_iff s.a.now s.b.now (λ k. omega (arith, c.type_inv.a k))
+    (λ k. omega (arith, c.type_inv.b k)) c.loop-at.at (omega arith) (omega arith)
 
 pub returns-then-word_at : goal.returns-then-word_at
 returns-then-word_at c =
-    let at = c in
-    apart_here _ _ at.loop-at.at 8
+    apart_here _ _ c.loop-at.at 8
     (λ e. c.if-word_at.true (c.word_at.ensures ∙ (words_iff (goal.at.returns-then-word_at c).In-loop-at).1 e ∙ sym c.word_at-in-loop-at.ensures))
-    ∙ at.loop-at.invariant.1
+    ∙ c.loop-at.invariant.1
 
 pub overflow_add-at-in-loop-at : goal.overflow_add-at-in-loop-at
 overflow_add-at-in-loop-at c = omega arith
@@ -45,11 +43,11 @@ loop-at-smaller c = omega arith
 
 pub loop-at-preserved : goal.loop-at-preserved
 loop-at-preserved c =
-    let at = c in (
+    (
       omega arith,
-      same_behind _ _ at.loop-at.at 8
+      same_behind _ _ c.loop-at.at 8
           ((words_iff (goal.at.loop-at-preserved c).In-loop-at).0 (sym c.word_at.ensures ∙ c.if-word_at.false ∙ c.word_at-in-loop-at.ensures))
-          ∙ at.loop-at.invariant.1,
+          ∙ c.loop-at.invariant.1,
     )
 
 pub same_from-requires : goal.same_from-requires

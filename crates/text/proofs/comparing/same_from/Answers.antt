@@ -15,8 +15,7 @@ bounds-b-i c = omega arith
 
 pub returns-then-a-i : goal.returns-then-a-i
 returns-then-a-i c =
-    let at = c in
-    apart_here _ _ at.loop-i.i 1 (λ e. c.if-a-i.true ((byte_iff _ _ at.loop-i.i (omega arith) (omega arith)).1 e)) ∙ at.loop-i.invariant
+    apart_here _ _ c.loop-i.i 1 (λ e. c.if-a-i.true ((byte_iff _ _ c.loop-i.i (omega arith) (omega arith)).1 e)) ∙ c.loop-i.invariant
 
 pub overflow_add-i : goal.overflow_add-i
 overflow_add-i c = omega arith
@@ -26,8 +25,7 @@ loop-i-smaller c = omega arith
 
 pub loop-i-preserved : goal.loop-i-preserved
 loop-i-preserved c =
-    let at = c in
-    same_behind _ _ at.loop-i.i 1 ((byte_iff _ _ at.loop-i.i (omega arith) (omega arith)).0 c.if-a-i.false) ∙ at.loop-i.invariant
+    same_behind _ _ c.loop-i.i 1 ((byte_iff _ _ c.loop-i.i (omega arith) (omega arith)).0 c.if-a-i.false) ∙ c.loop-i.invariant
 
 pub returns : goal.returns
 returns c =
