@@ -61,8 +61,8 @@ loop-i-preserved-then-goes_alone c =
           let (allowed, candidate) = c.row_of-targets.ensures.some b alone.among in
           rw c.clear_bit-rest.ensures
           (folds_alone g (c.loop-i.i - 1) b c.loop-i.rows c.variables.result (omega (arith, g.count))
-          (rw g.count (bit_within c.args.n b small allowed)) (rw c.clear_bit-rest.ensures c allowed) ((m _).0 candidate)
-          alone.keeps (rw c.clear_bit-rest.ensures c c.variables.ensures) (c.loop-i.invariant.2 Q g m)),
+          (rw g.count (bit_within c.args.n b small allowed)) (rw c.clear_bit-rest.ensures at allowed) ((m _).0 candidate)
+          alone.keeps (rw c.clear_bit-rest.ensures at c.variables.ensures) (c.loop-i.invariant.2 Q g m)),
     )
 
 pub loop-i-smaller-else-goes_alone : goal.loop-i-smaller-else-goes_alone
