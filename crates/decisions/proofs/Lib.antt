@@ -2,4 +2,3 @@
 pub mod Masks
 pub mod Decides
 
--- A session lent to a call.
