@@ -2,3 +2,4 @@
 pub mod Masks
 pub mod Decides
 
+-- A session lent to a call.
