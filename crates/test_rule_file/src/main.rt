@@ -1,6 +1,8 @@
 // A file of rules, one a line, turned into query texts: a rule, one that 11 turns back, an empty line, a rule, and one without its line
 // end. What is written of the rules that are turned back stands among the texts, so that the order is seen.
 
+#![tactic(auto)]
+
 fn main() {
     let p = test_expect::example();
     rule_file::translate(
