@@ -1,5 +1,5 @@
 -- `print_partition`: the rows, at least one and at most 40, are some of the cells.
-use Rattle.std.proofs.Common.{arith, rules, length, length-take, ◌≡◌, ◌≤◌}
+use Rattle.std.proofs.Common.{arith, length-take}
 use Rattle.two_archives.proofs.GivenRows.{FewRows, few_rows}
 use Rattle.two_archives.proofs.print_partition.Goals as goal
 use Rattle.two_archives.proofs.print_partition.Goals.{In-Apart}
