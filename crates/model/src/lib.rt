@@ -80,6 +80,13 @@ pub struct Query {
     pub lines: [Line; MOST_LINES],
 }
 
+// What turns a call back: the refusal's number, and the line at fault, or 0 where no line is.
+#[derive(Clone, Copy)]
+pub struct Refusal {
+    pub number: u64,
+    pub line: u64,
+}
+
 // How reading a text ends.
 #[derive(Clone, Copy)]
 pub enum Outcome {
