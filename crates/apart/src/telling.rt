@@ -10,7 +10,7 @@ use crate::unsettled::unsettled_line;
 use crate::writing::put_archives;
 use covering::Prepared;
 use freezing::ROW_CELLS;
-use model::{MOST_LINES, Outcome, Policy, QueryRows};
+use model::{MOST_LINES, Policy, QueryRows};
 
 // "eight lines and one row for each of at most 32 views": of the odd row's table, so of one table
 const TABLE_VIEWS: usize = 32;
@@ -51,21 +51,21 @@ pub fn tell_apart(p: Policy, n: u64, text: &[u8], out: &mut [u64]) -> Telling
         return Telling::Refused { number: 4, line: 0 };
     }
     let tables = p.tables;
-    let reading = query_text::read_query(tables, text);
-    let outcome = reading.outcome;
-    match outcome {
-        Outcome::Accepted => {
+    match query_text::read_query(tables, text) {
+        Ok(q) => {
             if out.len() < MOST_CELLS {
                 return Telling::Refused {
                     number: 10,
                     line: 0,
                 };
             }
-            let q = reading.query;
             let ready = covering::prepare(p);
             let mut lines = entering::query_rows(q);
             tell_rows(&ready, n - 1, q.count, &mut lines, out)
         }
-        Outcome::Refused { number, line } => Telling::Refused { number, line },
+        Err(r) => Telling::Refused {
+            number: r.number,
+            line: r.line,
+        },
     }
 }

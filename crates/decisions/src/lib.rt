@@ -9,7 +9,7 @@ ghost use Rattle.labelling.specs.Posed.{Ready, SomeReady, SomePosedRows};
 ghost use Rattle.sessions.specs.Deciding.{decide_under, Gives, RowsAnswered, RowsDecided, Decided};
 
 use covering::Prepared;
-use model::{Outcome, Policy, QueryRows, Tables};
+use model::{Policy, QueryRows, Tables};
 use sessions::{Decision, Reply, Session};
 
 // The reply to a query of n lines that is laid in rows; its shared variables are shown there.
@@ -31,12 +31,9 @@ pub fn decide_loaded(tables: Tables, ready: &Prepared, s: Session, text: &[u8]) 
     if sessions::unfit(s.mask, every) {
         return sessions::refused(s, 9, 0);
     }
-    let r = query_text::read_query(tables, text);
-    let outcome = r.outcome;
-    match outcome {
-        Outcome::Refused { number, line } => sessions::refused(s, number, line),
-        Outcome::Accepted => {
-            let q = r.query;
+    match query_text::read_query(tables, text) {
+        Err(r) => sessions::refused(s, r.number, r.line),
+        Ok(q) => {
             let mut lines = entering::query_rows(q);
             answer_rows(ready, s, q.count, &mut lines)
         }

@@ -24,7 +24,7 @@ use Rattle.model.proofs.Limits.{up_to_iff}
 use Rattle.validity.specs.Loadable.{Loadable}
 use Rattle.word_list.specs.Value.{words_value}
 use Rattle.labelling.specs.Settled.{settled, granted, settling}
-use Rattle.labelling.specs.declared.Asked.{Asked}
+use Rattle.labelling.specs.declared.Labels.{Labels}
 use Rattle.word_list.specs.declared.Words.{Words}
 use Rattle.word_list.proofs.Value.{count_is, word_is, words_are}
 use Rattle.labelling.proofs.Partitions.{settled_settles, good_known}
@@ -111,12 +111,12 @@ module _ {p : Policy} (l : Loadable p) where
       )
 
 -- the views gathered for partition n, and what the word of settling partitions says of it
-pub record Gathered (p : Policy) (n : ℕ) (v : Asked) (granted : ℕ) (b : Bool) : Type 0 where
+pub record Gathered (p : Policy) (n : ℕ) (v : Labels) (granted : ℕ) (b : Bool) : Type 0 where
   pub among : up_to p.partition_count n ≡ true
   pub views : granted ≡ test_bits (granted_at p.grants (n - 1)) (up_from 0 most_views)
-  pub says : b ≡ is_set v.labels.settling (n - 1)
+  pub says : b ≡ is_set v.settling (n - 1)
 
-module _ {p : Policy} {n : ℕ} {text : List ℕ} {v : Asked} {granted : ℕ} {b : Bool}
+module _ {p : Policy} {n : ℕ} {text : List ℕ} {v : Labels} {granted : ℕ} {b : Bool}
     (g : Gathered p n v granted b) (l : Loadable p) (q : Labelled l.declared text v) where
   abbrev d : Declared
   d = l.declared
@@ -147,9 +147,9 @@ module _ {p : Policy} {n : ℕ} {text before : List ℕ} where
     loaded = λ l. rw (declared_place l n true e, h l) (not_explains before m k);
   }
 
-  pub text_explained : {r : Explaining} {after : List ℕ} {v : Asked} {granted : ℕ} {b : Bool} → Loadable p → Gathered p n v granted b
+  pub text_explained : {r : Explaining} {after : List ℕ} {v : Labels} {granted : ℕ} {b : Bool} → Loadable p → Gathered p n v granted b
       → ((l : Loadable p) → Labelled l.declared text v)
-      → ((ws : List ℕ) → HoldsLabels v.labels.words ws → b ≡ settled granted ws
+      → ((ws : List ℕ) → HoldsLabels v.words ws → b ≡ settled granted ws
       → Explains r after (explained_by before (settled granted ws) (explained granted ws)))
       → ExplanationGiven p n text before r after
   unfolding explain_under explain_reading

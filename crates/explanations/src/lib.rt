@@ -10,7 +10,7 @@ ghost use Rattle.policy_text.specs.Abstract.{granted_at};
 ghost use Rattle.explanations.specs.Explaining.{ExplanationGiven};
 ghost use Rattle.explanations.specs.WordsGiven.{SomeExplained, WordsGiven};
 
-use model::{MOST_LINES, MOST_VIEWS, Outcome, Policy};
+use model::{MOST_LINES, MOST_VIEWS, Policy};
 use word_list::Words;
 
 // Whether the partition settles the query and how many words explain it, or what turns the call back.
@@ -31,18 +31,18 @@ pub fn explain(p: Policy, n: u64, text: &[u8], out: &mut [u32]) -> Explaining
     if !model::is_among(n, p.partition_count as u64) {
         return Explaining::Refused { number: 4, line: 0 };
     }
-    let a = labelling::ask(p, text);
-    let outcome = a.outcome;
-    match outcome {
-        Outcome::Accepted => {
-            let l = a.labels;
+    match labelling::ask(p, text) {
+        Ok(l) => {
             let w = l.words;
             let grants = p.grants;
             let granted = granted_views(grants, n - 1);
             let is_settled = words::has_bit(l.settling, n - 1);
             give_words(w, granted, is_settled, out)
         }
-        Outcome::Refused { number, line } => Explaining::Refused { number, line },
+        Err(r) => Explaining::Refused {
+            number: r.number,
+            line: r.line,
+        },
     }
 }
 

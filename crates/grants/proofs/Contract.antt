@@ -22,7 +22,7 @@ use Rattle.policy_text.specs.WellFormed.{WellFormed}
 use Rattle.policy_text.specs.Policy.{views_word}
 use Rattle.policy_text.specs.Abstract.{granted_at}
 use Rattle.validity.specs.Loadable.{Loadable}
-use Rattle.labelling.specs.declared.Asked.{Asked}
+use Rattle.labelling.specs.declared.Labels.{Labels}
 use Rattle.labelling.proofs.Loaded.{loaded_to, partition_word}
 use Rattle.label_lists.specs.HoldsLabels.{HoldsLabels}
 use Rattle.label_lists.proofs.Asked.{Labelled}
@@ -68,9 +68,9 @@ module _ {p : Policy} {n : ℕ} {text before : List ℕ} where
       loaded = λ l. rw (declared_place l n true among, h l) (turned_back before m k);
     }
 
-    pub text_granted : {r : Granting} {after : List ℕ} {v : Asked} {granted : ℕ}
+    pub text_granted : {r : Granting} {after : List ℕ} {v : Labels} {granted : ℕ}
         → granted ≡ test_bits (granted_at p.grants (n - 1)) (up_from 0 most_views) → ((l : Loadable p) → Labelled l.declared text v)
-        → ((ws : List ℕ) → HoldsLabels v.labels.words ws → LabelsGranted granted ws before r after)
+        → ((ws : List ℕ) → HoldsLabels v.words ws → LabelsGranted granted ws before r after)
         → GrantGiven p n text before r after
     unfolding owed owed_for
     text_granted {r} {after} {v} {granted} views labelled given = record {

@@ -7,7 +7,7 @@ ghost use Rattle.grants.specs.Granting.{Written, GrantGiven};
 ghost use Rattle.grants.specs.Searching.{SomeLabels, LabelsGranted, SomeNumbers};
 
 use crate::searching::{best_views, lacking_views};
-use model::{Outcome, Policy};
+use model::Policy;
 use word_list::Words;
 
 // How many views are to be added, or that no views will do, or what turns the call back.
@@ -28,17 +28,17 @@ pub fn smallest_grant(p: Policy, n: u64, text: &[u8], out: &mut [u32]) -> Granti
     if !model::is_among(n, p.partition_count as u64) {
         return Granting::Refused { number: 4, line: 0 };
     }
-    let a = labelling::ask(p, text);
-    let outcome = a.outcome;
-    match outcome {
-        Outcome::Accepted => {
-            let l = a.labels;
+    match labelling::ask(p, text) {
+        Ok(l) => {
             let w = l.words;
             let grants = p.grants;
             let granted = desk::granted_views(grants, n - 1);
             give_grant(w, granted, out)
         }
-        Outcome::Refused { number, line } => Granting::Refused { number, line },
+        Err(r) => Granting::Refused {
+            number: r.number,
+            line: r.line,
+        },
     }
 }
 

@@ -1,4 +1,4 @@
--- What a query text gives under a loadable policy, by its outcome.
+-- What a query text gives under a loadable policy, by the reply.
 use mathlib.Core.Path.{◌≡◌, ap}
 use mathlib.Core.List.{List}
 use Prim.Native.Nat.{ℕ, ◌/◌, ◌^◌, ◌≤◌, ◌<◌}
@@ -10,7 +10,8 @@ use Rattle.theory.specs.Query.{Query, ◌∈◌}
 use Rattle.theory.specs.Archive.{AllFit}
 use Rattle.theory.specs.Executable.Label.{labels}
 use Rattle.model.specs.Limits.{most_lines}
-use Rattle.model.specs.declared.Outcome.TheVariants.{Accepted, Refused}
+use Rattle.std.specs.Prelude.{Result, Ok, Err}
+use Rattle.model.specs.declared.Refusal.{Refusal}
 use Rattle.model.specs.declared.Policy.{Policy}
 use Rattle.query_text.specs.Text.{refused, accepted, read}
 use Rattle.query_text.proofs.Accepted.{accepted_well_read}
@@ -21,7 +22,6 @@ use Rattle.labelling.specs.Posed.{labels_value}
 use Rattle.word_list.specs.Value.{words_value}
 use Rattle.labelling.specs.Settled.{settling}
 use Rattle.labelling.specs.Text.{LoadedTo, asked_value}
-use Rattle.labelling.specs.declared.Asked.{Asked}
 use Rattle.word_list.specs.declared.Words.{Words}
 use Rattle.labelling.specs.declared.Labels.{Labels}
 use Rattle.labelling.proofs.Partitions.{label_views}
@@ -44,20 +44,20 @@ labels_narrow d good Q fits w m = lt_of_lt_of_le (label_views d good Q fits w m)
 -- ---- how the text ended
 
 -- the text is a query, these are its labels, and these partitions settle it
-pub record Labelled (d : Declared) (text : List ℕ) (v : Asked) : Type 0 where
+pub record Labelled (d : Declared) (text : List ℕ) (given : Labels) : Type 0 where
   pub query : Query
   pub reads : read d.widths text ≡ accepted query
-  pub held : HoldsLabels v.labels.words (labels d.views query)
-  pub settles : v.labels.settling ≡ settling d query
+  pub held : HoldsLabels given.words (labels d.views query)
+  pub settles : given.settling ≡ settling d query
 
 -- what labelling the text gives for each loading of the policy
-module _ {p : Policy} (text : List ℕ) (v : Asked)
+module _ {p : Policy} (text : List ℕ) (v : Result Labels Refusal)
     (asked : (d : Declared) → LoadedTo p d → v ≡ asked_value d (read d.widths text)) (l : Loadable p) where
-  pub text_accepted : v.outcome ≡ Accepted → Labelled l.declared text v
+  pub text_accepted : (given : Labels) → v ≡ Ok given → Labelled l.declared text given
   unfolding labels_value
-  text_accepted h =
+  text_accepted given h =
       let d = l.declared in
-      let (Q, r, w) = asked_accepted d (read d.widths text) v (asked d (loaded_to l)) h in
+      let (Q, r, w) = asked_accepted d (read d.widths text) v (asked d (loaded_to l)) given h in
       let q = accepted_well_read d.widths text Q r in
       record {
         query = Q;
@@ -71,5 +71,5 @@ module _ {p : Policy} (text : List ℕ) (v : Asked)
         settles = ap (λ (x : Labels). x.settling) w;
       }
 
-  pub text_turned : {n k : ℕ} → v.outcome ≡ Refused n k → read l.declared.widths text ≡ refused n k
-  text_turned {n} {k} = asked_refused l.declared (read l.declared.widths text) v n k (asked l.declared (loaded_to l))
+  pub text_turned : (r : Refusal) → v ≡ Err r → read l.declared.widths text ≡ refused r.number r.line
+  text_turned = asked_refused l.declared (read l.declared.widths text) v (asked l.declared (loaded_to l))

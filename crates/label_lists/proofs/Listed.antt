@@ -12,7 +12,7 @@ use Rattle.model.specs.declared.Policy.{Policy}
 use Rattle.query_text.specs.Text.{Reading, refused, accepted, read}
 use Rattle.validity.specs.Loadable.{Loadable}
 use Rattle.word_list.specs.Value.{words_value}
-use Rattle.labelling.specs.declared.Asked.{Asked}
+use Rattle.labelling.specs.declared.Labels.{Labels}
 use Rattle.word_list.specs.declared.Words.{Words}
 use Rattle.word_list.specs.Order.{ascending}
 use Rattle.word_list.proofs.Value.{count_is, words_are}
@@ -64,8 +64,8 @@ module _ {p : Policy} {text before : List ℕ} where
   unfolding list_reading
   text_refused {n} {k} is h = record { unloaded = λ m. absurd (m is); loaded = λ l. rw (h l) (not_lists before n k) }
 
-  pub text_listed : {r : Listing} {after : List ℕ} (v : Asked) → Loadable p → ((l : Loadable p) → Labelled l.declared text v)
-      → ((ws : List ℕ) → v.labels.words ≡ words_value ws → Lists r after (listed before (ascending ws)))
+  pub text_listed : {r : Listing} {after : List ℕ} (v : Labels) → Loadable p → ((l : Loadable p) → Labelled l.declared text v)
+      → ((ws : List ℕ) → v.words ≡ words_value ws → Lists r after (listed before (ascending ws)))
       → LabelsGiven p text before r after
   unfolding list_reading
   text_listed v is h lists =

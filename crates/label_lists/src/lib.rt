@@ -7,7 +7,7 @@ ghost use Rattle.model.specs.Limits.{most_lines};
 ghost use Rattle.word_list.specs.Value.{words_value};
 ghost use Rattle.label_lists.specs.Listing.{LabelsGiven, Lists, listed};
 
-use model::{MOST_LINES, Outcome, Policy};
+use model::{MOST_LINES, Policy};
 use word_list::Words;
 
 // How many labels there are, or what turns the call back.
@@ -24,15 +24,15 @@ pub fn labels(p: Policy, text: &[u8], out: &mut [u64]) -> Listing
     if !validity::valid(p) {
         return Listing::Refused { number: 8, line: 0 };
     }
-    let a = labelling::ask(p, text);
-    let outcome = a.outcome;
-    match outcome {
-        Outcome::Accepted => {
-            let l = a.labels;
+    match labelling::ask(p, text) {
+        Ok(l) => {
             let w = word_list::ascending(l.words);
             give_labels(w, out)
         }
-        Outcome::Refused { number, line } => Listing::Refused { number, line },
+        Err(r) => Listing::Refused {
+            number: r.number,
+            line: r.line,
+        },
     }
 }
 

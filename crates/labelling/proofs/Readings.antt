@@ -1,85 +1,55 @@
--- How a reading ended, by its outcome.
-use mathlib.Core.Path.{◌≡◌, refl, sym, ap, ◌∙◌}
+-- How a reading ended, by its reply, and how labelling did.
+use mathlib.Core.Path.{◌≡◌, refl, sym, ◌∙◌}
 use Prim.Native.Nat.{ℕ}
 use native.Mathlib.Omega.{arith}
+use Rattle.std.specs.Prelude.{Result, Ok, Err}
 use Rattle.theory.specs.Query.{Query}
 use Rattle.theory.specs.Executable.Label.{labels}
 use Rattle.model.specs.Value.{query_value}
-use Rattle.model.specs.declared.Outcome.{Outcome}
-use Rattle.model.specs.declared.Outcome.TheVariants.{Accepted, Refused}
+use Rattle.model.specs.declared.Query.{Query as ReadQuery}
+use Rattle.model.specs.declared.Refusal.{Refusal}
 use Rattle.query_text.specs.Text.{refused, accepted}
 use Rattle.query_text.specs.Text.{Reading as TheReading}
 use Rattle.query_text.specs.Value.{reading_value}
-use Rattle.query_text.specs.declared.Reading.{Reading}
 use Rattle.policy_text.specs.Declared.{Declared as TheDeclared}
-use Rattle.labelling.specs.declared.Asked.{Asked}
+use Rattle.labelling.specs.declared.Labels.{Labels}
 use Rattle.labelling.specs.Posed.{labels_value}
 use Rattle.labelling.specs.Settled.{settling}
 use Rattle.labelling.specs.Text.{asked_value}
 
-number_of : Outcome → ℕ
-number_of Accepted = 0
-number_of (Refused n k) = n
-
-line_of : Outcome → ℕ
-line_of Accepted = 0
-line_of (Refused n k) = k
-
-is_refused : Outcome → ℕ
-is_refused Accepted = 0
-is_refused (Refused n k) = 1
-
--- no outcome is both
-not_both : {n k : ℕ} → Refused n k ≡ Accepted → ⊥
-unfolding is_refused
-not_both e = omega (arith, ap is_refused e)
-
-pub read_accepted : (r : TheReading) (v : Reading) → v ≡ reading_value r → v.outcome ≡ Accepted
-    → (Q : Query) × (r ≡ accepted Q) × (v.outcome ≡ Accepted) × (v.query ≡ query_value Q)
+accepted_reading : (r : TheReading) (q : ReadQuery) → Ok q ≡ reading_value r → (Q : Query) × (r ≡ accepted Q) × (q ≡ query_value Q)
 unfolding reading_value
-read_accepted (refused n k) v e h = absurd (not_both (sym (ap (λ (w : Reading). w.outcome) e) ∙ h))
-read_accepted (accepted Q) v e h = (Q, refl, ap (λ (w : Reading). w.outcome) e, ap (λ (w : Reading). w.query) e)
+accepted_reading (refused n k) q e = absurd (grind arith)
+accepted_reading (accepted Q) q e = (Q, refl, grind arith)
 
-pub read_refused : (r : TheReading) (v : Reading) {m j : ℕ} → v ≡ reading_value r → v.outcome ≡ Refused m j
-    → (n k : ℕ) × (r ≡ refused n k) × (v.outcome ≡ Refused n k)
+refused_reading : (r : TheReading) (t : Refusal) → Err t ≡ reading_value r → r ≡ refused t.number t.line
 unfolding reading_value
-read_refused (refused n k) v e h = (n, k, refl, ap (λ (w : Reading). w.outcome) e)
-read_refused (accepted Q) v e h = absurd (not_both (sym h ∙ ap (λ (w : Reading). w.outcome) e))
+refused_reading (refused n k) t e = let same : t ≡ record { number = n; line = k } = grind arith in rw same
+refused_reading (accepted Q) t e = absurd (grind arith)
+
+module _ (r : TheReading) (v : Result ReadQuery Refusal) (is : v ≡ reading_value r) where
+  pub read_accepted : (q : ReadQuery) → v ≡ Ok q → (Q : Query) × (r ≡ accepted Q) × (q ≡ query_value Q)
+  read_accepted q e = accepted_reading r q (sym e ∙ is)
+
+  pub read_refused : (t : Refusal) → v ≡ Err t → r ≡ refused t.number t.line
+  read_refused t e = refused_reading r t (sym e ∙ is)
 
 -- ---- the same of a text that is labelled
 
-pub asked_accepted : (d : TheDeclared) (r : TheReading) (v : Asked) → v ≡ asked_value d r → v.outcome ≡ Accepted
-    → (Q : Query) × (r ≡ accepted Q) × (v.labels ≡ labels_value (labels d.views Q) (settling d Q))
+accepted_asking : (d : TheDeclared) (r : TheReading) (l : Labels) → Ok l ≡ asked_value d r
+    → (Q : Query) × (r ≡ accepted Q) × (l ≡ labels_value (labels d.views Q) (settling d Q))
 unfolding asked_value
-asked_accepted d (refused n k) v e h = absurd (not_both (sym (ap (λ (w : Asked). w.outcome) e) ∙ h))
-asked_accepted d (accepted Q) v e h = (Q, refl, ap (λ (w : Asked). w.labels) e)
+accepted_asking d (refused n k) l e = absurd (grind arith)
+accepted_asking d (accepted Q) l e = (Q, refl, grind arith)
 
--- ---- the number and the line of a refusal
+refused_asking : (d : TheDeclared) (r : TheReading) (t : Refusal) → Err t ≡ asked_value d r → r ≡ refused t.number t.line
+unfolding asked_value
+refused_asking d (refused n k) t e = let same : t ≡ record { number = n; line = k } = grind arith in rw same
+refused_asking d (accepted Q) t e = absurd (grind arith)
 
--- how a reading ends, as the code's value
-ending : TheReading → Outcome
-ending (refused n k) = Refused n k
-ending (accepted Q) = Accepted
+module _ (d : TheDeclared) (r : TheReading) (v : Result Labels Refusal) (is : v ≡ asked_value d r) where
+  pub asked_accepted : (l : Labels) → v ≡ Ok l → (Q : Query) × (r ≡ accepted Q) × (l ≡ labels_value (labels d.views Q) (settling d Q))
+  asked_accepted l e = accepted_asking d r l (sym e ∙ is)
 
-ending_refused : (r : TheReading) (n k : ℕ) → ending r ≡ Refused n k → r ≡ refused n k
-unfolding ending number_of line_of is_refused
-ending_refused (refused m j) n k same = λ i. refused (number_of (same i)) (line_of (same i))
-ending_refused (accepted Q) n k same = absurd (omega (arith, ap is_refused same))
-
-reading_ends : (r : TheReading) → (reading_value r).outcome ≡ ending r
-unfolding reading_value ending
-reading_ends (refused n k) = refl
-reading_ends (accepted Q) = refl
-
-asked_ends : (d : TheDeclared) (r : TheReading) → (asked_value d r).outcome ≡ ending r
-unfolding asked_value ending
-asked_ends d (refused n k) = refl
-asked_ends d (accepted Q) = refl
-
-pub reading_refused : (r : TheReading) (v : Reading) (n k : ℕ) → v ≡ reading_value r → v.outcome ≡ Refused n k → r ≡ refused n k
-reading_refused r v n k e o =
-    ending_refused r n k (sym (reading_ends r) ∙ sym (ap (λ (w : Reading). w.outcome) e) ∙ o)
-
-pub asked_refused : (d : TheDeclared) (r : TheReading) (v : Asked) (n k : ℕ) → v ≡ asked_value d r → v.outcome ≡ Refused n k
-    → r ≡ refused n k
-asked_refused d r v n k e o = ending_refused r n k (sym (asked_ends d r) ∙ sym (ap (λ (w : Asked). w.outcome) e) ∙ o)
+  pub asked_refused : (t : Refusal) → v ≡ Err t → r ≡ refused t.number t.line
+  asked_refused t e = refused_asking d r t (sym e ∙ is)

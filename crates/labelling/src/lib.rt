@@ -2,18 +2,18 @@
 
 #![tactic(auto)]
 
-ghost use Rattle.std.specs.Prelude.{◌≡◌, [], ◌-◌, ◌<◌, length};
+ghost use Rattle.std.specs.Prelude.{◌≡◌, ◌-◌, ◌<◌, length};
 ghost use Rattle.model.specs.Rows.{query_rows_long};
 ghost use Rattle.query_text.specs.Text.{read};
 ghost use Rattle.policy_text.specs.Declared.{Declared};
-ghost use Rattle.labelling.specs.Posed.{Ready, SomeReady, labels_value};
+ghost use Rattle.labelling.specs.Posed.{Ready, SomeReady};
 ghost use Rattle.labelling.specs.Posed.{SomeQueryRows, RowsShown};
 ghost use Rattle.labelling.specs.Posed.{SomeRows, RowsGiven, SomePosedRows, PosedRowsGiven, SomePosed, QueryGiven};
 ghost use Rattle.labelling.specs.Text.{LoadedTo, SomePolicy, asked_value};
 
 use covering::Prepared;
 use entering::LINE_WORDS;
-use model::{MOST_LINES, Outcome, Policy, Query, QueryRows, Tables};
+use model::{MOST_LINES, Policy, Query, QueryRows, Refusal, Tables};
 use word_list::Words;
 
 // One word for each line of the reduced query, in the order of its lines, and the partitions that settle it, partition n at bit n - 1.
@@ -21,13 +21,6 @@ use word_list::Words;
 pub struct Labels {
     pub words: Words,
     pub settling: u64,
-}
-
-// What turns a query text back, or nothing, and the labels of its query.
-#[derive(Clone, Copy)]
-pub struct Asked {
-    pub outcome: Outcome,
-    pub labels: Labels,
 }
 
 // The labels of the lines left of n lines, whose shared variables are shown.
@@ -85,35 +78,17 @@ pub fn label_query(ready: &Prepared, q: Query) -> Labels
     label_rows(ready, q.count, &mut lines)
 }
 
-fn no_labels() -> Labels
-    ensures { result ≡ labels_value [] 0 }
-{
-    let words = word_list::no_words();
-    Labels { words, settling: 0 }
-}
-
 // The labels of a query text, or what turns it back.
-pub fn label_text(tables: Tables, ready: &Prepared, text: &[u8]) -> Asked
+pub fn label_text(tables: Tables, ready: &Prepared, text: &[u8]) -> Result<Labels, Refusal>
     requires { SomeReady tables ready.now }
     ensures { (d : Declared) → Ready d tables ready.now → result ≡ asked_value d (read d.widths text.now) }
 {
-    let reading = query_text::read_query(tables, text);
-    let outcome = reading.outcome;
-    match outcome {
-        Outcome::Accepted => {
-            let q = reading.query;
-            let labels = label_query(ready, q);
-            Asked { outcome, labels }
-        }
-        Outcome::Refused { .. } => {
-            let labels = no_labels();
-            Asked { outcome, labels }
-        }
-    }
+    let q = query_text::read_query(tables, text)?;
+    Ok(label_query(ready, q))
 }
 
 // The same under a loaded policy, of which nothing is made yet.
-pub fn ask(p: Policy, text: &[u8]) -> Asked
+pub fn ask(p: Policy, text: &[u8]) -> Result<Labels, Refusal>
     requires { SomePolicy p }
     ensures { (d : Declared) → LoadedTo p d → result ≡ asked_value d (read d.widths text.now) }
 {

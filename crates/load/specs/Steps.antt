@@ -1,5 +1,5 @@
 -- The steps of loading, as the code's values: a line entered, and where the text stands behind it.
-use Rattle.std.specs.Prelude.{◌≡◌, Bool, true, false, cond, ◌&&◌, List, [], ◌∷◌, ◌++◌, ℕ, ◌≤◌}
+use Rattle.std.specs.Prelude.{◌≡◌, Result, Bool, true, false, cond, ◌&&◌, List, [], ◌∷◌, ◌++◌, ℕ, ◌≤◌}
 use Rattle.std.proofs.Math.Option.{Option, none, some}
 use Rattle.text.specs.Lines.{lines}
 use Rattle.theory.specs.Query.{Line}
@@ -11,13 +11,14 @@ use Rattle.policy_text.specs.Declared.{Declared}
 use Rattle.policy_text.specs.Text.{Entered as TheEntered}
 use Rattle.policy_text.specs.Policy.{policy_value}
 use Rattle.load.specs.Value.{loading_value}
-use Rattle.load.specs.declared.Loading.{Loading}
+use Rattle.model.specs.declared.Policy.{Policy}
+use Rattle.model.specs.declared.Refusal.{Refusal}
 use Rattle.load.specs.declared.Progress.{Progress}
 use Rattle.load.specs.declared.Stepped.{Stepped}
 use Rattle.load.specs.declared.enter.Entered.{Entered}
 
 -- the loading of a text that is the blocks without their first names line, the first line with the number k
-abbrev pub BlocksLoaded : List ℕ → ℕ → Loading → Type 0
+abbrev pub BlocksLoaded : List ℕ → ℕ → Result Policy Refusal → Type 0
 BlocksLoaded text k r = r ≡ loading_value (load_from tables false nothing k (lines text).ended (lines text).rest)
 
 -- a line that is turned back declares nothing more

@@ -12,7 +12,7 @@ ghost use Rattle.load.specs.Steps.{BlocksLoaded, block_number};
 ghost use Rattle.load.specs.Entering.{Entering, Stepping};
 
 use enter::Entered;
-use model::{Line, MOST_COLUMNS, MOST_TABLES, MOST_VIEWS, Outcome, Policy, Tables, Term};
+use model::{Line, MOST_COLUMNS, MOST_TABLES, MOST_VIEWS, Policy, Refusal, Tables, Term};
 
 // The most bytes of a policy text.
 pub const MOST_BYTES: usize = 16384;
@@ -23,13 +23,6 @@ const TABLES: u8 = 0;
 const VIEWS: u8 = 1;
 
 const PARTITIONS: u8 = 2;
-
-// How loading ends, and the policy: that of the text, or the empty one.
-#[derive(Clone, Copy)]
-pub struct Loading {
-    pub outcome: Outcome,
-    pub policy: Policy,
-}
 
 // The block that is read, whether it has a line of values, and what is declared so far.
 #[derive(Clone, Copy)]
@@ -59,13 +52,10 @@ pub fn empty_policy() -> Policy
     }
 }
 
-fn refused(number: u64, line: u64) -> Loading
+fn refused(number: u64, line: u64) -> Result<Policy, Refusal>
     ensures { result ≡ loading_value (refusedLoading number line) }
 {
-    Loading {
-        outcome: Outcome::Refused { number, line },
-        policy: empty_policy(),
-    }
+    Err(Refusal { number, line })
 }
 
 // Whether the line is the names line of the block behind this one, and this one has a line of values.
@@ -133,7 +123,7 @@ fn step(g: Progress, line: &[u8]) -> Stepped
 }
 
 // The blocks without their first names line, all of a text whose first line has the number `start`.
-fn load_lines(text: &[u8], start: u64) -> Loading
+fn load_lines(text: &[u8], start: u64) -> Result<Policy, Refusal>
     requires { (length text.now < 2 ^ 32) × (start < 2 ^ 32) }
     ensures { BlocksLoaded text.now start result }
 {
@@ -164,15 +154,11 @@ fn load_lines(text: &[u8], start: u64) -> Loading
     if !g.started {
         return refused(1, line);
     }
-    let policy = g.policy;
-    Loading {
-        outcome: Outcome::Accepted,
-        policy,
-    }
+    Ok(g.policy)
 }
 
 // The policy of a text, or the number that turns it back and the line.
-pub fn load(text: &[u8]) -> Loading
+pub fn load(text: &[u8]) -> Result<Policy, Refusal>
     ensures { result ≡ loading_value (loadText text.now) }
 {
     if MOST_BYTES < text.len() {

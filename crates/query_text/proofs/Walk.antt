@@ -18,7 +18,7 @@ use Rattle.model.specs.Parsed.{good_value}
 use Rattle.model.specs.declared.Tables.{Tables}
 use Rattle.model.specs.declared.Parsed.{Parsed}
 use Rattle.model.specs.declared.Query.{Query as QueryValue}
-use Rattle.model.specs.declared.Outcome.TheVariants.{Accepted}
+use Rattle.std.specs.Prelude.{Ok}
 use Rattle.model.proofs.Pad.{pad_more}
 use Rattle.query_text.specs.Text.{Reading, refused, fault, query_ends, judged, step, read_from}
 use Rattle.model.specs.Variables.{Marked}
@@ -118,12 +118,12 @@ module _ {tables : Tables} {text : List ℕ} {start : ℕ} {q : QueryValue} {s h
         go [] n e = e
         go (A ∷ Q) n e = absurd (omega arith)
 
-    pub done : (q.count ≡ 0 → ⊥) → record { outcome = Accepted; query = q } ≡ reading_value (behind widths [] start text)
+    pub done : (q.count ≡ 0 → ⊥) → Ok q ≡ reading_value (behind widths [] start text)
     unfolding query_ends reading_value
     done f = go w.earlier w.held (λ z. f (counted ∙ z)) ended
       where
         go : (Q : List Line) → q ≡ query_value Q → (length Q ≡ 0 → ⊥) → query_ends Q line [] ≡ behind widths [] start text
-            → record { outcome = Accepted; query = q } ≡ reading_value (behind widths [] start text)
+            → Ok q ≡ reading_value (behind widths [] start text)
         go [] v n e = absurd (n refl)
         go (A ∷ Q) v n e = rw v (ap reading_value e)
 

@@ -1,5 +1,5 @@
 -- The code's values for the definitions of `Text`.
-use Rattle.std.specs.Prelude.{◌≡◌, false, List, [], ℕ, ◌≤◌, length}
+use Rattle.std.specs.Prelude.{◌≡◌, Result, Ok, Err, false, List, [], ℕ, ◌≤◌, length}
 use Rattle.std.proofs.Math.Option.{some}
 use Rattle.theory.specs.Query.{Line, Query}
 use Rattle.text.specs.Lines.{lines}
@@ -9,19 +9,19 @@ use Rattle.model.specs.Parsed.{parsed_line}
 use Rattle.model.specs.Variables.{Marked}
 use Rattle.model.specs.declared.Tables.{Tables}
 use Rattle.model.specs.declared.Parsed.{Parsed}
-use Rattle.model.specs.declared.Outcome.TheVariants.{Accepted, Refused}
+use Rattle.model.specs.declared.Query.{Query as ReadQuery}
+use Rattle.model.specs.declared.Refusal.{Refusal}
 use Rattle.query_text.specs.Text.{refused, accepted, fault, read_from}
 use Rattle.query_text.specs.Text.{Reading as TheReading}
-use Rattle.query_text.specs.declared.Reading.{Reading}
 
--- beside a refusal stands the query without a line
-unfoldable pub reading_value : TheReading → Reading
+-- the query, or what turns the text back
+unfoldable pub reading_value : TheReading → Result ReadQuery Refusal
 unfolding query_value
-reading_value (refused n k) = record { outcome = Refused n k; query = query_value [] }
-reading_value (accepted Q) = record { outcome = Accepted; query = query_value Q }
+reading_value (refused n k) = Err (record { number = n; line = k })
+reading_value (accepted Q) = Ok (query_value Q)
 
 -- the reading of a text that is lines of values alone, the first with the number k
-abbrev pub LinesRead : Tables → List ℕ → ℕ → Reading → Type 0
+abbrev pub LinesRead : Tables → List ℕ → ℕ → Result ReadQuery Refusal → Type 0
 LinesRead tables text k r =
     (widths : List ℕ) → tables ≡ tables_value widths → r ≡ reading_value (read_from widths [] k (lines text).ended (lines text).rest)
 

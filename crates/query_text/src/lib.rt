@@ -8,17 +8,10 @@ ghost use Rattle.model.specs.Limits.{most_lines};
 ghost use Rattle.query_text.specs.Text.{refused as refusedReading, read};
 ghost use Rattle.query_text.specs.Value.{reading_value, LinesRead, LineTabled, FaultBehind};
 
-use model::{Line, MOST_COLUMNS, MOST_LINES, Outcome, Parsed, Query, Tables, Term};
+use model::{Line, MOST_COLUMNS, MOST_LINES, Parsed, Query, Refusal, Tables, Term};
 
 // The most bytes of a query text.
 const MOST_BYTES: usize = 4096;
-
-// How reading ends, and the query: that of the text, or one without a line.
-#[derive(Clone, Copy)]
-pub struct Reading {
-    pub outcome: Outcome,
-    pub query: Query,
-}
 
 // A query without a line.
 pub fn no_query() -> Query
@@ -34,13 +27,10 @@ pub fn no_query() -> Query
     }
 }
 
-fn refused(number: u64, line: u64) -> Reading
+fn refused(number: u64, line: u64) -> Result<Query, Refusal>
     ensures { result ≡ reading_value (refusedReading number line) }
 {
-    Reading {
-        outcome: Outcome::Refused { number, line },
-        query: no_query(),
-    }
+    Err(Refusal { number, line })
 }
 
 // What turns a line back that is well formed and stands behind `count` lines, whose shown and hidden variables are these
@@ -60,7 +50,7 @@ fn fault(tables: Tables, count: usize, shown: u64, hidden: u64, p: Parsed) -> u6
 }
 
 // The lines of values, all of a text whose first line has the number `start`.
-fn read_lines(tables: Tables, text: &[u8], start: u64) -> Reading
+fn read_lines(tables: Tables, text: &[u8], start: u64) -> Result<Query, Refusal>
     requires { (length text.now < 2 ^ 32) × (start < 2 ^ 32) }
     ensures { LinesRead tables text.now start result }
 {
@@ -96,12 +86,11 @@ fn read_lines(tables: Tables, text: &[u8], start: u64) -> Reading
     if q.count == 0 {
         return refused(1, line);
     }
-    let outcome = Outcome::Accepted;
-    Reading { outcome, query: q }
+    Ok(q)
 }
 
 // The query of a text, or the number that turns it back and the line.
-pub fn read_query(tables: Tables, text: &[u8]) -> Reading
+pub fn read_query(tables: Tables, text: &[u8]) -> Result<Query, Refusal>
     ensures { (widths : List ℕ) → tables ≡ tables_value widths → result ≡ reading_value (read widths text.now) }
 {
     if MOST_BYTES < text.len() {

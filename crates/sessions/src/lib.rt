@@ -5,5 +5,5 @@
 mod opening;
 mod replies;
 
-pub use opening::{Opening, Session, open_loaded, open_session};
+pub use opening::{Session, open_loaded, open_session};
 pub use replies::{Decision, Reply, answer, refused, unfit};

@@ -8,7 +8,7 @@ ghost use Rattle.labelling.specs.Posed.{Ready};
 ghost use Rattle.sessions.specs.Opening.{all_open, Opened};
 
 use covering::Prepared;
-use model::{Outcome, Policy};
+use model::{Policy, Refusal};
 
 // The partitions still open, partition n at bit n - 1.
 #[repr(C)]
@@ -17,27 +17,16 @@ pub struct Session {
     pub mask: u64,
 }
 
-// How opening ends, and the session: every partition open, or none.
-#[derive(Clone, Copy)]
-pub struct Opening {
-    pub outcome: Outcome,
-    pub session: Session,
-}
-
-// A session under a policy.
-pub fn open_session(p: Policy) -> Opening
+// A session under a policy, every partition open.
+pub fn open_session(p: Policy) -> Result<Session, Refusal>
     ensures { Opened p result }
 {
     if !validity::valid(p) {
-        let outcome = Outcome::Refused { number: 8, line: 0 };
-        let session = Session { mask: 0 };
-        return Opening { outcome, session };
+        return Err(Refusal { number: 8, line: 0 });
     }
-    let outcome = Outcome::Accepted;
-    let session = Session {
+    Ok(Session {
         mask: words::low_bits(p.partition_count as u64),
-    };
-    Opening { outcome, session }
+    })
 }
 
 // The session that opening gives under a policy that is known to be loaded, by what is prepared of it.

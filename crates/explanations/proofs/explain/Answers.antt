@@ -36,8 +36,8 @@ place : (c : Else-not-is_among) →
     (1 ≤ n) × (n ≤ most_partitions)
 place c = partition_place (is_loadable c) _ (among c)
 
-pub ask-a-requires : goal.ask-a-requires
-ask-a-requires c = let l = is_loadable c in (l.declared, loaded_to l)
+pub ask-requires : goal.ask-requires
+ask-requires c = let l = is_loadable c in (l.declared, loaded_to l)
 
 pub overflow_sub-n : goal.overflow_sub-n
 overflow_sub-n c = (place (goal.at.overflow_sub-n c).Else-not-is_among).0
@@ -45,8 +45,8 @@ overflow_sub-n c = (place (goal.at.overflow_sub-n c).Else-not-is_among).0
 pub granted_views-granted-requires : goal.granted_views-granted-requires
 granted_views-granted-requires c = let (from, to) = place (goal.at.granted_views-granted-requires c).Else-not-is_among in omega (arith, from, to)
 
-pub overflow_sub-n-in-Accepted : goal.overflow_sub-n-in-Accepted
-overflow_sub-n-in-Accepted c = (place (goal.at.overflow_sub-n-in-Accepted c).Else-not-is_among).0
+pub overflow_sub-n-in-Ok : goal.overflow_sub-n-in-Ok
+overflow_sub-n-in-Ok c = (place (goal.at.overflow_sub-n-in-Ok c).Else-not-is_among).0
 
 pub has_bit-is_settled-requires : goal.has_bit-is_settled-requires
 has_bit-is_settled-requires c = let (from, to) = place (goal.at.has_bit-is_settled-requires c).Else-not-is_among in omega (arith, from, to)
@@ -54,14 +54,14 @@ has_bit-is_settled-requires c = let (from, to) = place (goal.at.has_bit-is_settl
 pub give_words-requires : goal.give_words-requires
 give_words-requires c =
     let l = is_loadable (goal.at.give_words-requires c).Else-not-is_among in
-    let q = text_accepted _ _ c.ask-a.ensures l c.in-Accepted.is in
+    let q = text_accepted _ _ c.ask.ensures l _ c.in-Ok.is in
     (_, q.held, settled_same (record { among = among (goal.at.give_words-requires c).Else-not-is_among; views = c.granted_views-granted.ensures; says = c.has_bit-is_settled.ensures }) l q)
 
-pub returns-in-Accepted : goal.returns-in-Accepted
-returns-in-Accepted c =
-    text_explained (is_loadable (goal.at.returns-in-Accepted c).Else-not-is_among) (record { among = among (goal.at.returns-in-Accepted c).Else-not-is_among; views = c.granted_views-granted.ensures; says = c.has_bit-is_settled.ensures })
-    (λ l. text_accepted _ _ c.ask-a.ensures l c.in-Accepted.is) c.give_words.ensures
+pub returns-in-Ok : goal.returns-in-Ok
+returns-in-Ok c =
+    text_explained (is_loadable (goal.at.returns-in-Ok c).Else-not-is_among) (record { among = among (goal.at.returns-in-Ok c).Else-not-is_among; views = c.granted_views-granted.ensures; says = c.has_bit-is_settled.ensures })
+    (λ l. text_accepted _ _ c.ask.ensures l _ c.in-Ok.is) c.give_words.ensures
 
-pub returns-in-Refused : goal.returns-in-Refused
-returns-in-Refused c =
-    text_refused (is_loadable (goal.at.returns-in-Refused c).Else-not-is_among) (among (goal.at.returns-in-Refused c).Else-not-is_among) (λ l. text_turned _ _ c.ask-a.ensures l c.in-Refused.is)
+pub returns-in-Err : goal.returns-in-Err
+returns-in-Err c =
+    text_refused (is_loadable (goal.at.returns-in-Err c).Else-not-is_among) (among (goal.at.returns-in-Err c).Else-not-is_among) (λ l. text_turned _ _ c.ask.ensures l _ c.in-Err.is)

@@ -10,34 +10,34 @@ use mathlib.Core.Bool.{not}
 use Rattle.model.specs.Limits.{most_lines}
 use Prim.Native.Nat.{◌≤◌}
 use Rattle.label_lists.proofs.labels.Goals as goal
-use Rattle.label_lists.proofs.labels.Goals.{In-Accepted}
+use Rattle.label_lists.proofs.labels.Goals.{In-Ok}
 
 pub returns-then-not-valid : goal.returns-then-not-valid
 returns-then-not-valid c = unlisted (fails c.valid.ensures (ap not c.if-not-valid.true))
 
-pub ask-a-requires : goal.ask-a-requires
-ask-a-requires c =
+pub ask-requires : goal.ask-requires
+ask-requires c =
     let l = passes c.valid.ensures (ap not c.if-not-valid.false) in (l.declared, loaded_to l)
 
 -- the labels of a text that is a query
-held : (c : In-Accepted) → c.ask-a.result.labels.words.count ≤ most_lines
+held : (c : In-Ok) → c.in-Ok.l.words.count ≤ most_lines
 held c =
     let l = passes c.valid.ensures (ap not c.if-not-valid.false) in
-    labels_held (text_accepted _ _ c.ask-a.ensures l c.in-Accepted.is).held
+    labels_held (text_accepted _ _ c.ask.ensures l _ c.in-Ok.is).held
 
 pub ascending-w-requires : goal.ascending-w-requires
-ascending-w-requires c = held (goal.at.ascending-w-requires c).In-Accepted
+ascending-w-requires c = held (goal.at.ascending-w-requires c).In-Ok
 
 pub give_labels-requires : goal.give_labels-requires
-give_labels-requires c = omega (arith, c.ascending-w.ensures.count_value, held (goal.at.give_labels-requires c).In-Accepted)
+give_labels-requires c = omega (arith, c.ascending-w.ensures.count_value, held (goal.at.give_labels-requires c).In-Ok)
 
-pub returns-in-Accepted : goal.returns-in-Accepted
-returns-in-Accepted c =
-    text_listed c.ask-a.result (passes c.valid.ensures (ap not c.if-not-valid.false))
-    (λ l. text_accepted _ _ c.ask-a.ensures l c.in-Accepted.is)
+pub returns-in-Ok : goal.returns-in-Ok
+returns-in-Ok c =
+    text_listed c.in-Ok.l (passes c.valid.ensures (ap not c.if-not-valid.false))
+    (λ l. text_accepted _ _ c.ask.ensures l _ c.in-Ok.is)
     (λ ws e. c.give_labels.ensures (ascending ws) (c.ascending-w.ensures.by_index ws e))
 
-pub returns-in-Refused : goal.returns-in-Refused
-returns-in-Refused c =
+pub returns-in-Err : goal.returns-in-Err
+returns-in-Err c =
     text_refused (passes c.valid.ensures (ap not c.if-not-valid.false))
-    (λ l. text_turned _ _ c.ask-a.ensures l c.in-Refused.is)
+    (λ l. text_turned _ _ c.ask.ensures l _ c.in-Err.is)

@@ -1,32 +1,27 @@
--- `label_text`: a text that is read is labelled, and one that is turned back has no label.
-use mathlib.Core.Path.{ap, ap₂, sym, ◌∙◌}
+-- `label_text`: a text that is read is labelled, and one that is turned back stays so.
+use mathlib.Core.Path.{ap, sym, ◌∙◌}
+use borrow.Author.Rules.{rules}
+use Rattle.std.specs.Prelude.{Ok}
 use Rattle.query_text.specs.Text.{read}
 use Rattle.labelling.specs.Text.{asked_value}
 use Rattle.labelling.proofs.Posing.{posed}
 use Rattle.labelling.proofs.Readings.{read_accepted, read_refused}
 use Rattle.labelling.proofs.label_text.Goals as goal
 
-pub label_query-labels-requires : goal.label_query-labels-requires
-label_query-labels-requires c =
+pub label_query-requires : goal.label_query-requires
+label_query-requires c =
     let (d, ready) = c.requires in
-    let r = c.read_query-reading in
-    let reads = r.ensures d.widths ready.tables_are in
-    let (Q, e, o, q) = read_accepted (read d.widths _) r.result reads c.in-Accepted.is in
+    let (Q, e, q) = read_accepted (read d.widths _) _ (c.read_query.ensures d.widths ready.tables_are) _ c.in_ok-q.was in
     (d, _, Q, ready, posed d _ Q ready.good e q)
 
-pub returns-in-Accepted : goal.returns-in-Accepted
+pub returns-in_err-q : goal.returns-in_err-q
 unfolding asked_value
-returns-in-Accepted c = λ d ready.
-    let r = c.read_query-reading in
-    let reads = r.ensures d.widths ready.tables_are in
-    let (Q, e, o, q) = read_accepted (read d.widths _) r.result reads c.in-Accepted.is in
-    ap₂ (λ x y. record { outcome = x; labels = y }) o (c.label_query-labels.ensures d _ Q ready (posed d _ Q ready.good e q))
-    ∙ ap (asked_value d) (sym e)
+returns-in_err-q c = λ d ready.
+    let e = read_refused (read d.widths _) _ (c.read_query.ensures d.widths ready.tables_are) _ c.in_err-q.was in
+    rw e (search rules)
 
-pub returns-in-Refused : goal.returns-in-Refused
+pub returns : goal.returns
 unfolding asked_value
-returns-in-Refused c = λ d ready.
-    let r = c.read_query-reading in
-    let reads = r.ensures d.widths ready.tables_are in
-    let (n, k, e, o) = read_refused (read d.widths _) r.result reads c.in-Refused.is in
-    ap₂ (λ x y. record { outcome = x; labels = y }) o c.no_labels-labels.ensures ∙ ap (asked_value d) (sym e)
+returns c = λ d ready.
+    let (Q, e, q) = read_accepted (read d.widths _) _ (c.read_query.ensures d.widths ready.tables_are) _ c.in_ok-q.was in
+    ap Ok (c.label_query.ensures d _ Q ready (posed d _ Q ready.good e q)) ∙ ap (asked_value d) (sym e)

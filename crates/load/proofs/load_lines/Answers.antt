@@ -1,11 +1,11 @@
 use mathlib.Core.Path.{◌≡◌, ap, ◌∙◌}
+use Rattle.std.specs.Prelude.{Ok}
 use mathlib.Core.Bool.{false}
 use mathlib.Core.List.{List}
 use Prim.Native.Nat.{ℕ}
 use native.Mathlib.Omega.{arith}
 use lib.ListN.{drop, length-take, length-drop}
 use borrow.Author.Tests.{not-true, not-false}
-use Rattle.model.specs.declared.Outcome.TheVariants.{Accepted}
 use Rattle.text.proofs.NextLines.{front, LineAt, stops_here, ends_here}
 use Rattle.load.specs.Value.{loading_value}
 use Rattle.load.specs.Steps.{progress_value, block_number, stepped_value}
@@ -117,6 +117,6 @@ pub returns : goal.returns
 unfolding loading_value
 returns c =
     let w = c.loop-at.invariant in
-    (λ i. record { outcome = Accepted; policy = policy_of w.block w.begun w.declared _ w.held i })
+    ap Ok (policy_of w.block w.begun w.declared _ w.held)
     ∙ ap loading_value
     (all_declared w c.loop-at-test.false c.if-g-ne-PARTITIONS.false (not-false _ c.if-not-g.false))

@@ -8,7 +8,7 @@ use Rattle.model.specs.Limits.{up_to}
 use Rattle.query_text.specs.Text.{read, accepted}
 use Rattle.validity.specs.Loadable.{Loadable}
 use Rattle.labelling.specs.Posed.{Posed}
-use Rattle.labelling.proofs.Readings.{read_accepted, reading_refused}
+use Rattle.labelling.proofs.Readings.{read_accepted, read_refused}
 use Rattle.labelling.proofs.Posing.{counted, tables_of, posed, posed_few, posed_rows}
 use Rattle.labelling.proofs.Loaded.{loaded_to}
 use Rattle.explanations.proofs.Explained.{partition_place}
@@ -16,7 +16,7 @@ use Rattle.apart.proofs.Replies.{not_loaded, no_partition, text_turned, too_shor
 use mathlib.Core.Path.{ap}
 use mathlib.Core.Bool.{not}
 use Rattle.apart.proofs.telling.tell_apart.Goals as goal
-use Rattle.apart.proofs.telling.tell_apart.Goals.{Else-not-is_among, In-Accepted}
+use Rattle.apart.proofs.telling.tell_apart.Goals.{Else-not-is_among, In-Ok}
 
 pub returns-then-not-valid : goal.returns-then-not-valid
 returns-then-not-valid c = not_loaded _ _ _ (fails c.valid.ensures (ap not c.if-not-valid.true))
@@ -36,27 +36,25 @@ among : (c : Else-not-is_among) →
 among c = passing c.is_among.ensures (ap not c.if-not-is_among.false)
 
 -- the query that the text reads to
-posed_query : (c : In-Accepted) →
+posed_query : (c : In-Ok) →
     (l : Loadable c.args.p) →
     let d = l.declared in
-    (Q : Query) × (read d.widths c.args.text.now ≡ accepted Q) × Posed c.read_query-reading.result.query d Q
+    (Q : Query) × (read d.widths c.args.text.now ≡ accepted Q) × Posed c.in-Ok.q d Q
 posed_query c l =
     let d = l.declared in
-    let r = c.read_query-reading in
-    let reads = r.ensures d.widths (tables_of (loaded_to l)) in
-    let (Q, e, o, q) = read_accepted (read d.widths _) r.result reads c.in-Accepted.is in
+    let (Q, e, q) = read_accepted (read d.widths _) _ (c.read_query.ensures d.widths (tables_of (loaded_to l))) _ c.in-Ok.is in
     (Q, e, posed d _ Q (loaded_to l).good e q)
 
 pub returns-then-out-lt-MOST_CELLS : goal.returns-then-out-lt-MOST_CELLS
 returns-then-out-lt-MOST_CELLS c =
-    too_short _ _ _ (is_loadable (goal.at.returns-then-out-lt-MOST_CELLS c).Else-not-is_among) (among (goal.at.returns-then-out-lt-MOST_CELLS c).Else-not-is_among) (λ l. let (Q, q, g) = posed_query (goal.at.returns-then-out-lt-MOST_CELLS c).In-Accepted l in (Q, q)) c.if-out-lt-MOST_CELLS.true
+    too_short _ _ _ (is_loadable (goal.at.returns-then-out-lt-MOST_CELLS c).Else-not-is_among) (among (goal.at.returns-then-out-lt-MOST_CELLS c).Else-not-is_among) (λ l. let (Q, q, g) = posed_query (goal.at.returns-then-out-lt-MOST_CELLS c).In-Ok l in (Q, q)) c.if-out-lt-MOST_CELLS.true
 
 pub prepare-ready-requires : goal.prepare-ready-requires
 prepare-ready-requires c = counted (loaded_to (is_loadable (goal.at.prepare-ready-requires c).Else-not-is_among))
 
 pub query_rows-lines-requires : goal.query_rows-lines-requires
 query_rows-lines-requires c =
-    posed_few (posed_query (goal.at.query_rows-lines-requires c).In-Accepted (is_loadable (goal.at.query_rows-lines-requires c).Else-not-is_among)).2
+    posed_few (posed_query (goal.at.query_rows-lines-requires c).In-Ok (is_loadable (goal.at.query_rows-lines-requires c).Else-not-is_among)).2
 
 pub overflow_sub-n : goal.overflow_sub-n
 overflow_sub-n c =
@@ -65,18 +63,18 @@ overflow_sub-n c =
 pub tell_rows-requires : goal.tell_rows-requires
 tell_rows-requires c =
     let l = is_loadable (goal.at.tell_rows-requires c).Else-not-is_among in
-    let (Q, reads, g) = posed_query (goal.at.tell_rows-requires c).In-Accepted l in
+    let (Q, reads, g) = posed_query (goal.at.tell_rows-requires c).In-Ok l in
     let a = asked _ (among (goal.at.tell_rows-requires c).Else-not-is_among) c.prepare-ready.ensures l _ Q reads (posed_rows g (c.query_rows-lines.ensures Q g.query)) in
     ((_, _, _, _, a), search rules, record { room = c.if-out-lt-MOST_CELLS.false })
 
 pub returns-else-out-lt-MOST_CELLS : goal.returns-else-out-lt-MOST_CELLS
 returns-else-out-lt-MOST_CELLS c =
     told _ _ _ (is_loadable (goal.at.returns-else-out-lt-MOST_CELLS c).Else-not-is_among) (among (goal.at.returns-else-out-lt-MOST_CELLS c).Else-not-is_among) c.prepare-ready.ensures c.if-out-lt-MOST_CELLS.false
-    (λ l. let (Q, reads, g) = posed_query (goal.at.returns-else-out-lt-MOST_CELLS c).In-Accepted l in (Q, reads, posed_rows g (c.query_rows-lines.ensures Q g.query)))
+    (λ l. let (Q, reads, g) = posed_query (goal.at.returns-else-out-lt-MOST_CELLS c).In-Ok l in (Q, reads, posed_rows g (c.query_rows-lines.ensures Q g.query)))
     c.tell_rows.ensures
 
-pub returns-in-Refused : goal.returns-in-Refused
-returns-in-Refused c =
-    text_turned _ _ _ (is_loadable (goal.at.returns-in-Refused c).Else-not-is_among) (among (goal.at.returns-in-Refused c).Else-not-is_among) _ _ (λ l.
-    reading_refused (read l.declared.widths _) c.read_query-reading.result _ _
-    (c.read_query-reading.ensures l.declared.widths (tables_of (loaded_to l))) c.in-Refused.is)
+pub returns-in-Err : goal.returns-in-Err
+returns-in-Err c =
+    text_turned _ _ _ (is_loadable (goal.at.returns-in-Err c).Else-not-is_among) (among (goal.at.returns-in-Err c).Else-not-is_among) _ _ (λ l.
+    read_refused (read l.declared.widths _) _
+    (c.read_query.ensures l.declared.widths (tables_of (loaded_to l))) _ c.in-Err.is)

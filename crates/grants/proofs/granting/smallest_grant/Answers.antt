@@ -37,8 +37,8 @@ place : (c : Else-not-is_among) →
     (1 ≤ n) × (n ≤ most_partitions)
 place c = partition_place (is_loadable c) _ (among c)
 
-pub ask-a-requires : goal.ask-a-requires
-ask-a-requires c = let l = is_loadable c in (l.declared, loaded_to l)
+pub ask-requires : goal.ask-requires
+ask-requires c = let l = is_loadable c in (l.declared, loaded_to l)
 
 pub overflow_sub-n : goal.overflow_sub-n
 overflow_sub-n c = (place (goal.at.overflow_sub-n c).Else-not-is_among).0
@@ -48,13 +48,13 @@ granted_views-granted-requires c = let (from, to) = place (goal.at.granted_views
 
 pub give_grant-requires : goal.give_grant-requires
 give_grant-requires c =
-    let q = text_accepted _ _ c.ask-a.ensures (is_loadable (goal.at.give_grant-requires c).Else-not-is_among) c.in-Accepted.is in (_, q.held)
+    let q = text_accepted _ _ c.ask.ensures (is_loadable (goal.at.give_grant-requires c).Else-not-is_among) _ c.in-Ok.is in (_, q.held)
 
-pub returns-in-Accepted : goal.returns-in-Accepted
-returns-in-Accepted c =
-    text_granted (is_loadable (goal.at.returns-in-Accepted c).Else-not-is_among) (among (goal.at.returns-in-Accepted c).Else-not-is_among) c.granted_views-granted.ensures
-    (λ l. text_accepted _ _ c.ask-a.ensures l c.in-Accepted.is) c.give_grant.ensures
+pub returns-in-Ok : goal.returns-in-Ok
+returns-in-Ok c =
+    text_granted (is_loadable (goal.at.returns-in-Ok c).Else-not-is_among) (among (goal.at.returns-in-Ok c).Else-not-is_among) c.granted_views-granted.ensures
+    (λ l. text_accepted _ _ c.ask.ensures l _ c.in-Ok.is) c.give_grant.ensures
 
-pub returns-in-Refused : goal.returns-in-Refused
-returns-in-Refused c =
-    text_refused (is_loadable (goal.at.returns-in-Refused c).Else-not-is_among) (among (goal.at.returns-in-Refused c).Else-not-is_among) (λ l. text_turned _ _ c.ask-a.ensures l c.in-Refused.is)
+pub returns-in-Err : goal.returns-in-Err
+returns-in-Err c =
+    text_refused (is_loadable (goal.at.returns-in-Err c).Else-not-is_among) (among (goal.at.returns-in-Err c).Else-not-is_among) (λ l. text_turned _ _ c.ask.ensures l _ c.in-Err.is)

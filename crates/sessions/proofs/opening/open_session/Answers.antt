@@ -1,9 +1,9 @@
--- `open_session`: 8 and no partition open, or the word that has a bit for each partition.
+-- `open_session`: 8, or the word that has a bit for each partition.
 use mathlib.Core.Path.{◌≡◌, refl, ap, ◌∙◌}
 use Prim.Native.Nat.{ℕ, ◌-◌, ◌^◌}
 use native.Mathlib.Omega.{arith}
 use Rattle.words.proofs.Answers.{passes, fails}
-use Rattle.model.specs.declared.Outcome.TheVariants.{Accepted}
+use Rattle.std.specs.Prelude.{Ok}
 use Rattle.model.specs.declared.Policy.{Policy}
 use Rattle.policy_text.specs.Declared.{Declared}
 use Rattle.labelling.specs.Text.{LoadedTo}
@@ -32,5 +32,5 @@ returns c =
     let valid = passes c.valid.ensures (ap not c.if-not-valid.false) in
     record {
       turned = λ n. absurd (n valid);
-      opened = λ l. ap (λ (s : Session). record { outcome = Accepted; session = s }) (opens_all (loaded_to l) c.low_bits.ensures);
+      opened = λ l. ap Ok (opens_all (loaded_to l) c.low_bits.ensures);
     }
