@@ -4,14 +4,11 @@ use mathlib.Core.List.{List, [], ◌∷◌, ◌++◌, append_assoc, append-nil, 
 use Prim.Native.Nat.{ℕ}
 use native.Mathlib.Omega.{arith}
 use Rattle.model.specs.declared.Policy.{Policy}
-use Rattle.model.specs.declared.Outcome.TheVariants.{Accepted, Refused}
 use Rattle.policy_text.specs.Text.{refused, accepted, load}
 use Rattle.policy_text.specs.Declared.{Declared}
-use Rattle.policy_text.specs.Text.{Loading as TheLoading}
 use Rattle.policy_text.specs.Policy.{policy_value}
 use Rattle.validity.specs.Loadable.{Loadable}
 use Rattle.load.specs.Value.{loading_value}
-use Rattle.load.specs.declared.Loading.{Loading}
 use Rattle.labelling.proofs.Loaded.{loaded_to}
 use Rattle.sessions.specs.declared.opening.Session.{Session}
 use Rattle.desk.specs.Calls.{Call, Calls, none_left, one_call}
@@ -50,13 +47,3 @@ module _ (p : Policy) (l : Loadable p) where
         subst (λ (b : List Call). Held d b t.mask) (append_assoc before (c ∷ []) cs) held,
         one_right before c cs (step_right d good c h step (counted d s c (g.loaded l))) right,
       )
-
-pub refused≢accepted : {n k : ℕ} → Refused n k ≡ Accepted → ⊥
-refused≢accepted e = let z : ◌≡◌ {A = ℕ} 1 0 = cc in omega arith
-
--- a text that loading accepts, by what `load` replies
-pub loaded : (text : List ℕ) (v : TheLoading) (r : Loading) → load text ≡ v → r ≡ loading_value v → r.outcome ≡ Accepted
-    → (d : Declared) × (load text ≡ accepted d) × (r.policy ≡ policy_value d)
-unfolding loading_value
-loaded text (refused n k) r e f a = absurd (refused≢accepted (sym (ap (λ (x : Loading). x.outcome) f) ∙ a))
-loaded text (accepted d) r e f a = (d, e, ap (λ (x : Loading). x.policy) f)

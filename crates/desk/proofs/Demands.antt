@@ -13,13 +13,14 @@ use Rattle.policy_text.proofs.Loads.{loads_exactly}
 use Rattle.validity.specs.Loadable.{Loadable}
 use Rattle.labelling.proofs.Loaded.{loaded_to}
 use Rattle.sessions.specs.declared.opening.Session.{Session}
-use Rattle.sessions.specs.declared.opening.Opening.{Opening}
 use Rattle.sessions.specs.Opening.{all_open}
 use Rattle.decisions.proofs.Masks.{open_count_lem}
 use Rattle.label_lists.proofs.Listed.{labels_listed}
 use Rattle.desk.specs.Demands.{Demand1, Demand2, Demand3}
 use Rattle.desk.proofs.Held.{Held, fresh}
-use Rattle.desk.proofs.Calls.{chain, loaded}
+use Rattle.std.specs.Prelude.{Ok}
+use Rattle.load.proofs.Accepted.{loaded_policy}
+use Rattle.desk.proofs.Calls.{chain}
 use Rattle.desk.proofs.Unique.{opened_unique, decided_unique, labels_unique, explanation_unique}
 use Rattle.desk.proofs.Stays.{yes_or_no, session_stays, labels_buffer_stays, explaining_buffer_stays}
 use Rattle.desk.proofs.Numbers.{loading_numbers, opening_numbers, deciding_numbers_lem, labels_numbers_lem, explaining_numbers_lem}
@@ -52,12 +53,12 @@ demand_2 p l text before r after g Q e =
     (ascending (labels d.views Q), labels_rewrite d (loaded_to l).good Q w.clear w.fits, labels_listed l g Q e)
 
 pub demand_3 : Demand3
-demand_3 text r e a o opened cs s calls =
-    let (d, loads, value) = loaded text (load text) r refl e a in
-    let l : Loadable r.policy = record { text = text; declared = d; loads = loads; value = value } in
-    let w = loaded_well_formed text d loads in
-    let start : o.session ≡ all_open d = ap (λ (x : Opening). x.session) (opened.opened l) in
-    let (held, right) = chain r.policy l [] (subst (λ (t : Session). Held d [] t.mask) (sym start) (fresh d w)) calls in (
+demand_3 text p e start opened cs s calls =
+    let (d, loads, value, w) = loaded_policy text (Ok p) e p refl in
+    let l : Loadable p = record { text = text; declared = d; loads = loads; value = value } in
+    let all : Ok start ≡ Ok (all_open d) = opened.opened l in
+    let all_are : start ≡ all_open d = grind arith in
+    let (held, right) = chain p l [] (subst (λ (t : Session). Held d [] t.mask) (sym all_are) (fresh d w)) calls in (
       d,
       loads,
       record {

@@ -5,6 +5,7 @@ use mathlib.Core.List.Memᴰ
 use mathlib.Core.List.{List, [], ◌∷◌}
 use Prim.Native.Nat.{ℕ, ◌-◌}
 use native.Mathlib.Decide.{ℕ_discrete}
+use native.Mathlib.Omega.{arith}
 use lib.Dec.{eqb}
 use lib.ListN.{length, get_or}
 use Rattle.theory.specs.Query.{◌∈◌}
@@ -15,22 +16,20 @@ use Rattle.theory.proofs.Pigeonhole.{member}
 use Rattle.words.proofs.Answers.{either}
 use Rattle.model.specs.Limits.{up_to}
 use Rattle.model.specs.declared.Policy.{Policy}
-use Rattle.model.specs.declared.Outcome.{Outcome}
-use Rattle.model.specs.declared.Outcome.TheVariants.{Refused}
+use Rattle.std.specs.Prelude.{Ok, Err}
+use Rattle.model.specs.declared.Refusal.{Refusal}
 use Rattle.model.proofs.FirstFault.{found_in}
 use Rattle.query_text.specs.Text.{Reading, refused, accepted, read}
 use Rattle.query_text.proofs.Numbers.{read_refuses}
 use Rattle.policy_text.specs.Declared.{Declared}
 use Rattle.policy_text.specs.Policy.{views_word}
 use Rattle.policy_text.specs.Text.{policy_numbers, load}
-use Rattle.policy_text.specs.Text.{Loading as TheLoading, refused as not_loaded, accepted as loaded_as}
 use Rattle.policy_text.proofs.Numbers.{load_refuses}
 use Rattle.validity.specs.Loadable.{Loadable}
 use Rattle.load.specs.Value.{loading_value}
-use Rattle.load.specs.declared.Loading.{Loading}
+use Rattle.load.proofs.Accepted.{not_loaded}
 use Rattle.explain.specs.Explanation.{explained}
 use Rattle.sessions.specs.declared.opening.Session.{Session}
-use Rattle.sessions.specs.declared.opening.Opening.{Opening}
 use Rattle.sessions.specs.declared.replies.Decision.{Decision}
 use Rattle.sessions.specs.Reply.{Said, said}
 use Rattle.sessions.specs.Reply.{refused as turned}
@@ -43,28 +42,21 @@ use Rattle.explanations.specs.declared.Explaining.{Explaining}
 use Rattle.explanations.specs.Explaining.{SaidExplaining, said_explaining, Explained, not_explained, explained_by, explain_reading, explain_under}
 use Rattle.explanations.specs.Explaining.{ExplanationGiven}
 use Rattle.desk.specs.Outcomes.{deciding_numbers, labels_numbers, explaining_numbers}
-use Rattle.desk.proofs.Calls.{refused≢accepted}
+use Rattle.sessions.specs.Opening.{all_open}
 use Rattle.desk.proofs.ReplyWords.{turned_yes, turned_no}
 use Rattle.desk.proofs.Unique.{either_way}
 
 -- ---- loading and opening
 
-pub loading_numbers : (text : List ℕ) (r : Loading) → r ≡ loading_value (load text)
-    → (n k : ℕ) → r.outcome ≡ Refused n k → n ∈ policy_numbers
-unfolding loading_value
-loading_numbers text r e n k o = by_value (load text) refl (sym o ∙ ap (λ (x : Loading). x.outcome) e)
-  where
-    by_value : (v : TheLoading) → load text ≡ v → Refused n k ≡ (loading_value v).outcome → n ∈ policy_numbers
-    by_value (not_loaded m j) q f =
-        let same : m ≡ n = cc in subst (λ (x : ℕ). x ∈ policy_numbers) same (load_refuses text m j q)
-    by_value (loaded_as d) q f = absurd (refused≢accepted f)
+pub loading_numbers : (text : List ℕ) (r : Refusal) → Err r ≡ loading_value (load text) → r.number ∈ policy_numbers
+loading_numbers text r e = load_refuses text r.number r.line (not_loaded text (Err r) e r refl)
 
-pub opening_numbers : (p : Policy) (r : Opening) → Opened p r → (n k : ℕ) → r.outcome ≡ Refused n k → (n ≡ 8) × (k ≡ 0)
-opening_numbers p r g n k o =
-    let outcome : Opening → Outcome = λ x. x.outcome in
-    let none : Loadable p → ⊥ = λ l. refused≢accepted (sym o ∙ ap outcome (g.opened l)) in
-    let same : Refused n k ≡ Refused 8 0 = sym o ∙ ap outcome (g.turned none) in
-    (cc, cc)
+pub opening_numbers : (p : Policy) (r : Refusal) → Opened p (Err r) → (r.number ≡ 8) × (r.line ≡ 0)
+opening_numbers p r g =
+    let none : Loadable p → ⊥ = λ l. let opened : Err r ≡ Ok (all_open l.declared) = g.opened l in grind arith in
+    let same : Err r ≡ Err (record { number = 8; line = 0 }) = g.turned none in
+    let is : r ≡ record { number = 8; line = 0 } = grind arith in
+    (ap (λ (x : Refusal). x.number) is, ap (λ (x : Refusal). x.line) is)
 
 -- ---- deciding
 

@@ -2,16 +2,15 @@
 -- loads to the policy value.
 use mathlib.Core.Path.{◌≡◌, refl, sym, ap, ◌∙◌}
 use mathlib.Core.Bool.{cond}
-use mathlib.Core.List.{List, [], ◌∷◌, nil≢cons, head-eq_of_cons-eq, List-discrete}
+use mathlib.Core.List.{List, [], ◌∷◌, head-eq_of_cons-eq, tail-eq_of_cons-eq, List-discrete}
 use Prim.Native.Nat.{ℕ}
 use native.Mathlib.Decide.{ℕ_discrete, map_dec}
 use native.Mathlib.Omega.{arith}
 use Rattle.model.specs.declared.Policy.{Policy}
-use Rattle.model.specs.declared.Outcome.{Outcome}
-use Rattle.model.specs.declared.Outcome.TheVariants.{Accepted, Refused as TurnedBack}
+use Rattle.std.specs.Prelude.{Result, Ok, Err}
+use Rattle.model.specs.declared.Refusal.{Refusal}
 use Rattle.validity.specs.Loadable.{Loadable}
 use Rattle.sessions.specs.declared.opening.Session.{Session}
-use Rattle.sessions.specs.declared.opening.Opening.{Opening}
 use Rattle.sessions.specs.declared.replies.Reply.{Reply}
 use Rattle.sessions.specs.declared.replies.Reply.TheVariants.{Yes, No, Refused}
 use Rattle.sessions.specs.declared.replies.Decision.{Decision}
@@ -113,40 +112,36 @@ pub said_explaining_apart : (a b : Explaining) → said_explaining a ≡ said_ex
 unfolding explanations explaining_code
 said_explaining_apart a b e = explanations.apart a b (ap explaining_code e)
 
-outcome_code : Outcome → List ℕ
-outcome_code Accepted = []
-outcome_code (TurnedBack n k) = n ∷ k ∷ []
-
-outcomes : Code Outcome
-unfolding outcome_code
-outcomes = record { code = outcome_code; apart = go }
-  where
-    go : (a b : Outcome) → outcome_code a ≡ outcome_code b → a ≡ b
-    go Accepted Accepted e = refl
-    go Accepted (TurnedBack n k) e = absurd (nil≢cons e)
-    go (TurnedBack n k) Accepted e = absurd (nil≢cons (sym e))
-    go (TurnedBack n j) (TurnedBack m k) e = cc
-
 -- a session is what its fields hold
 sessions : Code Session
 sessions = record { code = λ s. s.mask ∷ []; apart = λ a b e. let mask = head-eq_of_cons-eq e in λ i. record { mask = mask i } }
+
+-- an opening is its session, or its refusal
+opening_code : Result Session Refusal → List ℕ
+opening_code (Ok s) = s.mask ∷ []
+opening_code (Err r) = r.number ∷ r.line ∷ []
+
+openings : Code (Result Session Refusal)
+unfolding opening_code sessions
+openings = record { code = opening_code; apart = go }
+  where
+    go : (a b : Result Session Refusal) → opening_code a ≡ opening_code b → a ≡ b
+    go (Ok s) (Ok t) e = ap Ok (sessions.apart s t e)
+    go (Ok s) (Err t) e = absurd (grind arith)
+    go (Err r) (Ok t) e = absurd (grind arith)
+    go (Err r) (Err t) e =
+        let number : r.number ≡ t.number = head-eq_of_cons-eq e in
+        let line : r.line ≡ t.line = head-eq_of_cons-eq (tail-eq_of_cons-eq e) in
+        ap Err (λ i. record { number = number i; line = line i })
 
 pub same_session? : (s t : Session) → Dec (s ≡ t)
 same_session? = same? sessions
 
 -- ---- "the contract determines the reply, the session and each buffer cell, refusals too"
 
-pub opened_unique : (p : Policy) (r t : Opening) → Opened p r → Opened p t → r ≡ t
+pub opened_unique : (p : Policy) (r t : Result Session Refusal) → Opened p r → Opened p t → r ≡ t
 opened_unique p r t x y =
-    let outcome : r.outcome ≡ t.outcome =
-    either_way {L = Loadable p} (same? outcomes r.outcome t.outcome)
-    (λ l. ap (λ (o : Opening). o.outcome) (x.opened l ∙ sym (y.opened l)))
-    (λ f. ap (λ (o : Opening). o.outcome) (x.turned f ∙ sym (y.turned f))) in
-    let session : r.session ≡ t.session =
-    either_way {L = Loadable p} (same_session? r.session t.session)
-    (λ l. ap (λ (o : Opening). o.session) (x.opened l ∙ sym (y.opened l)))
-    (λ f. ap (λ (o : Opening). o.session) (x.turned f ∙ sym (y.turned f))) in
-    λ i. record { outcome = outcome i; session = session i }
+    either_way {L = Loadable p} (same? openings r t) (λ l. x.opened l ∙ sym (y.opened l)) (λ f. x.turned f ∙ sym (y.turned f))
 
 pub decided_unique : (p : Policy) (s : Session) (text : List ℕ) (r t : Decision) → Decided p s text r → Decided p s text t → r ≡ t
 decided_unique p s text r t x y =

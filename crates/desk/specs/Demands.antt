@@ -1,20 +1,17 @@
 -- The customer's demands as types. Their hypotheses are the contracts of the desk's operations, word for word; their proofs are
 -- `demand_1 : Demand1` and so on, in `proofs/Demands.antt`.
-use Rattle.std.specs.Prelude.{◌≡◌, ◌↔◌, List, ◌∷◌, ◌++◌, map, ℕ, ◌-◌, ◌^◌, ◌<◌, length}
+use Rattle.std.specs.Prelude.{◌≡◌, Ok, ◌↔◌, List, ◌∷◌, ◌++◌, map, ℕ, ◌-◌, ◌^◌, ◌<◌, length}
 use Rattle.theory.specs.Query.{Query}
 use Rattle.theory.specs.Count.{Counts}
 use Rattle.words.specs.Bits.{bit}
 use Rattle.model.specs.declared.Policy.{Policy}
-use Rattle.model.specs.declared.Outcome.TheVariants.{Accepted}
 use Rattle.query_text.specs.Text.{read}
 use Rattle.query_text.specs.Text.{accepted as read_as}
 use Rattle.policy_text.specs.Text.{load, accepted}
 use Rattle.policy_text.specs.Declared.{Declared}
 use Rattle.validity.specs.Loadable.{Loadable}
 use Rattle.load.specs.Value.{loading_value}
-use Rattle.load.specs.declared.Loading.{Loading}
 use Rattle.sessions.specs.declared.opening.Session.{Session}
-use Rattle.sessions.specs.declared.opening.Opening.{Opening}
 use Rattle.sessions.specs.declared.replies.Decision.{Decision}
 use Rattle.sessions.specs.Reply.{said, yes, no}
 use Rattle.sessions.specs.Session.{open_count}
@@ -74,8 +71,8 @@ module _ (d : Declared) where
 -- replies they get": for every text that `load` accepts, what `open_session` then gives, and every list of calls of `decide`
 abbrev pub Demand3 : Type 0
 Demand3 =
-    (text : List ℕ) (r : Loading) → r ≡ loading_value (load text) → r.outcome ≡ Accepted
-    → (o : Opening) → Opened r.policy o → (cs : List Call) (s : Session) → Calls r.policy o.session cs s
+    (text : List ℕ) (p : Policy) → Ok p ≡ loading_value (load text)
+    → (fresh : Session) → Opened p (Ok fresh) → (cs : List Call) (s : Session) → Calls p fresh cs s
     → (d : Declared) × (load text ≡ accepted d) × AsDemanded d cs s
 
 -- Its hypotheses can be met: under a loaded policy every session and text has a decision, and every list of texts a list of calls.

@@ -1,9 +1,9 @@
 -- What holds of every call of the desk's operations: what is accepted, one outcome, a refusal's number and what it leaves; and what
 -- settled means.
-use Rattle.std.specs.Prelude.{◌≡◌, ◌↔◌, ◌⊎◌, true, false, List, [], ◌∷◌, ◌++◌, ℕ, ◌-◌}
+use Rattle.std.specs.Prelude.{◌≡◌, Result, Err, ◌↔◌, ◌⊎◌, true, false, List, [], ◌∷◌, ◌++◌, ℕ, ◌-◌}
 use Rattle.theory.specs.Query.{Query, ◌∈◌}
 use Rattle.model.specs.declared.Policy.{Policy}
-use Rattle.model.specs.declared.Outcome.TheVariants.{Refused}
+use Rattle.model.specs.declared.Refusal.{Refusal}
 use Rattle.query_text.specs.Text.{query_numbers, read}
 use Rattle.query_text.specs.Text.{accepted as read_as}
 use Rattle.query_text.specs.Print.{query_text}
@@ -14,9 +14,7 @@ use Rattle.policy_text.specs.WellFormed.{WellFormed}
 use Rattle.policy_text.specs.Print.{print}
 use Rattle.validity.specs.Loadable.{Loadable}
 use Rattle.load.specs.Value.{loading_value}
-use Rattle.load.specs.declared.Loading.{Loading}
 use Rattle.sessions.specs.declared.opening.Session.{Session}
-use Rattle.sessions.specs.declared.opening.Opening.{Opening}
 use Rattle.sessions.specs.declared.replies.Decision.{Decision}
 use Rattle.sessions.specs.Reply.{said, yes, no, refused}
 use Rattle.sessions.specs.Deciding.{unfit, Decided}
@@ -43,8 +41,8 @@ pub record Outcomes : Type 0 where
   pub policies : (text : List ℕ) (d : Declared) → (load text ≡ accepted d) ↔ (WellFormed d × (text ≡ print d))
   pub queries : (widths text : List ℕ) (Q : Query) → (read widths text ≡ read_as Q) ↔ (WellRead widths Q × (text ≡ query_text Q))
   -- one outcome of each call
-  pub one_loading : (text : List ℕ) (r t : Loading) → r ≡ loading_value (load text) → t ≡ loading_value (load text) → r ≡ t
-  pub one_opening : (p : Policy) (r t : Opening) → Opened p r → Opened p t → r ≡ t
+  pub one_loading : (text : List ℕ) (r t : Result Policy Refusal) → r ≡ loading_value (load text) → t ≡ loading_value (load text) → r ≡ t
+  pub one_opening : (p : Policy) (r t : Result Session Refusal) → Opened p r → Opened p t → r ≡ t
   pub one_decision : (p : Policy) (s : Session) (text : List ℕ) (r t : Decision) → Decided p s text r → Decided p s text t → r ≡ t
   pub one_listing : (p : Policy) (text before : List ℕ) (r t : Listing) (after then : List ℕ)
       → LabelsGiven p text before r after → LabelsGiven p text before t then → (r ≡ t) × (after ≡ then)
@@ -55,9 +53,8 @@ pub record Outcomes : Type 0 where
       → unfit l.declared s ≡ false → (Q : Query) → read l.declared.widths text ≡ read_as Q
       → ((said r.reply).word ≡ yes) ⊎ ((said r.reply).word ≡ no)
   -- "Everything else is turned back by one of its listed numbers"
-  pub loading_numbers : (text : List ℕ) (r : Loading) → r ≡ loading_value (load text)
-      → (n k : ℕ) → r.outcome ≡ Refused n k → n ∈ policy_numbers
-  pub opening_numbers : (p : Policy) (r : Opening) → Opened p r → (n k : ℕ) → r.outcome ≡ Refused n k → (n ≡ 8) × (k ≡ 0)
+  pub loading_numbers : (text : List ℕ) (r : Refusal) → Err r ≡ loading_value (load text) → r.number ∈ policy_numbers
+  pub opening_numbers : (p : Policy) (r : Refusal) → Opened p (Err r) → (r.number ≡ 8) × (r.line ≡ 0)
   pub deciding_numbers_lem : (p : Policy) (s : Session) (text : List ℕ) (r : Decision) → Decided p s text r
       → (said r.reply).word ≡ refused → (said r.reply).number ∈ deciding_numbers
   pub labels_numbers_lem : (p : Policy) (text before : List ℕ) (r : Listing) (after : List ℕ) → LabelsGiven p text before r after
