@@ -3,27 +3,29 @@ use mathlib.Core.Path.{◌≡◌, refl, sym, ap, subst, ◌∙◌}
 use mathlib.Core.List.{List, [], ◌∷◌, map}
 use native.Mathlib.Omega.{arith}
 use Rattle.model.specs.declared.Policy.{Policy}
-use Rattle.model.specs.declared.Outcome.{Outcome}
-use Rattle.model.specs.declared.Outcome.TheVariants.{Accepted, Refused}
+use Rattle.std.specs.Prelude.{Result, Ok, Err}
+use Rattle.model.specs.declared.Refusal.{Refusal}
 use Rattle.policy_text.specs.Text.{load}
 use Rattle.load.specs.Value.{loading_value}
-use Rattle.load.specs.declared.Loading.{Loading}
+use Rattle.load.proofs.Accepted.{loaded_policy}
 use Rattle.sessions.specs.declared.opening.Session.{Session}
-use Rattle.sessions.specs.Opening.{Opened}
+use Rattle.validity.specs.Loadable.{Loadable}
+use Rattle.sessions.specs.Opening.{all_open, Opened}
 use Rattle.desk.specs.Calls.{Call, Calls}
 use Rattle.desk.specs.Calls.{none_left as no_call, one_call as and_call}
 use Rattle.desk.proofs.Demands.{demand_3}
-use Rattle.plain_replies.specs.Words.{word_number, accepted}
-use Rattle.plain_replies.specs.Replies.{plain_outcome}
+use Rattle.plain_replies.specs.Words.{word_number, refused, accepted}
+use Rattle.embed.specs.Calls.{plain_loading, plain_opening}
 use Rattle.embed.specs.Demanded.{PlainCall, PlainCalls, none_left, one_call, plain_call, Demanded}
 use Rattle.embed.specs.declared.operations.PlainLoading.{PlainLoading}
 use Rattle.embed.specs.declared.operations.PlainOpening.{PlainOpening}
 use Rattle.embed.specs.declared.operations.PlainDecision.{PlainDecision}
 
--- an outcome whose word has this number
-taken : (o : Outcome) → (plain_outcome o).word ≡ word_number accepted → o ≡ Accepted
-taken Accepted e = refl
-taken (Refused n k) e = absurd (omega arith)
+-- a loading whose word has this number gave its policy
+taken : (v : Result Policy Refusal) (r : PlainLoading) → r ≡ plain_loading v → r.reply.word ≡ word_number accepted → Ok r.policy ≡ v
+taken (Ok p) r e says = ap Ok (ap (λ (l : PlainLoading). l.policy) e)
+taken (Err t) r e says =
+    let word : r.reply.word ≡ word_number refused = ap (λ (l : PlainLoading). l.reply.word) e in absurd (omega arith)
 
 -- the desk's calls behind a list of calls
 behind : (p : Policy) {s t : Session} {cs : List PlainCall} → PlainCalls p s cs t
@@ -40,13 +42,13 @@ behind p (one_call {s} {t} {cs} c (d, decided, e) rest) =
 
 pub demanded : Demanded
 demanded text r loads says o (opening, opened, e) cs s made =
-    let l : Loading = loading_value (load text) in
-    let policy : r.policy ≡ l.policy = ap (λ (v : PlainLoading). v.policy) loads in
-    let outcome : l.outcome ≡ Accepted = taken l.outcome (sym (ap (λ (v : PlainLoading). v.reply.word) loads) ∙ says) in
-    let session : o.session ≡ opening.session = ap (λ (v : PlainOpening). v.session) e in
-    let (calls, same, all) = behind r.policy made in
-    let under = subst (λ (p : Policy). Opened p opening) policy opened in
-    let from = subst (λ (u : Session). Calls r.policy u calls s) session all in
-    let (d, loaded, holds) = demand_3 text l refl outcome opening under calls s
-    (subst (λ (p : Policy). Calls p opening.session calls s) policy from) in
+    let gave = taken (loading_value (load text)) r loads says in
+    let (d, is, value, good) = loaded_policy text (Ok r.policy) gave r.policy refl in
+    let l : Loadable r.policy = record { text = text; declared = d; loads = is; value = value } in
+    let all : opening ≡ Ok (all_open d) = opened.opened l in
+    let session : o.session ≡ all_open d = ap (λ (v : PlainOpening). v.session) (e ∙ ap plain_opening all) in
+    let (calls, same, behind_calls) = behind r.policy made in
+    let under = subst (λ (g : Result Session Refusal). Opened r.policy g) all opened in
+    let from = subst (λ (u : Session). Calls r.policy u calls s) session behind_calls in
+    let (d, loaded, holds) = demand_3 text r.policy gave (all_open d) under calls s from in
     (d, loaded, calls, same, holds)

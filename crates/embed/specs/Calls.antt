@@ -1,14 +1,14 @@
 -- What each exported function says: some reply that meets the contract of the desk's own operation, in numbers. The buffer and the session
 -- are that operation's too.
-use Rattle.std.specs.Prelude.{◌≡◌, List, ℕ}
+use Rattle.std.specs.Prelude.{◌≡◌, Result, Ok, Err, List, ℕ}
+use Rattle.model.specs.declared.Refusal.{Refusal}
 use Rattle.model.specs.declared.Policy.{Policy}
-use Rattle.policy_text.specs.Text.{load}
+use Rattle.policy_text.specs.Text.{load, nothing}
+use Rattle.policy_text.specs.Policy.{policy_value}
 use Rattle.load.specs.Value.{loading_value}
-use Rattle.load.specs.declared.Loading.{Loading}
 use Rattle.sessions.specs.declared.opening.Session.{Session}
-use Rattle.sessions.specs.declared.opening.Opening.{Opening}
 use Rattle.sessions.specs.declared.replies.Decision.{Decision}
-use Rattle.sessions.specs.Opening.{Opened}
+use Rattle.sessions.specs.Opening.{none_open, Opened}
 use Rattle.sessions.specs.Deciding.{Decided}
 use Rattle.label_lists.specs.declared.Listing.{Listing}
 use Rattle.label_lists.specs.Listing.{LabelsGiven}
@@ -29,11 +29,14 @@ use Rattle.embed.specs.declared.operations.PlainDecision.{PlainDecision}
 
 -- ---- replies with a policy or a session
 
-abbrev pub plain_loading : Loading → PlainLoading
-plain_loading l = record { reply = plain_outcome l.outcome; policy = l.policy }
+-- "Where the reply must hold a policy or session beside a refusal, it is the empty one"
+abbrev pub plain_loading : Result Policy Refusal → PlainLoading
+plain_loading (Ok p) = record { reply = plain_outcome (Ok tt); policy = p }
+plain_loading (Err r) = record { reply = plain_outcome (Err r); policy = policy_value nothing }
 
-abbrev pub plain_opening : Opening → PlainOpening
-plain_opening o = record { reply = plain_outcome o.outcome; session = o.session }
+abbrev pub plain_opening : Result Session Refusal → PlainOpening
+plain_opening (Ok s) = record { reply = plain_outcome (Ok tt); session = s }
+plain_opening (Err r) = record { reply = plain_outcome (Err r); session = none_open }
 
 abbrev pub plain_decision : Decision → PlainDecision
 plain_decision d = record { reply = plain_reply d.reply; session = d.session }
@@ -44,7 +47,7 @@ abbrev pub LoadCall : List ℕ → PlainLoading → Type 0
 LoadCall text r = r ≡ plain_loading (loading_value (load text))
 
 abbrev pub OpenCall : Policy → PlainOpening → Type 0
-OpenCall p r = (o : Opening) × Opened p o × (r ≡ plain_opening o)
+OpenCall p r = (o : Result Session Refusal) × Opened p o × (r ≡ plain_opening o)
 
 abbrev pub DecideCall : Policy → Session → List ℕ → PlainDecision → Type 0
 DecideCall p s text r = (d : Decision) × Decided p s text d × (r ≡ plain_decision d)

@@ -41,11 +41,16 @@ pub struct PlainDecision {
 pub extern "C" fn kolbrees_load(text: &[u8]) -> PlainLoading
     ensures { LoadCall text.now result }
 {
-    let l = load::load(text);
-    let outcome = l.outcome;
-    let reply = of_outcome(outcome);
-    let policy = l.policy;
-    PlainLoading { reply, policy }
+    match load::load(text) {
+        Ok(policy) => PlainLoading {
+            reply: of_outcome(Ok(())),
+            policy,
+        },
+        Err(r) => PlainLoading {
+            reply: of_outcome(Err(r)),
+            policy: load::empty_policy(),
+        },
+    }
 }
 
 // A session under a policy.
@@ -53,11 +58,16 @@ pub extern "C" fn kolbrees_load(text: &[u8]) -> PlainLoading
 pub extern "C" fn kolbrees_open(policy: Policy) -> PlainOpening
     ensures { OpenCall policy result }
 {
-    let o = desk::open_session(policy);
-    let outcome = o.outcome;
-    let reply = of_outcome(outcome);
-    let session = o.session;
-    PlainOpening { reply, session }
+    match desk::open_session(policy) {
+        Ok(session) => PlainOpening {
+            reply: of_outcome(Ok(())),
+            session,
+        },
+        Err(r) => PlainOpening {
+            reply: of_outcome(Err(r)),
+            session: Session { mask: 0 },
+        },
+    }
 }
 
 // A query text decided in a session.

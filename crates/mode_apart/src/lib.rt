@@ -12,7 +12,7 @@ ghost use Rattle.mode_apart.specs.ApartPage.{ApartUnder, ApartPage};
 
 use apart::{MOST_CELLS, Telling};
 use freezing::ROW_CELLS;
-use model::{Outcome, Policy};
+use model::Policy;
 
 // The page for a partition and a query text under a policy that was loaded.
 fn apart_under(p: Policy, n: u64, query: &[u8], out: &mut [u8]) -> usize
@@ -42,16 +42,8 @@ pub fn apart_page(policy: &[u8], n: u64, query: &[u8], out: &mut [u8]) -> usize
     requires { most_page ≤ length out.old }
     ensures { Writes (ApartPage policy.now n query.now) out.old out.new result }
 {
-    let l = load::load(policy);
-    let outcome = l.outcome;
-    match outcome {
-        Outcome::Refused { number, line } => page::refusal_page(
-            b"policy refused ",
-            policy,
-            number,
-            line,
-            out,
-        ),
-        Outcome::Accepted => apart_under(l.policy, n, query, out),
+    match load::load(policy) {
+        Err(r) => page::refusal_page(b"policy refused ", policy, r.number, r.line, out),
+        Ok(p) => apart_under(p, n, query, out),
     }
 }

@@ -7,7 +7,6 @@ ghost use Rattle.writing.specs.Wrote.{Wrote};
 ghost use Rattle.page.specs.Sizes.{most_page};
 ghost use Rattle.mode_check.specs.Check.{counted, check_page};
 
-use model::Outcome;
 
 // What is said of an accepted policy: how many tables, views and partitions it has.
 fn put_counts(out: &mut [u8], tables: u64, views: u64, partitions: u64) -> usize
@@ -26,18 +25,9 @@ pub fn check_page(policy: &[u8], out: &mut [u8]) -> usize
     requires { most_page ≤ length out.old }
     ensures { Wrote out.old 0 (check_page policy.now) out.new result }
 {
-    let l = load::load(policy);
-    let outcome = l.outcome;
-    match outcome {
-        Outcome::Refused { number, line } => page::refusal_page(
-            b"policy refused ",
-            policy,
-            number,
-            line,
-            out,
-        ),
-        Outcome::Accepted => {
-            let p = l.policy;
+    match load::load(policy) {
+        Err(r) => page::refusal_page(b"policy refused ", policy, r.number, r.line, out),
+        Ok(p) => {
             let tables = p.tables;
             put_counts(
                 out,

@@ -10,7 +10,7 @@ ghost use Rattle.page.specs.Sizes.{most_page};
 ghost use Rattle.mode_explain.specs.ExplainPage.{most_word, most_first, WordPut, WordsPut, explanation, explain_under, explain_page};
 
 use desk::Explaining;
-use model::{MOST_LINES, Outcome, Policy};
+use model::{MOST_LINES, Policy};
 
 // A word of an explanation: its views, and their text below.
 fn put_word(out: &mut [u8], at: usize, p: Policy, word: u32) -> usize
@@ -85,16 +85,8 @@ pub fn explain_page(policy: &[u8], n: u64, query: &[u8], out: &mut [u8]) -> usiz
     requires { most_page ≤ length out.old }
     ensures { Wrote out.old 0 (explain_page policy.now n query.now) out.new result }
 {
-    let l = load::load(policy);
-    let outcome = l.outcome;
-    match outcome {
-        Outcome::Refused { number, line } => page::refusal_page(
-            b"policy refused ",
-            policy,
-            number,
-            line,
-            out,
-        ),
-        Outcome::Accepted => explain_under(l.policy, n, query, out),
+    match load::load(policy) {
+        Err(r) => page::refusal_page(b"policy refused ", policy, r.number, r.line, out),
+        Ok(p) => explain_under(p, n, query, out),
     }
 }

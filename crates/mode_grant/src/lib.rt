@@ -11,7 +11,7 @@ ghost use Rattle.view_texts.specs.ViewTexts.{InRange};
 ghost use Rattle.mode_grant.specs.GrantPage.{grant_lines, GrantUnder, GrantPage, Writes};
 
 use grants::Granting;
-use model::{MOST_VIEWS, Outcome, Policy};
+use model::{MOST_VIEWS, Policy};
 
 // The views to add, and their text; none where the partition settles the query.
 fn put_grant(out: &mut [u8], p: Policy, numbers: &[u32]) -> usize
@@ -53,16 +53,8 @@ pub fn grant_page(policy: &[u8], n: u64, query: &[u8], out: &mut [u8]) -> usize
     requires { most_page ≤ length out.old }
     ensures { Writes (GrantPage policy.now n query.now) out.old out.new result }
 {
-    let l = load::load(policy);
-    let outcome = l.outcome;
-    match outcome {
-        Outcome::Refused { number, line } => page::refusal_page(
-            b"policy refused ",
-            policy,
-            number,
-            line,
-            out,
-        ),
-        Outcome::Accepted => grant_under(l.policy, n, query, out),
+    match load::load(policy) {
+        Err(r) => page::refusal_page(b"policy refused ", policy, r.number, r.line, out),
+        Ok(p) => grant_under(p, n, query, out),
     }
 }

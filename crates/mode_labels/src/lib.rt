@@ -10,7 +10,7 @@ ghost use Rattle.page.specs.Sizes.{most_page};
 ghost use Rattle.mode_labels.specs.LabelLines.{most_label, label_line, label_lines, labels_under, labels_page};
 
 use desk::Listing;
-use model::{MOST_LINES, Outcome, Policy};
+use model::{MOST_LINES, Policy};
 
 // A label: its word, its table and its views.
 fn put_label(out: &mut [u8], at: usize, w: u64) -> usize
@@ -69,16 +69,8 @@ pub fn labels_page(policy: &[u8], query: &[u8], out: &mut [u8]) -> usize
     requires { most_page ≤ length out.old }
     ensures { Wrote out.old 0 (labels_page policy.now query.now) out.new result }
 {
-    let l = load::load(policy);
-    let outcome = l.outcome;
-    match outcome {
-        Outcome::Refused { number, line } => page::refusal_page(
-            b"policy refused ",
-            policy,
-            number,
-            line,
-            out,
-        ),
-        Outcome::Accepted => labels_under(l.policy, query, out),
+    match load::load(policy) {
+        Err(r) => page::refusal_page(b"policy refused ", policy, r.number, r.line, out),
+        Ok(p) => labels_under(p, query, out),
     }
 }

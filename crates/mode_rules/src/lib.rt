@@ -12,7 +12,7 @@ ghost use Rattle.mode_rules.specs.RulesPage.{rules_page};
 ghost use Rattle.mode_rules.specs.Writing.{Under, RuleWritten, RulesWritten};
 
 use import::Imported;
-use model::{Outcome, Tables};
+use model::Tables;
 
 // Room for the page of 65,536 bytes of rules.
 pub const RULES_ROOM: usize = 2097216;
@@ -71,18 +71,9 @@ pub fn rules_page(policy: &[u8], rules: &[u8], out: &mut [u8]) -> usize
     requires { (length rules.now ≤ most_input) × (rules_room ≤ length out.old) }
     ensures { Wrote out.old 0 (rules_page policy.now rules.now) out.new result }
 {
-    let l = load::load(policy);
-    let outcome = l.outcome;
-    match outcome {
-        Outcome::Refused { number, line } => page::refusal_page(
-            b"policy refused ",
-            policy,
-            number,
-            line,
-            out,
-        ),
-        Outcome::Accepted => {
-            let p = l.policy;
+    match load::load(policy) {
+        Err(r) => page::refusal_page(b"policy refused ", policy, r.number, r.line, out),
+        Ok(p) => {
             put_rules(p.tables, rules, out)
         }
     }

@@ -1,16 +1,11 @@
 -- The variants that hold nothing: the number of their word.
 use mathlib.Core.Path.{◌≡◌, sym, ap}
-use Rattle.model.specs.declared.Outcome.{Outcome}
-use Rattle.model.specs.declared.Outcome.TheVariants.{Accepted}
 use Rattle.apart.specs.declared.telling.Telling.{Telling}
 use Rattle.apart.specs.declared.telling.Telling.TheVariants.{Settled}
 use Rattle.grants.specs.declared.granting.Granting.{Granting}
 use Rattle.grants.specs.declared.granting.Granting.TheVariants.{Nothing}
-use Rattle.plain_replies.specs.Words.{accepted, settled, none}
-use Rattle.plain_replies.specs.Replies.{says, plain_outcome, plain_telling, plain_granting}
-
-pub tag_accepted : (o : Outcome) → o ≡ Accepted → says accepted 0 ≡ plain_outcome o
-tag_accepted o e = ap plain_outcome (sym e)
+use Rattle.plain_replies.specs.Words.{settled, none}
+use Rattle.plain_replies.specs.Replies.{says, plain_telling, plain_granting}
 
 pub tag_settled : (t : Telling) → t ≡ Settled → says settled 0 ≡ plain_telling t
 tag_settled t e = ap plain_telling (sym e)

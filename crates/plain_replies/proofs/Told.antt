@@ -5,8 +5,8 @@ use mathlib.Core.List.{[], ◌∷◌}
 use Prim.Native.Nat.{ℕ}
 use lib.Dec.{eqb}
 use lib.ListN.{get_or}
-use Rattle.model.specs.declared.Outcome.{Outcome}
-use Rattle.model.specs.declared.Outcome.TheVariants.{Accepted, Refused}
+use Rattle.std.specs.Prelude.{Result, Ok, Err}
+use Rattle.model.specs.declared.Refusal.{Refusal}
 use Rattle.sessions.specs.declared.replies.Reply.{Reply}
 use Rattle.sessions.specs.declared.replies.Reply.TheVariants.{Yes, No, Refused as NotDecided}
 use Rattle.label_lists.specs.declared.Listing.{Listing}
@@ -50,12 +50,12 @@ word_back apart = refl
 word_back none = refl
 word_back written = refl
 
-abbrev outcome : PlainReply → Outcome
-outcome r = either accepted Accepted (Refused r.number r.line) r
+abbrev outcome : PlainReply → Result (Unit {0}) Refusal
+outcome r = either accepted (Ok tt) (Err (record { number = r.number; line = r.line })) r
 
-outcome_back : (o : Outcome) → outcome (plain_outcome o) ≡ o
-outcome_back Accepted = refl
-outcome_back (Refused n k) = refl
+outcome_back : (o : Result (Unit {0}) Refusal) → outcome (plain_outcome o) ≡ o
+outcome_back (Ok u) = refl
+outcome_back (Err r) = refl
 
 abbrev reply : PlainReply → Reply
 reply r = either yes (Yes r.count) (either no (No r.count) (NotDecided r.number r.line) r) r

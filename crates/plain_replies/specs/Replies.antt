@@ -1,7 +1,6 @@
 -- The reply of each operation in numbers: its word's, its count, and a refusal's number and line.
-use Rattle.std.specs.Prelude.{ℕ}
-use Rattle.model.specs.declared.Outcome.{Outcome}
-use Rattle.model.specs.declared.Outcome.TheVariants.{Accepted, Refused}
+use Rattle.std.specs.Prelude.{ℕ, Result, Ok, Err}
+use Rattle.model.specs.declared.Refusal.{Refusal}
 use Rattle.sessions.specs.declared.replies.Reply.{Reply}
 use Rattle.sessions.specs.declared.replies.Reply.TheVariants.{Yes, No, Refused as NotDecided}
 use Rattle.label_lists.specs.declared.Listing.{Listing}
@@ -28,10 +27,10 @@ worded w n = record { word = w; count = n; number = 0; line = 0 }
 abbrev pub says : Word → ℕ → PlainReply
 says w n = worded (word_number w) n
 
--- of loading and of opening
-abbrev pub plain_outcome : Outcome → PlainReply
-plain_outcome Accepted = says accepted 0
-plain_outcome (Refused n k) = refusal n k
+-- of loading and of opening, whose policy and session stand beside the reply
+abbrev pub plain_outcome : Result (Unit {0}) Refusal → PlainReply
+plain_outcome (Ok u) = says accepted 0
+plain_outcome (Err r) = refusal r.number r.line
 
 -- of deciding, with the count of partitions still open
 abbrev pub plain_reply : Reply → PlainReply

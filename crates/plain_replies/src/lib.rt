@@ -11,7 +11,7 @@ use explanations::Explaining;
 use grants::Granting;
 use import::Imported;
 use label_lists::Listing;
-use model::Outcome;
+use model::Refusal;
 use sessions::Reply;
 
 // A number for each word of a reply.
@@ -67,13 +67,13 @@ fn counted(word: u64, count: u64) -> PlainReply
     }
 }
 
-// Of loading and of opening.
-pub fn of_outcome(o: Outcome) -> PlainReply
+// Of loading and of opening, whose policy and session stand beside the reply.
+pub fn of_outcome(o: Result<(), Refusal>) -> PlainReply
     ensures { result ≡ plain_outcome o }
 {
     match o {
-        Outcome::Accepted => counted(ACCEPTED, 0),
-        Outcome::Refused { number, line } => refused(number, line),
+        Ok(()) => counted(ACCEPTED, 0),
+        Err(r) => refused(r.number, r.line),
     }
 }
 

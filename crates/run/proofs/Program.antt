@@ -3,7 +3,7 @@ use mathlib.Core.Path.{◌≡◌, refl, sym, ap, subst, ◌∙◌}
 use mathlib.Core.List.{List, [], ◌∷◌, ◌++◌, map}
 use Prim.Native.Nat.{ℕ, suc}
 use Rattle.model.specs.declared.Policy.{Policy}
-use Rattle.model.specs.declared.Outcome.TheVariants.{Accepted}
+use Rattle.std.specs.Prelude.{Ok}
 use Rattle.policy_text.specs.Text.{load}
 use Rattle.policy_text.specs.Declared.{Declared}
 use Rattle.policy_text.specs.Text.{accepted as accepted_policy}
@@ -11,7 +11,6 @@ use Rattle.policy_text.specs.Policy.{policy_value}
 use Rattle.validity.specs.Loadable.{Loadable}
 use Rattle.load.specs.Value.{loading_value}
 use Rattle.sessions.specs.declared.opening.Session.{Session}
-use Rattle.sessions.specs.declared.opening.Opening.{Opening}
 use Rattle.sessions.specs.declared.replies.Decision.{Decision}
 use Rattle.sessions.specs.Opening.{all_open, Opened}
 use Rattle.sessions.specs.Deciding.{Verdict, decide_under, Gives}
@@ -57,39 +56,34 @@ called p l s k (t ∷ ts) =
 -- ---- the session
 
 -- what opening gives under what is declared
-opens : Declared → Opening
-opens d = record { outcome = Accepted; session = all_open d }
-
-opens_opened : {p : Policy} (l : Loadable p) → Opened p (opens l.declared)
-unfolding opens
-opens_opened l = record { turned = λ f. absurd (f l); opened = λ k. ap opens (declared_once l k) }
+opens : {p : Policy} (l : Loadable p) → Opened p (Ok (all_open l.declared))
+opens l = record { turned = λ f. absurd (f l); opened = λ k. ap (λ (d : Declared). Ok (all_open d)) (declared_once l k) }
 
 -- what demand 3 claims, of the calls under a text that declares d
-demanded : (text : List ℕ) (d : Declared) → load text ≡ accepted_policy d → (o : Opening) → Opened (policy_value d) o
-    → (cs : List Call) (s : Session) → Calls (policy_value d) o.session cs s → AsDemanded d cs s
+demanded : (text : List ℕ) (d : Declared) → load text ≡ accepted_policy d → (fresh : Session) → Opened (policy_value d) (Ok fresh)
+    → (cs : List Call) (s : Session) → Calls (policy_value d) fresh cs s → AsDemanded d cs s
 unfolding loading_value
-demanded text d e o opened cs s calls =
-    let (f, a, done) = demand_3 text (loading_value (accepted_policy d)) (ap loading_value (sym e)) refl o opened cs s calls in
+demanded text d e fresh opened cs s calls =
+    let (f, a, done) = demand_3 text (policy_value d) (ap loading_value (sym e)) fresh opened cs s calls in
     let loads : accepted_policy f ≡ accepted_policy d = sym a ∙ e in
     let same : f ≡ d = cc in
     subst (λ (g : Declared). AsDemanded g cs s) same done
 
 pub program : Program
-unfolding opens
 program policy queries =
     record {
       loaded = λ d e.
           let l : Loadable (policy_value d) = record { text = policy; declared = d; loads = e; value = refl } in
-          let c = called (policy_value d) l (opens d).session 1 (cut queries) in
+          let c = called (policy_value d) l (all_open d) 1 (cut queries) in
           record {
-            opening = opens d;
-            opened = opens_opened l;
+            fresh = all_open d;
+            opened = opens l;
             calls = c.calls;
             left = c.left;
             made = c.made;
             texts = c.texts_are;
             output = written_accepted policy queries d e ∙ ap (λ (x : List ℕ). output_names ++ 10 ∷ x) c.lines;
-            demanded = demanded policy d e (opens d) (opens_opened l) c.calls c.left c.made;
+            demanded = demanded policy d e (all_open d) (opens l) c.calls c.left c.made;
           };
       turned = written_refused policy queries;
     }

@@ -3,14 +3,14 @@ use mathlib.Core.Path.{◌≡◌, refl, sym, ap, ◌∙◌}
 use mathlib.Core.List.{List, [], ◌∷◌, ◌++◌, append_assoc}
 use Prim.Native.Nat.{ℕ}
 use native.Mathlib.Omega.{arith}
-use Rattle.model.specs.declared.Outcome.TheVariants.{Accepted, Refused}
+use Rattle.std.specs.Prelude.{Result, Ok}
+use Rattle.model.specs.declared.Policy.{Policy}
+use Rattle.model.specs.declared.Refusal.{Refusal}
 use Rattle.policy_text.specs.Text.{load}
 use Rattle.policy_text.specs.Declared.{Declared}
-use Rattle.policy_text.specs.Text.{Loading as TheLoading, refused as refused_policy, accepted as accepted_policy}
-use Rattle.policy_text.specs.Policy.{policy_value}
-use Rattle.policy_text.proofs.Loaded.{loaded_well_formed}
+use Rattle.policy_text.specs.Text.{refused as refused_policy, accepted as accepted_policy}
 use Rattle.load.specs.Value.{loading_value}
-use Rattle.load.specs.declared.Loading.{Loading}
+use Rattle.load.proofs.Accepted.{loaded_policy}
 use Rattle.labelling.specs.Text.{LoadedTo}
 use Rattle.sessions.specs.Reply.{refused}
 use Rattle.sessions.specs.Opening.{all_open}
@@ -20,30 +20,12 @@ use Rattle.cutting.specs.Cut.{cut}
 use Rattle.run.specs.Output.{output_names, output_line}
 use Rattle.run.specs.Run.{lines_from, under, written}
 
--- ---- how loading ended, by its outcome
+-- ---- how loading ended
 
-loads : (l : TheLoading) (v : Loading) → v ≡ loading_value l → v.outcome ≡ Accepted
-    → (d : Declared) × (l ≡ accepted_policy d) × (v.policy ≡ policy_value d)
-unfolding loading_value
-loads (refused_policy n k) v e h =
-    let same : Refused n k ≡ Accepted = sym (ap (λ (w : Loading). w.outcome) e) ∙ h in
-    let z : ◌≡◌ {A = ℕ} 0 1 = cc in
-    absurd (omega arith)
-loads (accepted_policy d) v e h = (d, refl, ap (λ (w : Loading). w.policy) e)
-
-pub loads_to : (text : List ℕ) (v : Loading) → v ≡ loading_value (load text) → v.outcome ≡ Accepted
-    → (d : Declared) × (load text ≡ accepted_policy d) × LoadedTo v.policy d
-loads_to text v e h =
-    let (d, a, p) = loads (load text) v e h in
-    (d, a, record { policy = p; good = loaded_well_formed text d a })
-
-pub loads_not : (l : TheLoading) (v : Loading) (n k : ℕ) → v ≡ loading_value l → v.outcome ≡ Refused n k → l ≡ refused_policy n k
-unfolding loading_value
-loads_not (refused_policy m j) v n k e o = let same : Refused m j ≡ Refused n k = sym (ap (λ (w : Loading). w.outcome) e) ∙ o in cc
-loads_not (accepted_policy d) v n k e o =
-    let same : Accepted ≡ Refused n k = sym (ap (λ (w : Loading). w.outcome) e) ∙ o in
-    let z : ◌≡◌ {A = ℕ} 0 1 = cc in
-    absurd (omega arith)
+pub loads_to : (text : List ℕ) (v : Result Policy Refusal) → v ≡ loading_value (load text) → (p : Policy) → v ≡ Ok p
+    → (d : Declared) × (load text ≡ accepted_policy d) × LoadedTo p d
+loads_to text v e p h =
+    let (d, a, is, good) = loaded_policy text v e p h in (d, a, record { policy = is; good = good })
 
 -- ---- the bytes under the names
 

@@ -1,12 +1,11 @@
 -- What the program writes, as replies of the desk: demand 3 holds of its output. The proof is `program : Program`
 -- (`proofs/Program.antt`).
-use Rattle.std.specs.Prelude.{◌≡◌, List, [], ◌∷◌, ◌++◌, map, ℕ, suc}
+use Rattle.std.specs.Prelude.{◌≡◌, Ok, List, [], ◌∷◌, ◌++◌, map, ℕ, suc}
 use Rattle.policy_text.specs.Text.{load}
 use Rattle.policy_text.specs.Declared.{Declared}
 use Rattle.policy_text.specs.Text.{refused as refused_policy, accepted as accepted_policy}
 use Rattle.policy_text.specs.Policy.{policy_value}
 use Rattle.sessions.specs.declared.opening.Session.{Session}
-use Rattle.sessions.specs.declared.opening.Opening.{Opening}
 use Rattle.sessions.specs.Reply.{said, refused}
 use Rattle.sessions.specs.Session.{open_count}
 use Rattle.sessions.specs.Opening.{Opened}
@@ -31,11 +30,11 @@ call_lines k (c ∷ cs) = call_line k c ++ call_lines (suc k) cs
 -- Under a policy that loads: deciding calls, one for each query of the input in its order, "decided in one session" from the one that
 -- opening gives, their replies the output, and what demand 3 claims of them.
 pub record Replies (policy queries : List ℕ) (d : Declared) : Type 0 where
-  pub opening : Opening
-  pub opened : Opened (policy_value d) opening
+  pub fresh : Session
+  pub opened : Opened (policy_value d) (Ok fresh)
   pub calls : List Call
   pub left : Session
-  pub made : Calls (policy_value d) opening.session calls left
+  pub made : Calls (policy_value d) fresh calls left
   pub texts : map (λ (c : Call). c.text) calls ≡ cut queries
   pub output : written policy queries ≡ output_names ++ 10 ∷ call_lines 1 calls
   pub demanded : AsDemanded d calls left

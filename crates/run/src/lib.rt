@@ -13,7 +13,7 @@ ghost use Rattle.run.specs.Writing.{LineWritten, ReplyWritten, AllWritten};
 
 use covering::Prepared;
 use desk::{Reply, Session};
-use model::{MOST_LINES, Outcome, ROW, Tables};
+use model::{MOST_LINES, ROW, Tables};
 pub use next::{NextDecision, decide_next};
 
 // The most bytes of queries, and room for the output of any such: a query text behind the first has the 12 bytes of its names line at
@@ -105,12 +105,9 @@ pub fn run(policy: &[u8], queries: &[u8], out: &mut [u8]) -> usize
     ensures upper_bound { result ≤ length out.new }
 {
     let at = writing::put_bytes(out, 0, b"query answer open refusal line\n");
-    let l = load::load(policy);
-    let outcome = l.outcome;
-    match outcome {
-        Outcome::Refused { number, line } => put_line(out, at, 0, b"refused", 0, number, line),
-        Outcome::Accepted => {
-            let p = l.policy;
+    match load::load(policy) {
+        Err(r) => put_line(out, at, 0, b"refused", 0, r.number, r.line),
+        Ok(p) => {
             let ready = covering::prepare_for_many(p);
             let tables = p.tables;
             let opened = desk::open_loaded(&ready);

@@ -5,7 +5,8 @@ use lib.ListN.{length}
 use Rattle.text.specs.Names.{bytes}
 use Rattle.policy_text.specs.Text.{load}
 use Rattle.writing.proofs.Wrote.{wrote_as}
-use Rattle.run.proofs.Written.{loads_to, loads_not}
+use Rattle.load.proofs.Accepted.{not_loaded}
+use Rattle.run.proofs.Written.{loads_to}
 use Rattle.page.specs.Sizes.{most_page}
 use Rattle.page.specs.Refusal.{policy_refused}
 use Rattle.page.proofs.Texts.{policy_shown}
@@ -14,17 +15,17 @@ use Rattle.mode_check.proofs.check_page.Goals as goal
 
 pub refusal_page-requires : goal.refusal_page-requires
 refusal_page-requires c =
-    let e = loads_not (load _) c.load-l.result _ _ c.load-l.ensures c.in-Refused.is in
+    let e = not_loaded _ c.load.result c.load.ensures _ c.in-Err.is in
     let room : most_page ≤ length c.args.out.now = c.requires in
     (omega arith, room, policy_shown _ _ _ e)
 
-pub returns-in-Refused : goal.returns-in-Refused
+pub returns-in-Err : goal.returns-in-Err
 unfolding policy_refused bytes
-returns-in-Refused c =
-    let e = loads_not (load _) c.load-l.result _ _ c.load-l.ensures c.in-Refused.is in
+returns-in-Err c =
+    let e = not_loaded _ c.load.result c.load.ensures _ c.in-Err.is in
     wrote_as (page_refused _ _ _ e) c.refusal_page.ensures
 
-pub returns-in-Accepted : goal.returns-in-Accepted
-returns-in-Accepted c =
-    let (d, e, l) = loads_to _ c.load-l.result c.load-l.ensures c.in-Accepted.is in
+pub returns-in-Ok : goal.returns-in-Ok
+returns-in-Ok c =
+    let (d, e, l) = loads_to _ c.load.result c.load.ensures _ c.in-Ok.is in
     wrote_as (page_accepted _ _ d e l.policy) c.put_counts.ensures

@@ -5,7 +5,7 @@ use borrow.Author.Rules.{rules}
 use lib.ListN.{length}
 use Rattle.text.specs.Names.{bytes}
 use Rattle.policy_text.specs.Text.{load}
-use Rattle.run.proofs.Written.{loads_not}
+use Rattle.load.proofs.Accepted.{not_loaded}
 use Rattle.mode_check.proofs.Loads.{loads_loadable}
 use Rattle.page.specs.Sizes.{most_page}
 use Rattle.page.specs.Refusal.{policy_refused}
@@ -15,22 +15,22 @@ use Rattle.mode_grant.proofs.grant_page.Goals as goal
 
 pub refusal_page-requires : goal.refusal_page-requires
 refusal_page-requires c =
-    let e = loads_not (load _) c.load-l.result _ _ c.load-l.ensures c.in-Refused.is in
+    let e = not_loaded _ c.load.result c.load.ensures _ c.in-Err.is in
     let room : most_page ≤ length c.args.out.now = c.requires in
     (omega arith, room, policy_shown _ _ _ e)
 
 pub grant_under-requires : goal.grant_under-requires
 grant_under-requires c =
-    ((loads_loadable _ c.load-l.result c.load-l.ensures c.in-Accepted.is).0, search rules)
+    ((loads_loadable _ c.load.result c.load.ensures _ c.in-Ok.is).0, search rules)
 
-pub returns-in-Refused : goal.returns-in-Refused
+pub returns-in-Err : goal.returns-in-Err
 unfolding policy_refused bytes
-returns-in-Refused c =
-    let e = loads_not (load _) c.load-l.result _ _ c.load-l.ensures c.in-Refused.is in
+returns-in-Err c =
+    let e = not_loaded _ c.load.result c.load.ensures _ c.in-Err.is in
     record { page = _; is_page = page_refused _ _ _ _ _ e; wrote = c.refusal_page.ensures }
 
-pub returns-in-Accepted : goal.returns-in-Accepted
-returns-in-Accepted c =
-    let (l, e) = loads_loadable _ c.load-l.result c.load-l.ensures c.in-Accepted.is in
+pub returns-in-Ok : goal.returns-in-Ok
+returns-in-Ok c =
+    let (l, e) = loads_loadable _ c.load.result c.load.ensures _ c.in-Ok.is in
     let w = c.grant_under.ensures l in
     record { page = w.page; is_page = page_accepted _ _ _ _ l.declared e w.is_page; wrote = w.wrote }

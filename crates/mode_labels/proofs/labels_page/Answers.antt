@@ -6,7 +6,7 @@ use lib.ListN.{length}
 use Rattle.text.specs.Names.{bytes}
 use Rattle.policy_text.specs.Text.{load}
 use Rattle.writing.proofs.Wrote.{wrote_as}
-use Rattle.run.proofs.Written.{loads_not}
+use Rattle.load.proofs.Accepted.{not_loaded}
 use Rattle.mode_check.proofs.Loads.{loads_loadable}
 use Rattle.page.specs.Sizes.{most_page}
 use Rattle.page.specs.Refusal.{policy_refused}
@@ -16,21 +16,21 @@ use Rattle.mode_labels.proofs.labels_page.Goals as goal
 
 pub refusal_page-requires : goal.refusal_page-requires
 refusal_page-requires c =
-    let e = loads_not (load _) c.load-l.result _ _ c.load-l.ensures c.in-Refused.is in
+    let e = not_loaded _ c.load.result c.load.ensures _ c.in-Err.is in
     let room : most_page ≤ length c.args.out.now = c.requires in
     (omega arith, room, policy_shown _ _ _ e)
 
 pub labels_under-requires : goal.labels_under-requires
 labels_under-requires c =
-    ((loads_loadable _ c.load-l.result c.load-l.ensures c.in-Accepted.is).0, search rules)
+    ((loads_loadable _ c.load.result c.load.ensures _ c.in-Ok.is).0, search rules)
 
-pub returns-in-Refused : goal.returns-in-Refused
+pub returns-in-Err : goal.returns-in-Err
 unfolding policy_refused bytes
-returns-in-Refused c =
-    let e = loads_not (load _) c.load-l.result _ _ c.load-l.ensures c.in-Refused.is in
+returns-in-Err c =
+    let e = not_loaded _ c.load.result c.load.ensures _ c.in-Err.is in
     wrote_as (page_refused _ _ _ _ e) c.refusal_page.ensures
 
-pub returns-in-Accepted : goal.returns-in-Accepted
-returns-in-Accepted c =
-    let (l, e) = loads_loadable _ c.load-l.result c.load-l.ensures c.in-Accepted.is in
+pub returns-in-Ok : goal.returns-in-Ok
+returns-in-Ok c =
+    let (l, e) = loads_loadable _ c.load.result c.load.ensures _ c.in-Ok.is in
     wrote_as (page_accepted _ _ l.declared e) (c.labels_under.ensures l)
