@@ -17,7 +17,6 @@ fn check_again(p: Policy, times: u64) -> u64 {
 // How often the policy of a text was found valid in so many checks; a text that is turned back has the empty policy.
 #[unsafe(no_mangle)]
 pub extern "C" fn measure_check(policy: &[u8], times: u64) -> u64 {
-    let r = load::load(policy);
-    let p = r.policy;
+    let p = load::load(policy).unwrap_or(load::empty_policy());
     check_again(p, times)
 }

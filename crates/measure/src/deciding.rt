@@ -5,7 +5,7 @@ ghost use Rattle.labelling.specs.Text.{SomePolicy};
 
 use covering::Prepared;
 use desk::Reply;
-use model::{Outcome, Policy, Tables};
+use model::{Policy, Tables};
 
 // A number for each reply: its count for a yes, 100 and its count for a no, and for a refusal 1,000 and its number.
 fn number_of(r: Reply) -> u64 {
@@ -42,13 +42,8 @@ fn prepare_and_decide(p: Policy, text: &[u8], times: u64) -> u64
 // The text decided so many times under the policy of a text, as a run over a file does: the policy is known to be loaded.
 #[unsafe(no_mangle)]
 pub extern "C" fn measure_decide(policy: &[u8], query: &[u8], times: u64) -> u64 {
-    let r = load::load(policy);
-    let outcome = r.outcome;
-    match outcome {
-        Outcome::Accepted => {
-            let p = r.policy;
-            prepare_and_decide(p, query, times)
-        }
-        Outcome::Refused { .. } => 0,
+    match load::load(policy) {
+        Ok(p) => prepare_and_decide(p, query, times),
+        Err(_) => 0,
     }
 }

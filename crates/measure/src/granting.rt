@@ -1,7 +1,7 @@
 // The smallest extra grant asked for again and again.
 
 use grants::Granting;
-use model::{MOST_LINES, Outcome, Policy};
+use model::{MOST_LINES, Policy};
 
 // A number for each reply: 1 and its count for a list, 100 for `none`, and for a refusal 1,000 and its number.
 fn number_of(r: Granting) -> u64 {
@@ -39,13 +39,8 @@ fn grant_again(p: Policy, n: u64, text: &[u8], times: u64) -> u64 {
 // given modulo 2^64. The policy is read once.
 #[unsafe(no_mangle)]
 pub extern "C" fn measure_grant(policy: &[u8], n: u64, query: &[u8], times: u64) -> u64 {
-    let r = load::load(policy);
-    let outcome = r.outcome;
-    match outcome {
-        Outcome::Accepted => {
-            let p = r.policy;
-            grant_again(p, n, query, times)
-        }
-        Outcome::Refused { .. } => 0,
+    match load::load(policy) {
+        Ok(p) => grant_again(p, n, query, times),
+        Err(_) => 0,
     }
 }

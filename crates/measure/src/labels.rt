@@ -5,7 +5,7 @@ ghost use Rattle.labelling.specs.Text.{SomePolicy};
 
 use covering::Prepared;
 use labelling::Labels;
-use model::{MOST_LINES, Outcome, Policy, Query};
+use model::{MOST_LINES, Policy, Query};
 
 fn sum_of(l: Labels) -> u64 {
     let w = l.words;
@@ -36,14 +36,9 @@ fn read_and_label(p: Policy, query: &[u8], times: u64) -> u64
 {
     let ready = covering::prepare_for_many(p);
     let tables = p.tables;
-    let r = query_text::read_query(tables, query);
-    let outcome = r.outcome;
-    match outcome {
-        Outcome::Accepted => {
-            let q = r.query;
-            label_again(&ready, q, times)
-        }
-        Outcome::Refused { .. } => 0,
+    match query_text::read_query(tables, query) {
+        Ok(q) => label_again(&ready, q, times),
+        Err(_) => 0,
     }
 }
 
@@ -51,13 +46,8 @@ fn read_and_label(p: Policy, query: &[u8], times: u64) -> u64
 // query are read once.
 #[unsafe(no_mangle)]
 pub extern "C" fn measure_label(policy: &[u8], query: &[u8], times: u64) -> u64 {
-    let r = load::load(policy);
-    let outcome = r.outcome;
-    match outcome {
-        Outcome::Accepted => {
-            let p = r.policy;
-            read_and_label(p, query, times)
-        }
-        Outcome::Refused { .. } => 0,
+    match load::load(policy) {
+        Ok(p) => read_and_label(p, query, times),
+        Err(_) => 0,
     }
 }

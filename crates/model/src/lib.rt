@@ -87,13 +87,6 @@ pub struct Refusal {
     pub line: u64,
 }
 
-// How reading a text ends.
-#[derive(Clone, Copy)]
-pub enum Outcome {
-    Accepted,
-    Refused { number: u64, line: u64 },
-}
-
 // What a field says where a term is wanted.
 #[derive(Clone, Copy)]
 pub enum Field {

@@ -3,25 +3,18 @@
 
 #![tactic(auto)]
 
-use model::Outcome;
-
 fn main(rt: HostRuntime) {
     let mut policy = files::policy_room();
     let policy_bytes = files::read_file(&rt, b"policy.txt", &mut policy);
     let mut rules = io::large_buffer();
     let rule_bytes = io::read_full(0, &mut rules);
-    let r = load::load(&policy[..policy_bytes]);
-    let outcome = r.outcome;
-    match outcome {
-        Outcome::Accepted => {
-            let p = r.policy;
-            rule_file::translate(p.tables, &rules[..rule_bytes], 1, 2);
-        }
-        Outcome::Refused { number, line } => {
+    match load::load(&policy[..policy_bytes]) {
+        Ok(p) => rule_file::translate(p.tables, &rules[..rule_bytes], 1, 2),
+        Err(r) => {
             io::write_all(1, b"policy refused ");
-            io::print_decimal(1, number);
+            io::print_decimal(1, r.number);
             io::write_all(1, b" ");
-            io::print_decimal(1, line);
+            io::print_decimal(1, r.line);
             io::write_all(1, b"\n");
         }
     }

@@ -5,24 +5,22 @@ use model::Policy;
 // A table of two columns. Partition 1 grants a view whose columns are one hidden variable, partition 2 two views that hide the second
 // column, partition 3 these and one that hides both.
 pub fn hiding() -> Policy {
-    let r = load::load(
+    load::load(
         b"table columns\n1 2\nview table terms\n1 1 ?1 ?1\n2 1 !1 ?2\n3 1 !5 ?6\n4 1 ?1 ?2\npartition views\n1 1\n2 2 3\n3 2 3 4\n",
-    );
-    r.policy
+    ).unwrap_or(load::empty_policy())
 }
 
 // Views with the constants 0, 71, 72 and 215: the first and the last number of a block of 72, the first of the next, and the last of the
 // third.
 pub fn constants() -> Policy {
-    let r = load::load(
+    load::load(
         b"table columns\n1 2\nview table terms\n1 1 #0 !1\n2 1 #71 !1\n3 1 #72 !1\n4 1 #215 !1\n5 1 !1 #7\npartition views\n1 1 2 3 4 5\n",
-    );
-    r.policy
+    ).unwrap_or(load::empty_policy())
 }
 
 // The constants 0 to 127, eight in each of 16 views; and 2 ^ 64 - 72 and 2 ^ 64 - 1, each in a view that hides the second column.
 pub fn long_constants() -> Policy {
-    let r = load::load(
+    load::load(
         b"table columns\n1 8\nview table terms
 1 1 #0 #1 #2 #3 #4 #5 #6 #7\n2 1 #8 #9 #10 #11 #12 #13 #14 #15
 3 1 #16 #17 #18 #19 #20 #21 #22 #23\n4 1 #24 #25 #26 #27 #28 #29 #30 #31
@@ -35,13 +33,12 @@ pub fn long_constants() -> Policy {
 17 1 #18446744073709551544 ?1 !2 !3 !4 !5 !6 !7
 18 1 #18446744073709551615 ?1 !2 !3 !4 !5 !6 !7
 partition views\n1 1 2 3 4 5 6 7 8 9 10 11 12 13 14 15 16 17 18\n",
-    );
-    r.policy
+    ).unwrap_or(load::empty_policy())
 }
 
 // View k hides the columns at the bits of k, column 1 at bit 0; the partition grants all 32.
 pub fn forty() -> Policy {
-    let r = load::load(
+    load::load(
         b"table columns\n1 8\n2 1\nview table terms
 1 1 ?0 !1 !2 !3 !4 !5 !6 !7\n2 1 !0 ?1 !2 !3 !4 !5 !6 !7\n3 1 ?0 ?1 !2 !3 !4 !5 !6 !7\n4 1 !0 !1 ?2 !3 !4 !5 !6 !7
 5 1 ?0 !1 ?2 !3 !4 !5 !6 !7\n6 1 !0 ?1 ?2 !3 !4 !5 !6 !7\n7 1 ?0 ?1 ?2 !3 !4 !5 !6 !7\n8 1 !0 !1 !2 ?3 !4 !5 !6 !7
@@ -52,6 +49,5 @@ pub fn forty() -> Policy {
 25 1 ?0 !1 !2 ?3 ?4 !5 !6 !7\n26 1 !0 ?1 !2 ?3 ?4 !5 !6 !7\n27 1 ?0 ?1 !2 ?3 ?4 !5 !6 !7\n28 1 !0 !1 ?2 ?3 ?4 !5 !6 !7
 29 1 ?0 !1 ?2 ?3 ?4 !5 !6 !7\n30 1 !0 ?1 ?2 ?3 ?4 !5 !6 !7\n31 1 ?0 ?1 ?2 ?3 ?4 !5 !6 !7\n32 1 !0 !1 !2 !3 !4 ?5 !6 !7
 partition views\n1 1 2 3 4 5 6 7 8 9 10 11 12 13 14 15 16 17 18 19 20 21 22 23 24 25 26 27 28 29 30 31 32\n",
-    );
-    r.policy
+    ).unwrap_or(load::empty_policy())
 }

@@ -44,18 +44,17 @@ pub fn policy(first: u64, second: u64) -> Policy {
     put_line(&mut text, 49, second);
     let end = 72 + 2 * (lines(first) + lines(second));
     text[end] = b'\n';
-    let r = load::load(&text[..end + 1]);
-    r.policy
+    load::load(&text[..end + 1]).unwrap_or(load::empty_policy())
 }
 
 // The policy of every view of the table, up to the numbers of its variables.
 pub fn every_view() -> Policy {
-    let r = load::load(
+    load::load(
         b"table columns\n1 2\nview table terms\n1 1 !1 !2\n2 1 !1 !1\n3 1 !1 ?3\n4 1 ?3 !1\n5 1 ?3 ?3\n6 1 ?3 ?4\n7 1 !1 #0
 8 1 #0 !1\n9 1 !1 #1\n10 1 #1 !1\n11 1 ?3 #0\n12 1 #0 ?3\n13 1 ?3 #1\n14 1 #1 ?3\n15 1 #0 #0\n16 1 #0 #1\n17 1 #1 #0
 18 1 #1 #1\npartition views\n1\n",
-    );
-    r.policy
+    )
+    .unwrap_or(load::empty_policy())
 }
 
 pub fn line_count(q: Query) -> usize

@@ -80,6 +80,5 @@ pub fn policy(granted: u64) -> Policy {
         i += 1;
     }
     text[end] = b'\n';
-    let r = load::load(&text[..end + 1]);
-    r.policy
+    load::load(&text[..end + 1]).unwrap_or(load::empty_policy())
 }

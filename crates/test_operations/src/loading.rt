@@ -6,8 +6,7 @@ use crate::policies::{
 };
 use crate::values;
 use model::{
-    CONSTANT, HIDDEN, Line, MOST_COLUMNS, MOST_TABLES, MOST_VIEWS, Outcome, Policy, SHOWN, Tables,
-    Term,
+    CONSTANT, HIDDEN, Line, MOST_COLUMNS, MOST_TABLES, MOST_VIEWS, Policy, Refusal, SHOWN, Tables, Term,
 };
 use test_expect::Said;
 
@@ -30,19 +29,18 @@ fn empty() -> Policy {
 }
 
 // A text that is taken has no count in its reply.
-fn told(o: Outcome) -> Said {
+fn told(o: Result<Policy, Refusal>) -> Said {
     match o {
-        Outcome::Accepted => test_expect::given(0),
-        Outcome::Refused { number, line } => test_expect::refused(number, line),
+        Ok(_) => test_expect::given(0),
+        Err(r) => test_expect::refused(r.number, r.line),
     }
 }
 
 fn case(n: u64, text: &[u8], said: Said, policy: Policy) -> u64 {
     let at = test_expect::counted(n);
     let r = load::load(text);
-    let outcome = r.outcome;
-    let loaded = r.policy;
-    let got = told(outcome);
+    let got = told(r);
+    let loaded = r.unwrap_or(load::empty_policy());
     if !test_expect::same(got, said) || !values::same(loaded, policy) {
         test_expect::print_case(at, got);
         io::write_all(1, b", or loaded another policy\n");

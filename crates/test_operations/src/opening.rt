@@ -4,23 +4,23 @@ use crate::policies::{
     with_columns, with_grants, with_partition_count, with_table_count, with_term, with_view_count,
     with_view_table,
 };
-use model::{Outcome, Policy};
+use desk::Session;
+use model::{Policy, Refusal};
 use test_expect::Said;
 
 // A session that is opened has no count in its reply.
-fn told(o: Outcome) -> Said {
+fn told(o: Result<Session, Refusal>) -> Said {
     match o {
-        Outcome::Accepted => test_expect::given(0),
-        Outcome::Refused { number, line } => test_expect::refused(number, line),
+        Ok(_) => test_expect::given(0),
+        Err(r) => test_expect::refused(r.number, r.line),
     }
 }
 
 fn case(n: u64, p: Policy, expected: Said, mask: u64) -> u64 {
     let at = test_expect::counted(n);
     let o = desk::open_session(p);
-    let outcome = o.outcome;
-    let session = o.session;
-    let got = told(outcome);
+    let got = told(o);
+    let session = o.unwrap_or(Session { mask: 0 });
     if !test_expect::same(got, expected) || session.mask != mask {
         test_expect::print_case(at, got);
         io::write_all(1, b", open ");

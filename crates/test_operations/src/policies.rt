@@ -8,32 +8,29 @@ use model::{Policy, Term};
 // Three views of a table of three columns: one with its first two columns equal, one with the last two hidden and equal, and one
 // with these hidden. Partition n grants view n.
 fn equal_columns() -> Policy {
-    let r = load::load(
+    load::load(
         b"table columns\n1 3\nview table terms\n1 1 !1 !1 !2\n2 1 !1 ?2 ?2\n3 1 !1 ?2 ?3\npartition views\n1 1\n2 2\n3 3\n",
-    );
-    r.policy
+    ).unwrap_or(load::empty_policy())
 }
 
 // Two views of a table of two columns, each with a constant past 32 bits. Partition n grants view n.
 fn long_constants() -> Policy {
-    let r = load::load(
+    load::load(
         b"table columns\n1 2\nview table terms\n1 1 !1 #18446744073709551615\n2 1 !1 #4294967296\npartition views\n1 1\n2 2\n",
-    );
-    r.policy
+    ).unwrap_or(load::empty_policy())
 }
 
 // Two tables of one column, and one view: all rows of the first.
 fn single() -> Policy {
-    let r = load::load(
+    load::load(
         b"table columns\n1 1\n2 1\nview table terms\n1 1 !1\npartition views\n1 1\n",
-    );
-    r.policy
+    ).unwrap_or(load::empty_policy())
 }
 
 // Two tables of one column and 32 views of the first: its rows with 1, with 2 and so on up to 31, and all rows. Partition n grants
 // view n.
 pub fn widest() -> Policy {
-    let r = load::load(
+    load::load(
         b"table columns\n1 1\n2 1\nview table terms\n1 1 #1\n2 1 #2\n3 1 #3\n4 1 #4\n5 1 #5\n6 1 #6\n7 1 #7\n8 1 #8\n9 1 #9
 10 1 #10\n11 1 #11\n12 1 #12\n13 1 #13\n14 1 #14\n15 1 #15\n16 1 #16\n17 1 #17\n18 1 #18\n19 1 #19\n20 1 #20
 21 1 #21\n22 1 #22\n23 1 #23\n24 1 #24\n25 1 #25\n26 1 #26\n27 1 #27\n28 1 #28\n29 1 #29\n30 1 #30\n31 1 #31
@@ -41,8 +38,7 @@ pub fn widest() -> Policy {
 partition views\n1 1\n2 2\n3 3\n4 4\n5 5\n6 6\n7 7\n8 8\n9 9\n10 10\n11 11\n12 12\n13 13\n14 14\n15 15\n16 16
 17 17\n18 18\n19 19\n20 20\n21 21\n22 22\n23 23\n24 24\n25 25\n26 26\n27 27\n28 28\n29 29\n30 30\n31 31\n32 32
 ",
-    );
-    r.policy
+    ).unwrap_or(load::empty_policy())
 }
 
 pub fn policy(number: u64) -> Policy {

@@ -1,6 +1,6 @@
 // A text read, and what is said of it compared with what document 01 lays down.
 
-use model::{Outcome, Tables};
+use model::{Refusal, Tables};
 
 // What a text is read as.
 #[derive(Clone, Copy)]
@@ -16,10 +16,10 @@ struct Said {
     line: u64,
 }
 
-fn reply(o: Outcome) -> Said {
-    match o {
-        Outcome::Accepted => Said { number: 0, line: 0 },
-        Outcome::Refused { number, line } => Said { number, line },
+fn told<T: Drop>(reply: Result<T, Refusal>) -> Said {
+    match reply {
+        Ok(_) => Said { number: 0, line: 0 },
+        Err(Refusal { number, line }) => Said { number, line },
     }
 }
 
@@ -34,15 +34,11 @@ fn tables() -> Tables {
 }
 
 fn query(text: &[u8]) -> Said {
-    let r = query_text::read_query(tables(), text);
-    let o = r.outcome;
-    reply(o)
+    told(query_text::read_query(tables(), text))
 }
 
 fn policy(text: &[u8]) -> Said {
-    let r = load::load(text);
-    let o = r.outcome;
-    reply(o)
+    told(load::load(text))
 }
 
 // One case more: the text is turned back by this number at this line, or taken where both are 0.

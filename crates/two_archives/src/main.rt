@@ -12,7 +12,7 @@ mod values;
 ghost use Rattle.std.specs.Prelude.{◌≤◌, length};
 
 use apart::Telling;
-use model::{Outcome, Policy};
+use model::Policy;
 use std::rt::Env;
 use text::Numeral;
 
@@ -29,8 +29,7 @@ fn print_refusal(number: u64, line: u64) {
 fn print_apart(p: Policy, n: u64, text: &[u8], rows: &[u64])
     requires { 9 ≤ length rows.now }
 {
-    let r = query_text::read_query(p.tables, text);
-    let q = r.query;
+    let q = query_text::read_query(p.tables, text).unwrap_or(query_text::no_query());
     if model::MOST_LINES < q.count {
         return;
     }
@@ -87,13 +86,11 @@ fn main(rt: HostRuntime) {
     let policy_bytes = files::read_file(&rt, b"policy.txt", &mut policy);
     let mut query = io::large_buffer();
     let query_bytes = io::read_full(0, &mut query);
-    let r = load::load(&policy[..policy_bytes]);
-    let outcome = r.outcome;
-    match outcome {
-        Outcome::Accepted => print_partitions(&rt, r.policy, &query[..query_bytes]),
-        Outcome::Refused { number, line } => {
+    match load::load(&policy[..policy_bytes]) {
+        Ok(p) => print_partitions(&rt, p, &query[..query_bytes]),
+        Err(r) => {
             io::write_all(1, b"policy ");
-            print_refusal(number, line);
+            print_refusal(r.number, r.line);
         }
     }
 }

@@ -126,8 +126,7 @@ fn some_view_loses(p: Policy, n: u64, rows: &[u64]) -> bool
 pub fn tells_apart(p: Policy, n: u64, text: &[u8], rows: &[u64]) -> bool
     requires { 9 ≤ length rows.now }
 {
-    let r = query_text::read_query(p.tables, text);
-    let q = r.query;
+    let q = query_text::read_query(p.tables, text).unwrap_or(query_text::no_query());
     if MOST_LINES < q.count {
         return false;
     }

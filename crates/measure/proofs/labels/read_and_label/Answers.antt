@@ -9,7 +9,6 @@ prepare_for_many-ready-requires c = let (d, l) = c.requires in counted l
 
 pub label_again-requires : goal.label_again-requires
 label_again-requires c =
-    let read = c.read_query-r in
     let (d, l) = c.requires in
-    let (Q, e, o, q) = read_accepted (read_text d.widths _) read.result (read.ensures d.widths (tables_of l)) c.in-Accepted.is in
+    let (Q, e, q) = read_accepted (read_text d.widths _) _ (c.read_query.ensures d.widths (tables_of l)) _ c.in-Ok.is in
     (d, _, Q, ready l c.prepare_for_many-ready.ensures, posed d _ Q l.good e q)
