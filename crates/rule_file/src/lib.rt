@@ -2,8 +2,6 @@
 
 #![tactic(auto)]
 
-ghost use Rattle.std.specs.Prelude.{◌≤◌, length};
-
 use import::Imported;
 use model::Tables;
 
@@ -30,27 +28,11 @@ fn translate_line(tables: Tables, rule: u64, text: &[u8], queries: i32, refused:
     }
 }
 
-// How many bytes the first line of a text has, its end with it.
-fn line_length(rest: &[u8]) -> usize
-    requires { 1 ≤ length rest.now }
-    ensures { (1 ≤ result) × (result ≤ length rest.now) }
-{
-    let n = text::first(rest, b'\n');
-    if n < rest.len() {
-        return n + 1;
-    }
-    n
-}
-
 // The rules in their order, under the tables of a policy that was checked before.
 pub fn translate(tables: Tables, rules: &[u8], queries: i32, refused: i32) {
     let mut rule = 1;
-    let mut at = 0;
-    while at < rules.len() {
-        let rest = &rules[at..];
-        let n = line_length(rest);
-        translate_line(tables, rule, &rest[..n], queries, refused);
+    for line in rules.split_inclusive(|b| *b == b'\n') {
+        translate_line(tables, rule, line, queries, refused);
         rule += 1;
-        at = at + n;
     }
 }

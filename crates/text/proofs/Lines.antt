@@ -1,5 +1,5 @@
 -- Lines and fields go by the first byte that parts them: the place of that byte, and the pieces before and after it.
-use mathlib.Core.Path.{◌≡◌, refl, ap, ◌∙◌}
+use mathlib.Core.Path.{◌≡◌, refl, sym, ap, ◌∙◌}
 use mathlib.Core.Bool.{Bool, true, false, cond}
 use mathlib.Core.List.Memᴰ
 use mathlib.Core.List.{List, [], ◌∷◌, ◌++◌}
@@ -11,6 +11,9 @@ use lib.Dec.{eqb}
 use lib.ListN.{length, get_or, take, drop, drop_of_length-le}
 use lib.Seq.{drop-cons}
 use borrow.Author.Tests.{eq-eqb, ne_eqb}
+use Rattle.std.specs.List.{position_or_len}
+use Rattle.std.proofs.lemmas.List.Recursion.{is_position_or_len}
+use Rattle.std.proofs.lemmas.List.Sums.{position_or_len_is}
 use Rattle.text.specs.Lines.{Split, push, split, parts, before}
 use Rattle.text.proofs.Each.{Each}
 
@@ -38,6 +41,15 @@ before_here b x l e = ap (λ (t : Bool). cond t 0 (suc (before b l))) (eq-eqb x 
 before_there : (b x : ℕ) (l : List ℕ) → (x ≡ b → ⊥) → before b (x ∷ l) ≡ suc (before b l)
 unfolding before
 before_there b x l n = ap (λ (t : Bool). cond t 0 (suc (before b l))) (ne_eqb x b n)
+
+-- what a search answers: none before place i is b, and the one there is
+pub before_at : {b i : ℕ} (l : List ℕ) → i ≤ length l → ((k : ℕ) → k < i → get_or l k 0 ≡ b → ⊥) → (i < length l → get_or l i 0 ≡ b)
+    → i ≡ before b l
+unfolding before
+before_at {b} {i} l h n e =
+    let is : (m : List ℕ) → before b m ≡ position_or_len (λ x. eqb x b) m
+    = is_position_or_len (before b) (λ x. eqb x b) refl (λ x m. let s : suc (before b m) ≡ 1 + before b m = omega arith in ap (cond (eqb x b) 0) s) in
+    sym (is l ∙ position_or_len_is (λ x. eqb x b) l i 0 h (λ k lt. ne_eqb (get_or l k 0) b (n k lt)) (λ lt. eq-eqb (get_or l i 0) b (e lt)))
 
 -- a search for b in l has passed i bytes
 pub record Passed (b : ℕ) (l : List ℕ) (i : ℕ) : Type 0 where

@@ -56,14 +56,7 @@ pub struct Cursor {
 pub fn first(s: &[u8], b: u8) -> usize
     ensures { result ≡ before b s.now }
 {
-    let mut i = 0;
-    while i < s.len() {
-        if s[i] == b {
-            return i;
-        }
-        i += 1;
-    }
-    i
+    s.iter().position(|x| *x == b).unwrap_or(s.len())
 }
 
 // A reader's work, on its two parts.
@@ -113,20 +106,17 @@ pub fn digit(b: u8) -> u64
     ensures lower_bound { b < 48 → 9 < result }
     ensures value { 48 ≤ b → result ≡ b - 48 }
 {
-    if b < 48 {
+    if b < b'0' {
         return 10;
     }
-    (b - 48) as u64
+    u64::from(b - b'0')
 }
 
 // Whether the first byte is `0` and others follow.
 fn leading_zero(field: &[u8]) -> bool
     ensures { 0 < length field.now → not result ≡ leads field.now }
 {
-    if field.len() < 2 {
-        return false;
-    }
-    field[0] == 48
+    1 < field.len() && field[0] == b'0'
 }
 
 // A number with one digit more behind it, or `Large` where that is past the limit.
@@ -145,25 +135,17 @@ pub fn read_numeral(field: &[u8]) -> Numeral
     ensures { result ≡ numeral_value field.now }
 {
     let n = field.len();
-    if n == 0 {
-        return Numeral::Malformed;
-    }
-    if MOST_DIGITS < n {
-        return Numeral::Malformed;
-    }
-    if leading_zero(field) {
+    if n == 0 || MOST_DIGITS < n || leading_zero(field) {
         return Numeral::Malformed;
     }
     let last = n - 1;
-    let mut value: u64 = 0;
-    let mut i = 0;
-    while i < last {
-        let d = digit(field[i]);
+    let mut value = 0;
+    for b in &field[..last] {
+        let d = digit(*b);
         if 9 < d {
             return Numeral::Malformed;
         }
         value = value * 10 + d;
-        i += 1;
     }
     let d = digit(field[last]);
     if 9 < d {

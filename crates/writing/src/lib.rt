@@ -20,12 +20,8 @@ pub fn put_bytes(out: &mut [u8], at: usize, bytes: &[u8]) -> usize
     requires { at + length bytes.now ≤ length out.old }
     ensures { Wrote out.old at bytes.now out.new result }
 {
-    let mut i = 0;
-    let mut to = at;
-    while i < bytes.len() {
-        to = put_byte(out, to, bytes[i]);
-        i += 1;
-    }
+    let to = at + bytes.len();
+    out[at..to].copy_from_slice(bytes);
     to
 }
 
@@ -35,10 +31,10 @@ fn put_decimal(out: &mut [u8], at: usize, n: u64) -> usize
     ensures { Wrote out.old at (decimal n) out.new result }
 {
     if n < 10 {
-        return put_byte(out, at, 48 + n as u8);
+        return put_byte(out, at, b'0' + n as u8);
     }
     let to = put_decimal(out, at, n / 10);
-    put_byte(out, to, 48 + (n % 10) as u8)
+    put_byte(out, to, b'0' + (n % 10) as u8)
 }
 
 // The same; most numbers have one digit, and need no function that calls itself.
@@ -47,7 +43,7 @@ pub fn put_number(out: &mut [u8], at: usize, n: u64) -> usize
     ensures { Wrote out.old at (decimal n) out.new result }
 {
     if n < 10 {
-        return put_byte(out, at, 48 + n as u8);
+        return put_byte(out, at, b'0' + n as u8);
     }
     put_decimal(out, at, n)
 }

@@ -1,10 +1,9 @@
--- `translate` ends: each line has a byte, so that `at` comes nearer to the end and no more rules are counted than bytes passed.
-use Prim.Native.Nat.{◌+◌, ◌-◌, ◌≤◌}
-use lib.ListN.{length}
+-- Each line has a byte, so that no more rules are counted than bytes passed.
+use Rattle.std.proofs.Common.{◌+◌, ◌≤◌, length}
+use Rattle.std.specs.Slice.Iter.{split_inclusive_rest}
 use Rattle.rule_file.proofs.translate.Given as goal
 
-abbrev pub invariant-loop-at : goal.invariant-loop-at
-invariant-loop-at l = (l.at ≤ length l.rules) × (l.rule ≤ l.at + 1)
-
-abbrev pub decreases-loop-at : goal.decreases-loop-at
-decreases-loop-at l = length l.rules - l.at
+abbrev pub invariant-loop-line : goal.invariant-loop-line
+invariant-loop-line l =
+    (goal.iterator-loop-line).can_next l.line-iterator × (goal.iterator-loop-line).is_finite l.line-iterator
+    × (l.rule + length (split_inclusive_rest l.line-iterator) ≤ length l.rules + 1)

@@ -1,12 +1,7 @@
--- The loop's invariant: what stands from a place on decides.
-use mathlib.Core.Path.{◌≡◌}
-use Prim.Native.Nat.{◌-◌, ◌≤◌}
-use lib.ListN.{length, drop}
+-- The loop's invariant: what stands behind the words compared decides.
+use Rattle.std.proofs.Common.{◌≡◌, ◌*◌, drop}
 use Rattle.text.specs.Lines.{same_bytes}
 use Rattle.text.proofs.comparing.same.Given as goal
 
-abbrev pub invariant-loop-at : goal.invariant-loop-at
-invariant-loop-at l = (l.at ≤ length l.a) × (same_bytes (drop l.at l.a) (drop l.at l.b) ≡ same_bytes l.a l.b)
-
-abbrev pub decreases-loop-at : goal.decreases-loop-at
-decreases-loop-at l = length l.a - l.at
+abbrev pub invariant-loop-k : goal.invariant-loop-k
+invariant-loop-k l = same_bytes (drop (l.k * 8) l.a) (drop (l.k * 8) l.b) ≡ same_bytes l.a l.b
