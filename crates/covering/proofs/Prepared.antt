@@ -8,6 +8,9 @@ use native.Mathlib.Omega.{arith}
 use borrow.Author.Tests.{eq-eqb, ne_eqb}
 use lib.Dec.{eqb}
 use lib.ListN.{length, get_or, set, length-set}
+use borrow.Author.Rules.{rules}
+use borrow.Rule.Slice.PartMut.{put_mid}
+use Rattle.std.proofs.lemmas.List.{places}
 use lib.Seq.{get_or-set_same, get_or-set_other}
 use Rattle.theory.proofs.Lists.{place_below}
 use Rattle.words.specs.Sets.{set_bit}
@@ -19,7 +22,7 @@ use Rattle.model.specs.declared.Line.{Line}
 use Rattle.model.specs.declared.Policy.{Policy}
 use Rattle.model.proofs.Pad.{pad_length, pad_get}
 use Rattle.model.proofs.LaidTerms.{RowsTo, same_term_lem, row_kept, rows_none, rows_more}
-use Rattle.covering.specs.Prepared.{table_words, grant_words, every_word, width_words, free_words, prepared_long, table_word, grant_word, table_width, free_word}
+use Rattle.covering.specs.Prepared.{table_words, grant_words, every_word, width_words, free_words, prepared_long, table_word, grant_word, free_word}
 use Rattle.covering.specs.Prepared.{Prepared, ViewEntered, WidthsEntered, FreeFound}
 use Rattle.covering.specs.Free.{FreeColumns}
 use Rattle.covering.proofs.Columns.{free_none}
@@ -141,39 +144,28 @@ module _ (p : Policy) where
           free = λ j h. subst (FreeColumns r' j) (sym (none (free_words + j) (omega arith))) free_none;
         }
 
--- ---- the columns, one by one
+-- ---- the columns, between what is before them and what is behind them
 
-pub record WidthsTo (columns : List ℕ) (k : ℕ) (before after : List ℕ) : Type 0 where
-  pub long : length after ≡ length before
-  pub kept : (i : ℕ) → i < width_words → get_or after i 0 ≡ get_or before i 0
-  pub behind : (i : ℕ) → free_words ≤ i → get_or after i 0 ≡ get_or before i 0
-  pub width : (t : ℕ) → t < k → table_width after (1 + t) ≡ get_or columns t 0
+put_length : (a k : ℕ) (xs ys : List ℕ) → length ys ≡ k → a + k ≤ length xs → length (put_mid a k xs ys) ≡ length xs
+put_length a k xs ys e room = search (rules, places)
 
-module _ (columns before : List ℕ) where
-  pub widths_none : WidthsTo columns 0 before before
-  widths_none = record { long = refl; kept = λ i h. refl; behind = λ i h. refl; width = λ t h. absurd (omega arith) }
+put_below : (a k i : ℕ) (xs ys : List ℕ) → i < a → a ≤ length xs → get_or (put_mid a k xs ys) i 0 ≡ get_or xs i 0
+put_below a k i xs ys h room = search (rules, places)
 
-  pub widths_more : {k : ℕ} {after : List ℕ} → WidthsTo columns k before after → k < most_tables → width_words + 1 + k < length before
-      → WidthsTo columns (k + 1) before (set after (width_words + 1 + k) (get_or columns k 0))
-  widths_more {k} {after} w few room = record {
-    long = length-set after (width_words + 1 + k) (get_or columns k 0) ∙ w.long;
-    kept = λ i h. get_or-set_other after (width_words + 1 + k) i (get_or columns k 0) 0 (λ q. omega (arith, q, h)) ∙ w.kept i h;
-    behind = λ i h. get_or-set_other after (width_words + 1 + k) i (get_or columns k 0) 0 (λ q. omega (arith, q, h, few)) ∙ w.behind i h;
-    width = λ t h. go t h (ℕ_discrete t k);
-  }
-    where
-      go : (t : ℕ) → t < k + 1 → Dec (t ≡ k)
-          → table_width (set after (width_words + 1 + k) (get_or columns k 0)) (1 + t) ≡ get_or columns t 0
-      go t h (yes q) =
-          let here : width_words + (1 + t) ≡ width_words + 1 + k = omega (arith, q) in
-          rw (here, get_or-set_same after (width_words + 1 + k) (get_or columns k 0) 0 (omega (arith, w.long, room)))
-          (ap (λ (n : ℕ). get_or columns n 0) (sym q))
-      go t h (no n) =
-          get_or-set_other after (width_words + 1 + k) (width_words + (1 + t)) (get_or columns k 0) 0 (λ q. n (omega (arith, q)))
-          ∙ w.width t (omega (arith, h, n))
+put_within : (a k i j : ℕ) (xs ys : List ℕ) → i ≡ a + j → a ≤ length xs → j < length ys → get_or (put_mid a k xs ys) i 0 ≡ get_or ys j 0
+put_within a k i j xs ys e room h = search (rules, places)
 
-  pub widths_all : {k : ℕ} {after : List ℕ} → WidthsTo columns k before after → most_tables ≤ k → WidthsEntered columns before after
-  widths_all w all = record { long = w.long; kept = w.kept; behind = w.behind; width = λ t h. w.width t (omega (arith, h, all)) }
+put_behind : (a k i : ℕ) (xs ys : List ℕ) → a ≤ length xs → length ys ≡ k → a + k ≤ i → get_or (put_mid a k xs ys) i 0 ≡ get_or xs i 0
+put_behind a k i xs ys room e h = search (rules, places)
+
+pub widths_copied : (columns before : List ℕ) → length columns ≡ most_tables → length before ≡ prepared_long
+    → WidthsEntered columns before (put_mid (width_words + 1) most_tables before columns)
+widths_copied columns before few long = record {
+  long = put_length (width_words + 1) most_tables before columns few (omega arith);
+  kept = λ i h. put_below (width_words + 1) most_tables i before columns (omega arith) (omega arith);
+  behind = λ i h. put_behind (width_words + 1) most_tables i before columns (omega arith) few (omega arith);
+  width = λ t h. put_within (width_words + 1) most_tables (width_words + (1 + t)) t before columns (omega arith) (omega arith) (omega arith);
+}
 
 -- ---- the free columns, view by view
 
@@ -197,9 +189,6 @@ free_kept {rows} {rows'} k w room same f p e =
     }
 
 module _ (before : List ℕ) where
-  pub free_start : FreeTo 0 before before
-  free_start = record { long = refl; kept = λ i h. refl; free = λ j h. absurd (omega arith) }
-
   pub free_next : {k : ℕ} {after : List ℕ} (w : ℕ) → length before ≡ prepared_long → k < most_views → FreeTo k before after
       → FreeColumns after k w → FreeTo (k + 1) before (set after (free_words + k) w)
   free_next {k} {after} w long room f columns = record {
@@ -217,9 +206,6 @@ module _ (before : List ℕ) where
       go j h (no n) =
           rw (get_or-set_other after (free_words + k) (free_words + j) w 0 (λ q. n (omega (arith, q))))
           (free_kept j (free_word after j) (omega (arith, h, room)) same (f.free j (omega (arith, h, n))))
-
-  pub free_found : {k : ℕ} {after : List ℕ} → most_views ≤ k → FreeTo k before after → FreeFound before after
-  free_found all f = record { long = f.long; kept = f.kept; free = λ j h. f.free j (omega (arith, h, all)) }
 
 -- the free columns change nothing that is prepared before them
 pub prepared_free : {p : Policy} {r r' : List ℕ} → Prepared p r → FreeFound r r' → Prepared p r'

@@ -55,15 +55,13 @@ pub fn covers(bound: u64, width: usize, views: &[u64], v: usize, lines: &[u64], 
         let p = words::least(rest) as usize;
         let x = model::term_at(views, v, p);
         let y = model::term_at(lines, a, p);
-        let mut q = 0;
-        while q < width {
+        for q in 0..width {
             let xq = model::term_at(views, v, q);
             let yq = model::term_at(lines, a, q);
             if !obeys(x, xq, y, yq) {
                 ok = false;
                 break 'columns;
             }
-            q += 1;
         }
         rest = words::drop_least(rest);
     }

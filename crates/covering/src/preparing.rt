@@ -48,11 +48,7 @@ fn enter_widths(columns: [u64; MOST_TABLES], ready: &mut [u64])
     requires { length ready.old ≡ prepared_long }
     ensures { WidthsEntered columns ready.old ready.new }
 {
-    let mut t = 0;
-    while t < MOST_TABLES {
-        ready[WIDTH_WORDS + 1 + t] = columns[t];
-        t += 1;
-    }
+    ready[WIDTH_WORDS + 1..FREE_WORDS].copy_from_slice(&columns);
 }
 
 // No column is known to be free: for a single query it would take longer to find them than to look at all columns.
@@ -61,16 +57,11 @@ pub fn prepare(p: Policy) -> Prepared
     ensures { PreparedOf p result }
 {
     let mut ready = [0; PREPARED];
-    let mut k = 0;
-    while k < MOST_VIEWS {
-        let v = p.views[k];
-        enter_view(v, p.grants[k], k, &mut ready);
-        k += 1;
+    for k in 0..MOST_VIEWS {
+        enter_view(p.views[k], p.grants[k], k, &mut ready);
     }
     ready[EVERY_WORD] = words::low_bits(p.partition_count as u64);
-    let tables = p.tables;
-    let columns = tables.columns;
-    enter_widths(columns, &mut ready);
+    enter_widths(p.tables.columns, &mut ready);
     ready
 }
 
@@ -83,15 +74,10 @@ fn is_free(rows: &[u64], k: usize, p: usize) -> bool
     if t.mark != SHOWN {
         return false;
     }
-    let mut q = 0;
-    while q < MOST_COLUMNS {
-        let u = model::term_at(rows, k, q);
-        if q != p {
-            if same_term(t, u) {
-                return false;
-            }
+    for q in 0..MOST_COLUMNS {
+        if q != p && same_term(t, model::term_at(rows, k, q)) {
+            return false;
         }
-        q += 1;
     }
     true
 }
@@ -102,11 +88,8 @@ fn free_columns(rows: &[u64], k: usize) -> u64
     ensures { FreeColumns rows.now k result }
 {
     let mut m = 0;
-    let mut p = 0;
-    while p < MOST_COLUMNS {
-        let free = is_free(rows, k, p);
-        m = words::set_bit_if(m, p as u64, free);
-        p += 1;
+    for p in 0..MOST_COLUMNS {
+        m = words::set_bit_if(m, p as u64, is_free(rows, k, p));
     }
     m
 }
@@ -116,11 +99,8 @@ fn find_free(ready: &mut [u64])
     requires { length ready.old ≡ prepared_long }
     ensures { FreeFound ready.old ready.new }
 {
-    let mut k = 0;
-    while k < MOST_VIEWS {
-        let free = free_columns(ready, k);
-        ready[FREE_WORDS + k] = free;
-        k += 1;
+    for k in 0..MOST_VIEWS {
+        ready[FREE_WORDS + k] = free_columns(ready, k);
     }
 }
 

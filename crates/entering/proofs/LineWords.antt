@@ -14,9 +14,8 @@ use Rattle.theory.specs.Query.{Query}
 use Rattle.theory.specs.Query.{Line as TheLine}
 use Rattle.words.specs.Bits.{bit}
 use Rattle.words.specs.Sets.{set_bit, Upto}
-use Rattle.words.proofs.Bits.{bit_zero}
 use Rattle.words.proofs.Masks.{bit_and_iff, bit_or_iff}
-use Rattle.words.proofs.Marks.{upto_none, upto_more, upto_all}
+use Rattle.words.proofs.Marks.{upto_more, upto_all}
 use Rattle.model.specs.Limits.{most_columns}
 use Rattle.entering.specs.Agree.{line_at}
 use Rattle.entering.specs.Laid.{Laid}
@@ -31,13 +30,6 @@ pub record ColumnsEntered (A : TheLine) (p c h t : ℕ) : Type 0 where
   pub columns : Upto (λ b. (n : ℕ) × HiddenAt A n b) p c
   pub variables : (n : ℕ) → (bit h n ≡ 1) ↔ ((b : ℕ) × (b < p) × HiddenAt A n b)
   pub twice : (n : ℕ) → (bit t n ≡ 1) ↔ ((r : Repeats A n) × (r.second < p))
-
-pub columns_none : (A : TheLine) → ColumnsEntered A 0 0 0 0
-columns_none A = record {
-  columns = upto_none 0 (λ b l h. omega arith);
-  variables = λ n. (λ e. absurd (omega (arith, bit_zero n)), λ r. absurd (omega (arith, r.1)));
-  twice = λ n. (λ e. absurd (omega (arith, bit_zero n)), λ r. absurd (omega (arith, r.1)));
-}
 
 -- one column more, whose hidden variable is the one bit of a word
 module _ {A : TheLine} {p columns hidden twice : ℕ} (k : ColumnsEntered A p columns hidden twice) (w : ℕ)

@@ -53,14 +53,12 @@ fn enter_words(rows: &[u64], i: usize, words: &mut [u64])
     let mut columns: u64 = 0;
     let mut hidden: u64 = 0;
     let mut twice: u64 = 0;
-    let mut p = 0;
-    while p < MOST_COLUMNS {
+    for p in 0..MOST_COLUMNS {
         let t = model::term_at(rows, i, p);
         let bit = hidden_bit(t);
         twice = twice | (hidden & bit);
         hidden = hidden | bit;
         columns = words::set_bit_if(columns, p as u64, bit != 0);
-        p += 1;
     }
     words[i * LINE_WORDS] = columns;
     words[i * LINE_WORDS + 1] = hidden;
@@ -73,9 +71,7 @@ pub fn enter_query(n: usize, rows: &[u64], words: &mut [u64])
     ensures worded { (Q : TheQuery) → length Q ≡ n → Laid Q rows.now → Small Q → Worded Q words.new }
     ensures words_len { length words.new ≡ query_words_long }
 {
-    let mut i = 0;
-    while i < n {
+    for i in 0..n {
         enter_words(rows, i, words);
-        i += 1;
     }
 }

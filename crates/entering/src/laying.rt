@@ -12,13 +12,9 @@ pub fn query_rows(q: Query) -> QueryRows
     requires { q.count ≤ most_lines }
     ensures { (Q : TheQuery) → HoldsQuery q Q → Laid Q result }
 {
-    let n = q.count;
     let mut lines = [0; MOST_LINES * ROW];
-    let mut i = 0;
-    while i < n {
-        let l = q.lines[i];
-        model::lay_line(l, i, &mut lines);
-        i += 1;
+    for (i, l) in q.lines[..q.count].iter().enumerate() {
+        model::lay_line(*l, i, &mut lines);
     }
     lines
 }

@@ -29,13 +29,11 @@ pub fn shared(n: usize, words: &[u64], left: u64) -> u64
 {
     let mut once = 0;
     let mut twice = 0;
-    let mut i = 0;
-    while i < n {
+    for i in 0..n {
         let there = words::has_bit(left, i as u64);
         let w = words::value_if(hidden_of(words, i), there);
         twice = twice | (once & w);
         once = once | w;
-        i += 1;
     }
     twice
 }
@@ -72,11 +70,10 @@ pub fn show(n: usize, lines: &mut [u64], shared: u64)
     if shared == 0 {
         return;
     }
-    let mut k = 0;
-    while k < n * MOST_COLUMNS {
-        let t = model::term_at(lines, k / MOST_COLUMNS, k % MOST_COLUMNS);
-        let u = show_term(shared, t);
-        model::set_mark(lines, k / MOST_COLUMNS, k % MOST_COLUMNS, u.mark);
-        k += 1;
+    for i in 0..n {
+        for p in 0..MOST_COLUMNS {
+            let u = show_term(shared, model::term_at(lines, i, p));
+            model::set_mark(lines, i, p, u.mark);
+        }
     }
 }

@@ -62,9 +62,6 @@ pub record LaidTo (a : Line) (k p : ℕ) (rows rows' : List ℕ) : Type 0 where
   pub after : (i : ℕ) → k * row_long + row_long ≤ i → get_or rows' i 0 ≡ get_or rows i 0
   pub terms : (q : ℕ) → q < p → laid_term rows' k q ≡ term_at a q
 
-pub nothing_laid : (a : Line) (k : ℕ) (rows : List ℕ) → LaidTo a k 0 rows rows
-nothing_laid a k rows = record { long = refl; before = λ i b. refl; after = λ i b. refl; terms = λ q b. absurd (omega arith) }
-
 pub term_laid : {a : Line} {k p : ℕ} {rows rows' : List ℕ} (t : Term) → LaidTo a k p rows rows' → k * row_long + row_long ≤ length rows
     → p < most_columns → t ≡ term_at a p → LaidTo a k (p + 1) rows (with_term rows' k p t)
 term_laid {a} {k} {p} {rows} {rows'} t l h b e = record {

@@ -39,7 +39,7 @@ pub type QueryRows = [u64; MOST_LINES * ROW];
 
 // A mark and a number; an unused term is all 0.
 #[repr(C)]
-#[derive(Clone, Copy)]
+#[derive(Clone, Copy, PartialEq, Eq)]
 pub struct Term {
     pub mark: u64,
     pub number: u64,

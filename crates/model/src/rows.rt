@@ -43,13 +43,10 @@ pub fn lay_line(l: Line, k: usize, rows: &mut [u64])
     requires { HasRow rows.old k }
     ensures { LaidInto l k rows.old rows.new }
 {
-    let mut p = 0;
-    while p < MOST_COLUMNS {
-        let t = l.terms[p];
+    for (p, t) in l.terms.iter().enumerate() {
         let at = k * ROW + 1 + p * 2;
         rows[at] = t.mark;
         rows[at + 1] = t.number;
-        p += 1;
     }
     rows[k * ROW] = l.table;
 }

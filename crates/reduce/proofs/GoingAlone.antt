@@ -52,9 +52,6 @@ pub record KeptTo (rows : List ℕ) (i b others k : ℕ) : Type 0 where
       → laid_term rows i p ≡ laid_term rows b p
 
 module _ {rows : List ℕ} {i b others : ℕ} where
-  pub kept_none : KeptTo rows i b others 0
-  kept_none = record { kept = λ p l. absurd (omega arith) }
-
   kept_more : {k : ℕ} → KeptTo rows i b others k
       → (T (hidden_term (laid_term rows i k) && is_set others (laid_term rows i k).number) → laid_term rows i k ≡ laid_term rows b k)
       → KeptTo rows i b others (k + 1)

@@ -24,7 +24,7 @@ use Rattle.model.specs.Limits.{most_columns}
 use Rattle.model.specs.Value.{same_term, term_value, line_value}
 use Rattle.model.specs.Rows.{term_at, laid_term}
 use Rattle.model.specs.declared.Term.{Term}
-use Rattle.entering.specs.Agree.{goes, line_at}
+use Rattle.entering.specs.Agree.{line_at}
 use Rattle.entering.specs.Showing.{hidden_term}
 use Rattle.entering.specs.Worded.{twice_word, HiddenAt, Given}
 use Rattle.reduce.specs.Columns.{FirstColumn}
@@ -51,9 +51,6 @@ module _ (rows : List ℕ) (i t w : ℕ) where
   -- row t has in the columns before p what it has in the first column of the variable
   pub record OwnTo (p : ℕ) : Type 0 where
     pub own : (k : ℕ) → k < p → Own k → (q : ℕ) × FirstColumn rows i (laid_term rows i k) q × (laid_term rows t k ≡ laid_term rows t q)
-
-  pub own_none : OwnTo 0
-  own_none = record { own = λ k l. absurd (omega arith) }
 
   own_more : {p : ℕ} → OwnTo p → (Own p → (q : ℕ) × FirstColumn rows i (laid_term rows i p) q × (laid_term rows t p ≡ laid_term rows t q))
       → OwnTo (p + 1)

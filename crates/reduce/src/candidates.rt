@@ -20,8 +20,7 @@ fn keeps_own(lines: &[u64], i: usize, t: usize, twice: u64) -> bool
     requires { (length lines.now ≡ query_rows_long) × (i < most_lines) × (t < most_lines) }
     ensures { (result ≡ true) ↔ KeepsOwn lines.now i t twice }
 {
-    let mut p = 0;
-    while p < MOST_COLUMNS {
+    for p in 0..MOST_COLUMNS {
         let x = model::term_at(lines, i, p);
         if is_shared(twice, x) {
             let q = column_of(lines, i, x);
@@ -29,7 +28,6 @@ fn keeps_own(lines: &[u64], i: usize, t: usize, twice: u64) -> bool
                 return false;
             }
         }
-        p += 1;
     }
     true
 }

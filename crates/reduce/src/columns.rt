@@ -12,13 +12,10 @@ pub fn column_of(lines: &[u64], b: usize, t: Term) -> usize
     requires { (length lines.now ≡ query_rows_long) × (b < most_lines) }
     ensures { FirstColumn lines.now b t result }
 {
-    let mut q = 0;
-    while q < MOST_COLUMNS {
-        let u = model::term_at(lines, b, q);
-        if model::same_term(t, u) {
+    for q in 0..MOST_COLUMNS {
+        if model::same_term(t, model::term_at(lines, b, q)) {
             return q;
         }
-        q += 1;
     }
     0
 }

@@ -19,8 +19,7 @@ fn stays(lines: &[u64], i: usize, b: usize, others: u64) -> bool
     requires { (length lines.now ≡ query_rows_long) × (i < most_lines) × (b < most_lines) }
     ensures { result ≡ true → Keeps lines.now i b others }
 {
-    let mut p = 0;
-    while p < MOST_COLUMNS {
+    for p in 0..MOST_COLUMNS {
         let t = model::term_at(lines, i, p);
         if is_shared(others, t) {
             let u = model::term_at(lines, b, p);
@@ -28,7 +27,6 @@ fn stays(lines: &[u64], i: usize, b: usize, others: u64) -> bool
                 return false;
             }
         }
-        p += 1;
     }
     true
 }
@@ -70,9 +68,7 @@ pub fn fold(n: usize, lines: &[u64], words: &[u64], candidates: u64) -> u64
     ensures folds { (Q : TheQuery) → Given Q n lines.now words.now → CandidateWord Q candidates → Folds Q result }
 {
     let mut rows = words::low_bits(n as u64);
-    let mut i = n;
-    while 0 < i {
-        i -= 1;
+    for i in (0..n).rev() {
         let rest = words::clear_bit(rows, i as u64);
         let targets = row_of(candidates, rest, i as u64);
         if targets != 0 {

@@ -40,11 +40,9 @@ fn near(n: usize, lines: &[u64], words: &[u64], a: usize, kept: u64) -> u64
 {
     let table = model::table_at(lines, a);
     let mut m = 0;
-    let mut s = 0;
-    while s < n {
+    for s in 0..n {
         let odd = (table ^ model::table_at(lines, s)) | (kept & columns_of(words, s));
         m = words::set_bit_if(m, s as u64, odd == 0);
-        s += 1;
     }
     m
 }
@@ -73,10 +71,8 @@ pub fn goings(n: usize, lines: &[u64], words: &[u64]) -> u64
     ensures { (Q : TheQuery) → Given Q n lines.now words.now → Goings Q result }
 {
     let mut m: u64 = 0;
-    let mut a = 0;
-    while a < n {
+    for a in 0..n {
         m = m | (goings_of(n, lines, words, a) << (a * MOST_LINES));
-        a += 1;
     }
     m
 }

@@ -30,11 +30,9 @@ fn agree_row(lines: &[u64], t: Term, q: usize) -> u64
     ensures { Upto (λ u. t ≡ laid_term lines.now u q) most_lines result }
 {
     let mut m = 0;
-    let mut u = 0;
-    while u < MOST_LINES {
+    for u in 0..MOST_LINES {
         let same = model::same_term(t, model::term_at(lines, u, q));
         m = words::set_bit_if(m, u as u64, same);
-        u += 1;
     }
     m
 }

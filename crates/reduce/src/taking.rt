@@ -23,9 +23,7 @@ fn taken(n: usize, rows: u64, candidates: u64, table: &[u64; PAIRS]) -> u64
         → lines_at result Q ≡ reduce Q }
 {
     let mut left = words::low_bits(n as u64);
-    let mut i = n;
-    while 0 < i {
-        i -= 1;
+    for i in (0..n).rev() {
         let rest = words::clear_bit(left, i as u64);
         if search(rows, rest, candidates, table) {
             left = rest;

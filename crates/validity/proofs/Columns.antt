@@ -6,10 +6,10 @@ use mathlib.Core.List.{List}
 use Prim.Native.Nat.{ℕ, ◌+◌, ◌≤◌, ◌<◌}
 use native.Mathlib.Decide.{ℕ_discrete, dec_lt}
 use native.Mathlib.Omega.{arith}
-use borrow.Author.Count.{below_none, below_more}
+use borrow.Author.Count.{below_more}
 use borrow.Author.Tests.{not-true, lt-ltb, le-ltb}
 use lib.Dec.{ltb}
-use lib.ListN.{length, get_or, replicate}
+use lib.ListN.{length, get_or}
 use Rattle.theory.specs.Executable.Test.{kind, number}
 use Rattle.words.specs.Bits.{bit}
 use Rattle.words.specs.Sets.{meet}
@@ -21,10 +21,9 @@ use Rattle.model.specs.Value.{term_value, unused_term}
 use Rattle.model.specs.declared.Term.{Term}
 use Rattle.validity.specs.Parts.{Place, TermOf, TermPlace}
 use Rattle.validity.specs.Entries.{marks, Within, entered, TermsFor}
-use Rattle.validity.proofs.Lists.{only_default}
 use Rattle.validity.proofs.Held.{place_used, place_unused, used_place, unused_place}
 use Rattle.validity.proofs.Terms.{term_path, good_within, within_good, within_word}
-use Rattle.validity.proofs.Marks.{Marks, marks_none, marks_more}
+use Rattle.validity.proofs.Marks.{Marks, marks_more}
 use Rattle.validity.proofs.Entries.{counts, entered_length, entered_word}
 
 -- what place k enters
@@ -39,15 +38,6 @@ pub record Looked (w : ℕ) (ts : List Term) (by : List ℕ) (i : ℕ) : Type 0 
   pub words : (m : ℕ) → (m ≡ 1 → ⊥) → Marks m (entry w ts) (get_or by m 0) i
 
 module _ (w : ℕ) (ts : List Term) where
-  pub looked_none : Looked w ts (replicate marks 0) 0
-  looked_none =
-      record {
-        few = omega arith;
-        long = refl;
-        places = below_none _;
-        words = λ m f. rw (only_default {X = ℕ} 0 marks m) (marks_none m (entry w ts));
-      }
-
   pub looked_more : {by by' : List ℕ} {i : ℕ} → Looked w ts by i → i < most_columns
       → Place Within unused_term (ltb i w) (get_or ts i unused_term) → by' ≡ entered (ltb i w) (get_or ts i unused_term) by
       → Looked w ts by' (i + 1)

@@ -8,7 +8,6 @@ use native.Mathlib.Omega.{arith}
 use borrow.Author.Tests.{eq-eqb, ne_eqb}
 use Rattle.words.specs.Bits.{bit}
 use Rattle.words.specs.Sets.{set_bit}
-use Rattle.words.proofs.Bits.{bit_zero}
 use Rattle.words.proofs.SetBits.{set_bit_same, set_bit_other}
 use Rattle.model.specs.Marks.{with_mark}
 use Rattle.model.specs.declared.Term.{Term}
@@ -22,9 +21,6 @@ module _ (mark : ℕ) (at : ℕ → Term) where
   -- bit n is set where one of the first i terms has the mark and the number n
   abbrev pub Marks : ℕ → ℕ → Type 0
   Marks word i = (n : ℕ) → (bit word n ≡ 1) ↔ Found i (record { mark = mark; number = n })
-
-  pub marks_none : Marks 0 0
-  marks_none n = (λ e. absurd (omega (arith, bit_zero n)), λ r. absurd (omega (arith, r.1)))
 
   found_later : {i : ℕ} {t : Term} → Found i t → Found (i + 1) t
   found_later r = (r.0, omega (arith, r.1), r.2)

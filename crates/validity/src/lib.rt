@@ -32,7 +32,7 @@ pub fn valid(p: Policy) -> bool
 fn counted(n: usize, most: usize) -> bool
     ensures { (result ≡ true) ↔ ((1 ≤ n) × (n ≤ most)) }
 {
-    1 <= n && n <= most
+    (1..=most).contains(&n)
 }
 
 // ---- tables
@@ -40,18 +40,11 @@ fn counted(n: usize, most: usize) -> bool
 fn valid_tables(t: Tables) -> bool
     ensures { (result ≡ true) ↔ ((widths : List ℕ) × TablesOf widths t) }
 {
-    if !counted(t.count, MOST_TABLES) {
-        return false;
-    }
-    let mut i = 0;
-    while i < MOST_TABLES {
-        let w = t.columns[i];
-        if !valid_width(i < t.count, w) {
-            return false;
-        }
-        i += 1;
-    }
-    true
+    counted(t.count, MOST_TABLES)
+        && t.columns
+            .iter()
+            .enumerate()
+            .all(|(i, w)| valid_width(i < t.count, *w))
 }
 
 // A table's columns, or 0 behind the last table.
@@ -59,7 +52,7 @@ fn valid_width(used: bool, w: u64) -> bool
     ensures { (result ≡ true) ↔ WidthPlace used w }
 {
     if used {
-        return 1 <= w && w <= MOST_COLUMNS as u64;
+        return (1..=MOST_COLUMNS as u64).contains(&w);
     }
     w == 0
 }
@@ -76,22 +69,14 @@ fn valid_views(p: Policy) -> bool
     requires { p.tables.count ≤ most_tables }
     ensures { (widths : List ℕ) → TablesOf widths p.tables → (result ≡ true) ↔ ViewsHeld widths p.view_count p.views }
 {
-    let n = p.view_count;
-    if !counted(n, MOST_VIEWS) {
-        return false;
-    }
-    let t = p.tables;
-    let count = t.count;
-    let columns = t.columns;
-    let mut i = 0;
-    while i < MOST_VIEWS {
-        let l = p.views[i];
-        if !valid_view(i < n, count, &columns, l) {
-            return false;
-        }
-        i += 1;
-    }
-    true
+    let t = &p.tables;
+    counted(p.view_count, MOST_VIEWS)
+        && p.views.iter().enumerate().all(|(i, l)| valid_view(
+            i < p.view_count,
+            t.count,
+            &t.columns,
+            *l,
+        ))
 }
 
 // A view, or an unused line behind the last: a line of no table with no columns used.
@@ -133,13 +118,10 @@ fn valid_terms(w: u64, l: Line) -> bool
     ensures { (result ≡ true) ↔ TermsFor w l.terms }
 {
     let mut by: [u64; MARKS] = [0; MARKS];
-    let mut i = 0;
-    while i < MOST_COLUMNS {
-        let t = l.terms[i];
-        if !enter_term((i as u64) < w, t, &mut by) {
+    for (i, t) in l.terms.iter().enumerate() {
+        if !enter_term((i as u64) < w, *t, &mut by) {
             return false;
         }
-        i += 1;
     }
     if by[UNUSED as usize] != 0 {
         return false;
@@ -185,18 +167,11 @@ fn valid_grants(views: usize, n: usize, grants: [u64; MOST_VIEWS]) -> bool
     requires { views ≤ most_views }
     ensures { (result ≡ true) ↔ PartitionsHeld views n grants }
 {
-    if !counted(n, MOST_PARTITIONS) {
-        return false;
-    }
-    let mut k = 0;
-    while k < MOST_VIEWS {
-        let g = grants[k];
-        if !valid_grant(k < views, n, g) {
-            return false;
-        }
-        k += 1;
-    }
-    true
+    counted(n, MOST_PARTITIONS)
+        && grants
+            .iter()
+            .enumerate()
+            .all(|(k, g)| valid_grant(k < views, n, *g))
 }
 
 // A word with no bit past the partitions, or 0 behind the last view.

@@ -1,8 +1,7 @@
 use mathlib.Core.Path.{◌≡◌, refl, sym, ◌∙◌}
-use mathlib.Core.Bool.{true}
 use Prim.Native.Nat.{◌<◌}
 use native.Mathlib.Omega.{arith}
-use borrow.Author.Count.{below_none, below_more}
+use borrow.Author.Count.{below_more}
 use Rattle.theory.specs.Query.{Line as TheLine}
 use Rattle.theory.specs.Cover.{at}
 use Rattle.words.proofs.Bits.{bit_within}
@@ -12,9 +11,6 @@ use Rattle.covering.proofs.covers.Goals.{After-least-p, After-obeys}
 
 pub columns-init : goal.columns-init
 columns-init c = (refl, passed_none c.requires.0)
-
-pub least-p-requires : goal.least-p-requires
-least-p-requires c = omega arith
 
 -- a bound column is a column
 inside : (c : After-least-p)
@@ -26,15 +22,6 @@ term_at-x-requires c = (omega arith, omega (arith, inside c))
 
 pub term_at-y-requires : goal.term_at-y-requires
 term_at-y-requires c = (omega arith, omega (arith, inside (goal.at.term_at-y-requires c).After-least-p))
-
-pub loop-q-init : goal.loop-q-init
-loop-q-init c = (c.columns.invariant.0, omega arith, below_none _)
-
-pub term_at-xq-requires : goal.term_at-xq-requires
-term_at-xq-requires c = (omega arith, omega arith)
-
-pub term_at-yq-requires : goal.term_at-yq-requires
-term_at-yq-requires c = (omega arith, omega arith)
 
 -- what the rules answer at the two columns
 answer : (c : After-obeys) (view line : TheLine)
@@ -55,31 +42,18 @@ answer c view line v a =
     let yq = c.term_at-yq.ensures ∙ column few a q q_in in
     c.obeys.ensures (at view p) (at view q) (at line p) (at line q) x xq y yq
 
-pub overflow_add-q : goal.overflow_add-q
-overflow_add-q c = omega arith
-
-pub loop-q-smaller : goal.loop-q-smaller
-loop-q-smaller c = omega arith
-
 pub loop-q-preserved : goal.loop-q-preserved
 loop-q-preserved c =
     let inv = c.loop-q.invariant in (
       inv.0,
-      omega arith,
-      below_more _ _ inv.2 (λ view line v a. sym (answer (goal.at.loop-q-preserved c).After-obeys view line v a) ∙ c.if-not-obeys.false),
+      below_more _ _ inv.1 (λ view line v a. sym (answer (goal.at.loop-q-preserved c).After-obeys view line v a) ∙ c.if-not-obeys.false),
     )
-
-pub drop_least-rest-requires : goal.drop_least-rest-requires
-drop_least-rest-requires c = omega arith
-
-pub columns-smaller : goal.columns-smaller
-columns-smaller c = c.drop_least-rest.ensures.less
 
 pub columns-preserved : goal.columns-preserved
 columns-preserved c = (
   c.loop-q.invariant.0,
   passed_row c.columns.invariant.1 c.least-p.ensures c.drop_least-rest.ensures
-      (λ j l. c.loop-q.invariant.2 j (omega (arith, l, c.loop-q-test.false))),
+      (λ j l. c.loop-q.invariant.1 j (omega (arith, l, c.loop-q-test.false))),
 )
 
 pub returns-after-columns : goal.returns-after-columns

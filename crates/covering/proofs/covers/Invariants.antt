@@ -1,16 +1,12 @@
 -- `covers`: the rules hold with every column at the bound columns that were taken, and at `p` with the columns before `q`.
 use mathlib.Core.Path.{◌≡◌}
 use mathlib.Core.Bool.{true}
-use Prim.Native.Nat.{◌-◌, ◌≤◌}
 use Rattle.covering.proofs.Columns.{Wide, Passed, PassedRow}
 use Rattle.covering.proofs.covers.Given as goal
 
 abbrev pub invariant-loop-q : goal.invariant-loop-q
 invariant-loop-q l =
-    (l.ok ≡ true) × (l.q ≤ l.width) × PassedRow (Wide l.width l.views l.v) (Wide l.width l.lines l.a) l.p l.q
-
-abbrev pub decreases-loop-q : goal.decreases-loop-q
-decreases-loop-q l = l.width - l.q
+    (l.ok ≡ true) × PassedRow (Wide l.width l.views l.v) (Wide l.width l.lines l.a) l.p l.q
 
 abbrev pub invariant-columns : goal.invariant-columns
 invariant-columns l =

@@ -1,17 +1,10 @@
-use native.Mathlib.Omega.{arith}
 use lib.Dec.{ltb}
 use Rattle.model.specs.Value.{unused_term}
 use Rattle.words.proofs.Answers.{no_iff, passes, fails}
-use Rattle.validity.proofs.Columns.{looked_none, looked_more, looked_marked, looked_done, right_within}
+use Rattle.validity.proofs.Columns.{looked_more, looked_marked, looked_done, right_within}
 use mathlib.Core.Path.{ap}
 use mathlib.Core.Bool.{not}
 use Rattle.validity.proofs.valid_terms.Goals as goal
-
-pub loop-i-init : goal.loop-i-init
-loop-i-init c = looked_none c.args.w c.args.l.terms
-
-pub offset_bounds-l-i : goal.offset_bounds-l-i
-offset_bounds-l-i c = omega arith
 
 pub returns-then-not-enter_term : goal.returns-then-not-enter_term
 unfolding unused_term
@@ -19,12 +12,6 @@ returns-then-not-enter_term c =
     no_iff (λ d.
     fails c.enter_term.ensures.right (ap not c.if-not-enter_term.true)
     (right_within (ltb c.loop-i.i c.args.w) _ (d.places _ c.loop-i-test.true)))
-
-pub overflow_add-i : goal.overflow_add-i
-overflow_add-i c = omega arith
-
-pub loop-i-smaller : goal.loop-i-smaller
-loop-i-smaller c = omega arith
 
 pub loop-i-preserved : goal.loop-i-preserved
 unfolding unused_term

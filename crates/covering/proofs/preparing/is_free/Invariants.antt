@@ -1,12 +1,8 @@
 -- `is_free`: no column before `q` has the term, but for `p` itself.
 use mathlib.Core.Path.{◌≡◌}
-use Prim.Native.Nat.{ℕ, ◌-◌, ◌≤◌, ◌<◌}
-use Rattle.model.specs.Limits.{most_columns}
+use Prim.Native.Nat.{ℕ, ◌<◌}
 use Rattle.model.specs.Rows.{laid_term}
 use Rattle.covering.proofs.preparing.is_free.Given as goal
 
 abbrev pub invariant-loop-q : goal.invariant-loop-q
-invariant-loop-q l = (l.q ≤ most_columns) × ((j : ℕ) → j < l.q → l.t ≡ laid_term l.rows l.k j → j ≡ l.p)
-
-abbrev pub decreases-loop-q : goal.decreases-loop-q
-decreases-loop-q l = most_columns - l.q
+invariant-loop-q l = (j : ℕ) → j < l.q → l.t ≡ laid_term l.rows l.k j → j ≡ l.p

@@ -1,6 +1,5 @@
 -- `enter_query`: the words of the lines before `i` are entered.
 use mathlib.Core.Path.{◌≡◌}
-use Prim.Native.Nat.{◌-◌, ◌≤◌}
 use lib.ListN.{length}
 use Rattle.theory.specs.Query.{Query}
 use Rattle.entering.specs.Laid.{Laid}
@@ -11,8 +10,5 @@ use Rattle.entering.proofs.hiding.enter_query.Given as goal
 
 abbrev pub invariant-loop-i : goal.invariant-loop-i
 invariant-loop-i l =
-    (l.i ≤ l.n) × (length l.words ≡ query_words_long)
+    (length l.words ≡ query_words_long)
     × ((Q : Query) → length Q ≡ l.n → Laid Q l.rows → Small Q → WordedTo Q l.i l.words)
-
-abbrev pub decreases-loop-i : goal.decreases-loop-i
-decreases-loop-i l = l.n - l.i

@@ -1,5 +1,5 @@
 -- `enter_words`: the three words have the hidden variables of the columns before `p`, and are then written behind one another.
-use Prim.Native.Nat.{◌-◌, ◌≤◌}
+use Prim.Native.Nat.{◌≤◌}
 use lib.ListN.{length}
 use Rattle.theory.specs.Query.{Line as TheLine}
 use Rattle.model.specs.Limits.{most_columns}
@@ -11,9 +11,5 @@ use Rattle.entering.proofs.hiding.enter_words.Given as goal
 
 abbrev pub invariant-loop-p : goal.invariant-loop-p
 invariant-loop-p l =
-    (l.p ≤ most_columns)
-    × ((A : TheLine) → LaidAt l.rows l.i (line_value A) → length A.columns ≤ most_columns → SmallLine A
-    → ColumnsEntered A l.p l.columns l.hidden l.twice)
-
-abbrev pub decreases-loop-p : goal.decreases-loop-p
-decreases-loop-p l = most_columns - l.p
+    (A : TheLine) → LaidAt l.rows l.i (line_value A) → length A.columns ≤ most_columns → SmallLine A
+    → ColumnsEntered A l.p l.columns l.hidden l.twice

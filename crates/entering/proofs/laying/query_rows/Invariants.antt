@@ -1,6 +1,5 @@
 -- `query_rows`: the lines before `i` are laid.
 use mathlib.Core.Path.{◌≡◌}
-use Prim.Native.Nat.{◌-◌, ◌≤◌}
 use lib.ListN.{length}
 use Rattle.theory.specs.Query.{Query}
 use Rattle.model.specs.Rows.{query_rows_long}
@@ -10,7 +9,4 @@ use Rattle.entering.proofs.LaidRows.{value_at}
 use Rattle.entering.proofs.laying.query_rows.Given as goal
 
 abbrev pub invariant-loop-i : goal.invariant-loop-i
-invariant-loop-i l = (l.i ≤ l.n) × (length l.lines ≡ query_rows_long) × ((Q : Query) → HoldsQuery l.q Q → RowsTo (value_at Q) l.i l.lines)
-
-abbrev pub decreases-loop-i : goal.decreases-loop-i
-decreases-loop-i l = l.n - l.i
+invariant-loop-i l = (length l.lines ≡ query_rows_long) × ((Q : Query) → HoldsQuery l.fn.q Q → RowsTo (value_at Q) l.i l.lines)

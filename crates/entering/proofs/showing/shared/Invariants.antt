@@ -1,6 +1,5 @@
 -- `shared`: the words hold what was seen in the lines left before `i`.
 use mathlib.Core.Path.{◌≡◌}
-use Prim.Native.Nat.{◌-◌, ◌≤◌}
 use lib.ListN.{length, take}
 use Rattle.theory.specs.Query.{Query}
 use Rattle.words.specs.Bits.{is_set}
@@ -11,7 +10,4 @@ use Rattle.entering.proofs.showing.shared.Given as goal
 
 abbrev pub invariant-loop-i : goal.invariant-loop-i
 invariant-loop-i l =
-    (l.i ≤ l.n) × ((Q : Query) → length Q ≡ l.n → Worded Q l.words → Seen (pick (is_set l.left) (take l.i Q)) l.once l.twice)
-
-abbrev pub decreases-loop-i : goal.decreases-loop-i
-decreases-loop-i l = l.n - l.i
+    (Q : Query) → length Q ≡ l.n → Worded Q l.words → Seen (pick (is_set l.left) (take l.i Q)) l.once l.twice

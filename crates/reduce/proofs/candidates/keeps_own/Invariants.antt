@@ -1,11 +1,6 @@
 -- `keeps_own`: row t has in the columns before `p` what it has in the first column of the variable there.
-use Prim.Native.Nat.{◌-◌, ◌≤◌}
-use Rattle.model.specs.Limits.{most_columns}
 use Rattle.reduce.proofs.OwnTerms.{OwnTo}
 use Rattle.reduce.proofs.candidates.keeps_own.Given as goal
 
 abbrev pub invariant-loop-p : goal.invariant-loop-p
-invariant-loop-p l = (l.p ≤ most_columns) × OwnTo l.lines l.i l.t l.twice l.p
-
-abbrev pub decreases-loop-p : goal.decreases-loop-p
-decreases-loop-p l = most_columns - l.p
+invariant-loop-p l = OwnTo l.lines l.i l.t l.twice l.p

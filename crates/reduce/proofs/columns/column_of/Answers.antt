@@ -4,29 +4,12 @@ use Rattle.model.specs.Limits.{most_columns}
 use Rattle.reduce.proofs.FirstColumns.{none_more, first_found, found_none}
 use Rattle.reduce.proofs.columns.column_of.Goals as goal
 
-pub loop-q-init : goal.loop-q-init
-loop-q-init c = (omega arith, record { none = λ p l e. omega arith })
-
-pub term_at-u-requires : goal.term_at-u-requires
-term_at-u-requires c = (omega arith, omega arith)
-
 pub returns-then-same_term : goal.returns-then-same_term
 returns-then-same_term c =
-    first_found _ c.loop-q-test.true c.loop-q.invariant.1 c.term_at-u.ensures c.same_term.ensures
-    c.if-same_term.true
-
-pub overflow_add-q : goal.overflow_add-q
-overflow_add-q c = omega arith
-
-pub loop-q-smaller : goal.loop-q-smaller
-loop-q-smaller c = omega arith
+    first_found _ c.loop-q-test.true c.loop-q.invariant c.term_at.ensures c.same_term.ensures c.if-same_term.true
 
 pub loop-q-preserved : goal.loop-q-preserved
-loop-q-preserved c = (
-  omega arith,
-  none_more _ c.loop-q.invariant.1 c.term_at-u.ensures c.same_term.ensures
-      c.if-same_term.false,
-)
+loop-q-preserved c = none_more _ c.loop-q.invariant c.term_at.ensures c.same_term.ensures c.if-same_term.false
 
 pub returns : goal.returns
-returns c = let e : c.loop-q.q ≡ most_columns = omega arith in found_none (rw e at c.loop-q.invariant.1)
+returns c = let e : c.loop-q.q ≡ most_columns = omega arith in found_none (rw e at c.loop-q.invariant)

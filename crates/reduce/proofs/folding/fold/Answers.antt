@@ -9,28 +9,18 @@ use Rattle.reduce.proofs.GoingAlone.{folds_alone}
 use Rattle.reduce.proofs.folding.fold.Goals as goal
 use Rattle.reduce.proofs.folding.fold.Goals.{After-clear_bit-rest}
 
-pub low_bits-rows-requires : goal.low_bits-rows-requires
-low_bits-rows-requires c = omega arith
-
 pub loop-i-init : goal.loop-i-init
 loop-i-init c =
     let n = c.args.n in (
-      omega arith,
       rw c.low_bits-rows.ensures (low_bits_below n n (omega arith)),
       λ Q g m. rw c.low_bits-rows.ensures (folds_all Q n g.count),
     )
-
-pub overflow_sub-i : goal.overflow_sub-i
-overflow_sub-i c = omega arith
-
-pub clear_bit-rest-requires : goal.clear_bit-rest-requires
-clear_bit-rest-requires c = omega arith
 
 -- the lines but for line i
 rest_small : (c : After-clear_bit-rest)
     → c.clear_bit-rest.result < 2 ^ c.args.n
 rest_small c =
-    cleared c.args.n _ _ c.clear_bit-rest.ensures c.loop-i.invariant.1
+    cleared c.args.n _ _ c.clear_bit-rest.ensures c.loop-i.invariant.0
 
 rest_lines : (c : After-clear_bit-rest) → LineBits c.clear_bit-rest.result
 rest_lines c i e =
@@ -47,13 +37,9 @@ pub goes_alone-requires : goal.goes_alone-requires
 goes_alone-requires c =
     (omega arith, omega arith, λ b e. rest_lines (goal.at.goes_alone-requires c).After-clear_bit-rest b (c.row_of-targets.ensures.some b e).0)
 
-pub loop-i-smaller-then-goes_alone : goal.loop-i-smaller-then-goes_alone
-loop-i-smaller-then-goes_alone c = omega arith
-
 pub loop-i-preserved-then-goes_alone : goal.loop-i-preserved-then-goes_alone
 loop-i-preserved-then-goes_alone c =
     let small = rest_small (goal.at.loop-i-preserved-then-goes_alone c).After-clear_bit-rest in (
-      omega arith,
       small,
       λ Q g m.
           let alone = c.goes_alone.ensures c.if-goes_alone.true in
@@ -62,25 +48,5 @@ loop-i-preserved-then-goes_alone c =
           rw c.clear_bit-rest.ensures
           (folds_alone g (c.loop-i.i - 1) b c.loop-i.rows c.variables.result (omega (arith, g.count))
           (rw g.count (bit_within c.args.n b small allowed)) (rw c.clear_bit-rest.ensures at allowed) ((m _).0 candidate)
-          alone.keeps (rw c.clear_bit-rest.ensures at c.variables.ensures) (c.loop-i.invariant.2 Q g m)),
+          alone.keeps (rw c.clear_bit-rest.ensures at c.variables.ensures) (c.loop-i.invariant.1 Q g m)),
     )
-
-pub loop-i-smaller-else-goes_alone : goal.loop-i-smaller-else-goes_alone
-loop-i-smaller-else-goes_alone c = omega arith
-
-pub loop-i-preserved-else-goes_alone : goal.loop-i-preserved-else-goes_alone
-loop-i-preserved-else-goes_alone c =
-    let at = c.loop-i in (omega arith, at.invariant.1, at.invariant.2)
-
-pub loop-i-smaller : goal.loop-i-smaller
-loop-i-smaller c = omega arith
-
-pub loop-i-preserved : goal.loop-i-preserved
-loop-i-preserved c = let at = c.loop-i in (omega arith, at.invariant.1, at.invariant.2)
-
-pub returns : goal.returns
-returns c =
-    record {
-      upper_bound = c.loop-i.invariant.1;
-      folds = c.loop-i.invariant.2;
-    }

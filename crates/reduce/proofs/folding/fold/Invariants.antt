@@ -1,5 +1,5 @@
 -- `fold`: all lines can be sent to those in `rows` once the lines from `i` on were tried.
-use Prim.Native.Nat.{◌^◌, ◌≤◌, ◌<◌}
+use Prim.Native.Nat.{◌^◌, ◌<◌}
 use Rattle.theory.specs.Query.{Query}
 use Rattle.entering.specs.Left.{Folds}
 use Rattle.entering.specs.Worded.{Given}
@@ -8,7 +8,4 @@ use Rattle.reduce.proofs.folding.fold.Given as goal
 
 abbrev pub invariant-loop-i : goal.invariant-loop-i
 invariant-loop-i l =
-    (l.i ≤ l.n) × (l.rows < 2 ^ l.n) × ((Q : Query) → Given Q l.n l.lines l.words → CandidateWord Q l.candidates → Folds Q l.rows)
-
-abbrev pub decreases-loop-i : goal.decreases-loop-i
-decreases-loop-i l = l.i
+    (l.rows < 2 ^ l.n) × ((Q : Query) → Given Q l.n l.lines l.words → CandidateWord Q l.candidates → Folds Q l.rows)

@@ -4,35 +4,18 @@ use mathlib.Core.Path.{◌≡◌}
 use mathlib.Core.Bool.{false≢true}
 use native.Mathlib.Omega.{arith}
 use Rattle.model.specs.Limits.{most_columns}
-use Rattle.reduce.proofs.GoingAlone.{kept_none, kept_skip, kept_same_term}
+use Rattle.reduce.proofs.GoingAlone.{kept_skip, kept_same_term}
 use Rattle.reduce.proofs.folding.stays.Goals as goal
 use Rattle.reduce.proofs.folding.stays.Goals.{else-is_shared, then-is_shared+else-not-same_term}
-
-pub loop-p-init : goal.loop-p-init
-loop-p-init c = (omega arith, kept_none)
-
-pub term_at-t-requires : goal.term_at-t-requires
-term_at-t-requires c = (omega arith, omega arith)
-
-pub term_at-u-requires : goal.term_at-u-requires
-term_at-u-requires c = (omega arith, omega arith)
 
 pub returns-then-not-same_term : goal.returns-then-not-same_term
 returns-then-not-same_term c = λ e. absurd (false≢true e)
 
-pub overflow_add-p : goal.overflow_add-p
-overflow_add-p c = omega arith
-
-pub loop-p-smaller : goal.loop-p-smaller
-loop-p-smaller c = omega arith
-
 pub loop-p-preserved : goal.loop-p-preserved
 loop-p-preserved c =
-    let kept = c.loop-p.invariant.1 in
-    let read = c.term_at-t.ensures in (
-      omega arith,
-      elim c.if-is_shared.branch [ then-is_shared+else-not-same_term w ↦ kept_same_term kept read w.same_term.result w.term_at-u.ensures w.same_term.ensures (ap not w.if-not-same_term.false) | else-is_shared w ↦ kept_skip kept read c.is_shared.result c.is_shared.ensures w.if-is_shared.false ],
-    )
+    let kept = c.loop-p.invariant in
+    let read = c.term_at-t.ensures in
+    elim c.if-is_shared.branch [ then-is_shared+else-not-same_term w ↦ kept_same_term kept read w.same_term.result w.term_at-u.ensures w.same_term.ensures (ap not w.if-not-same_term.false) | else-is_shared w ↦ kept_skip kept read c.is_shared.result c.is_shared.ensures w.if-is_shared.false ]
 
 pub returns : goal.returns
-returns c = λ _. let e : c.loop-p.p ≡ most_columns = omega arith in (rw e at c.loop-p.invariant.1).kept
+returns c = λ _. let e : c.loop-p.p ≡ most_columns = omega arith in (rw e at c.loop-p.invariant).kept

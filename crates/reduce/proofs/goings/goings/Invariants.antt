@@ -1,5 +1,5 @@
 -- `goings`: the word has the pairs of the lines before `a`, and those of line `a` are put above them.
-use Prim.Native.Nat.{◌-◌, ◌*◌, ◌^◌, ◌≤◌, ◌<◌}
+use Prim.Native.Nat.{◌*◌, ◌^◌, ◌<◌}
 use Rattle.theory.specs.Query.{Query}
 use Rattle.words.specs.Sets.{Upto}
 use Rattle.model.specs.Limits.{most_lines}
@@ -9,7 +9,4 @@ use Rattle.reduce.proofs.goings.goings.Given as goal
 
 abbrev pub invariant-loop-a : goal.invariant-loop-a
 invariant-loop-a l =
-    (l.a ≤ l.n) × (l.m < 2 ^ (l.a * most_lines)) × ((Q : Query) → Given Q l.n l.lines l.words → Upto (Going Q) (l.a * most_lines) l.m)
-
-abbrev pub decreases-loop-a : goal.decreases-loop-a
-decreases-loop-a l = l.n - l.a
+    (l.m < 2 ^ (l.a * most_lines)) × ((Q : Query) → Given Q l.n l.lines l.words → Upto (Going Q) (l.a * most_lines) l.m)

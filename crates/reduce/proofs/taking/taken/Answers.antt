@@ -10,58 +10,40 @@ use Rattle.model.specs.Limits.{most_lines}
 use Rattle.reduce.proofs.Passes.{lines_below, cleared, taking_none, taking_out, taking_kept, taking_all}
 use Rattle.reduce.proofs.taking.taken.Goals as goal
 
-pub low_bits-left-requires : goal.low_bits-left-requires
-low_bits-left-requires c = omega arith
-
 pub loop-i-init : goal.loop-i-init
 loop-i-init c = (
-  omega arith,
   rw c.low_bits-left.ensures (low_bits_below c.args.n most_lines c.requires.0),
   λ Q e t there f. rw c.low_bits-left.ensures (taking_none t there f c.args.n e),
 )
-
-pub overflow_sub-i : goal.overflow_sub-i
-overflow_sub-i c = omega arith
-
-pub clear_bit-rest-requires : goal.clear_bit-rest-requires
-clear_bit-rest-requires c = omega arith
 
 pub search-requires : goal.search-requires
 search-requires c =
     let at = c.loop-i in
     record {
-      rows_bound = (lines_below c.requires.1 c.requires.0, cleared most_lines _ _ c.clear_bit-rest.ensures at.invariant.1);
+      rows_bound = (lines_below c.requires.1 c.requires.0, cleared most_lines _ _ c.clear_bit-rest.ensures at.invariant.0);
       table_len = c.requires.2;
     }
-
-pub loop-i-smaller-then-search : goal.loop-i-smaller-then-search
-loop-i-smaller-then-search c = omega arith
 
 pub loop-i-preserved-then-search : goal.loop-i-preserved-then-search
 loop-i-preserved-then-search c =
     let at = c.loop-i in
     let rest = c.clear_bit-rest in
     let e : at.i ≡ suc (at.i - 1) = omega arith in (
-      omega arith,
-      cleared most_lines _ _ rest.ensures at.invariant.1,
+      cleared most_lines _ _ rest.ensures at.invariant.0,
       λ Q l t there f.
           rw rest.ensures
-          (taking_out t there f (at.i - 1) at.left (rw e at (at.invariant.2 Q l t there f)) (omega arith)
+          (taking_out t there f (at.i - 1) at.left (rw e at (at.invariant.1 Q l t there f)) (omega arith)
           (rw rest.ensures at (c.search.ensures.0 c.if-search.true))),
     )
-
-pub loop-i-smaller : goal.loop-i-smaller
-loop-i-smaller c = omega arith
 
 pub loop-i-preserved : goal.loop-i-preserved
 loop-i-preserved c =
     let at = c.loop-i in
     let rest = c.clear_bit-rest in
     let e : at.i ≡ suc (at.i - 1) = omega arith in (
-      omega arith,
-      at.invariant.1,
+      at.invariant.0,
       λ Q l t there f.
-          taking_kept t there f (at.i - 1) at.left (rw e at (at.invariant.2 Q l t there f)) (omega arith)
+          taking_kept t there f (at.i - 1) at.left (rw e at (at.invariant.1 Q l t there f)) (omega arith)
           (λ x. false≢true (sym c.if-search.false ∙ c.search.ensures.1 (rw rest.ensures x))),
     )
 
@@ -70,4 +52,4 @@ returns c =
     λ Q e t f.
     let there : (j : ℕ) → bit c.args.rows j ≡ 1 → j < length Q = λ j h. rw e (bit_within c.args.n j c.requires.1 h) in
     let none : c.loop-i.i ≡ 0 = omega arith in
-    taking_all t there f _ (rw none at (c.loop-i.invariant.2 Q e t there f))
+    taking_all t there f _ (rw none at (c.loop-i.invariant.1 Q e t there f))

@@ -1,5 +1,5 @@
 -- `taken`: what is left of the query once the lines from `i` on were tried.
-use Prim.Native.Nat.{ℕ, ◌^◌, ◌≤◌, ◌<◌}
+use Prim.Native.Nat.{ℕ, ◌^◌, ◌<◌}
 use mathlib.Core.Path.{◌≡◌}
 use lib.ListN.{length}
 use Rattle.theory.specs.Query.{Query}
@@ -12,10 +12,6 @@ use Rattle.reduce.proofs.taking.taken.Given as goal
 
 abbrev pub invariant-loop-i : goal.invariant-loop-i
 invariant-loop-i l =
-    (l.i ≤ l.n)
-    × (l.left < 2 ^ most_lines)
+    (l.left < 2 ^ most_lines)
     × ((Q : Query) (e : length Q ≡ l.n) (t : PairsTabled Q l.rows l.candidates l.table) (there : (j : ℕ) → bit l.rows j ≡ 1 → j < length Q)
     (f : Folds Q l.rows) → Taking t there f l.i l.left)
-
-abbrev pub decreases-loop-i : goal.decreases-loop-i
-decreases-loop-i l = l.i
