@@ -1,5 +1,4 @@
 -- Rows in a buffer.
-pub mod Cells
 pub mod Rows
 -- Lines of a query, and their rows.
 pub mod OtherLines

@@ -1,7 +1,7 @@
 -- A query laid in rows: whether the partition settles it is whether it has a view for each line left, and the reply says so.
 use mathlib.Core.Path.{◌≡◌, refl, sym, ap, subst, ◌∙◌}
 use mathlib.Core.Bool.{Bool, true, cond}
-use mathlib.Core.Logic.{◌⊎◌, ⊎_elim}
+use Rattle.std.specs.Prelude.{Option, None, Some, MatchOption}
 use mathlib.Core.List.Memᴰ
 use mathlib.Core.List.{List}
 use Prim.Native.Nat.{ℕ, ◌<◌}
@@ -64,36 +64,30 @@ module _ {d : Declared} {t : Tables} {ns : List ℕ} {Q : Query} {r : List ℕ} 
       let x = (all_iff (λ B. any (λ v. covers v B) (granted d.views ns)) (show (reduce Q))).0 t A in_shown in
       u.unanswered (subst (λ (R : Query). T (answers d.views (over (show_term R) (line_at Q k)) ns)) (sym s.reduced) x)
 
-  module _ {k : ℕ} (u : UnsettledFound r i n rows left k) where
-    found : ((k ≡ n) × AnswersAll) ⊎ Unsettled d Q left k ns
-    found = u d t Q s.word ns a.ready a.posed.count s.shown s.shared a.partition
+  found : (line : Option ℕ) → UnsettledFound r i n rows left line → MatchOption line AnswersAll (λ k. Unsettled d Q left k ns)
+  found line u = u d t Q s.word ns a.ready a.posed.count s.shown s.shared a.partition
 
-    all_answered : k ≡ n → AnswersAll
-    all_answered e = ⊎_elim (λ x. x.1) (λ x. absurd (omega (arith, x.there, a.posed.count, e))) found
+  pub says_settled : UnsettledFound r i n rows left None → (before after : List ℕ) → after ≡ before
+      → Gives d i Settled before after (cond is_settled settlement (archives Q))
+  unfolding said_telling
+  says_settled u before after same =
+      let yes_settled = is_settles ∙ sym (holds_true _ (answered (found None u))) in
+      rw yes_settled (record { reply = refl; buffer = same })
 
-    one_unanswered : (k ≡ n → ⊥) → Unsettled d Q left k ns
-    one_unanswered ne = ⊎_elim (λ x. absurd (ne x.0)) (λ x. x) found
-
-    pub says_settled : k ≡ n → (before after : List ℕ) → after ≡ before
-        → Gives d i Settled before after (cond is_settled settlement (archives Q))
-    unfolding said_telling
-    says_settled e before after same =
-        let yes_settled = is_settles ∙ sym (holds_true _ (answered (all_answered e))) in
-        rw yes_settled (record { reply = refl; buffer = same })
-
-    pub odd_line : (k ≡ n → ⊥) → OddLine d t ns Q r i n rows left k
-    odd_line ne = record {
+  module _ {k : ℕ} (u : UnsettledFound r i n rows left (Some k)) where
+    pub odd_line : OddLine d t ns Q r i n rows left k
+    odd_line = record {
       ready = a.ready;
       partition = a.partition;
       query = a.query;
       count = a.posed.count;
       shown = s;
-      unsettled = one_unanswered ne;
+      unsettled = found (Some k) u;
     }
 
-    pub says_apart : (k ≡ n → ⊥) → (count : ℕ) (before after : List ℕ) → ToldApart d i Q count before after
+    pub says_apart : (count : ℕ) (before after : List ℕ) → ToldApart d i Q count before after
         → Gives d i (Apart count) before after (cond is_settled settlement (archives Q))
     unfolding said_telling
-    says_apart ne count before after g =
-        let not_settled = is_settles ∙ sym (fails_false _ (unanswered (one_unanswered ne))) in
+    says_apart count before after g =
+        let not_settled = is_settles ∙ sym (fails_false _ (unanswered (found (Some k) u))) in
         rw not_settled (count, refl, g)

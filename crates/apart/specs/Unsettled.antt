@@ -1,5 +1,5 @@
 -- A line of a reduced query that a partition has no view for.
-use Rattle.std.specs.Prelude.{◌≡◌, true, ◌⊎◌, List, ℕ, ◌<◌, T, length}
+use Rattle.std.specs.Prelude.{◌≡◌, true, List, ℕ, ◌<◌, T, length, Option, MatchOption}
 use Rattle.std.proofs.Math.Option.{some}
 use Rattle.std.proofs.Math.ListN.{get_elem?}
 use Rattle.theory.specs.Query.{over, Query}
@@ -23,9 +23,9 @@ pub record Unsettled (d : Declared) (Q : Query) (left k : ℕ) (ns : List ℕ) :
   pub stays : is_set left k ≡ true
   pub unanswered : AnswersLine d Q left k ns → ⊥
 
--- such a line, or none and then k is n
-abbrev pub UnsettledFound : List ℕ → ℕ → ℕ → List ℕ → ℕ → ℕ → Type 0
-UnsettledFound r i n lines left k =
+-- such a line, or none and then each line left has such a view
+abbrev pub UnsettledFound : List ℕ → ℕ → ℕ → List ℕ → ℕ → Option ℕ → Type 0
+UnsettledFound r i n lines left found =
     (d : Declared) (t : Tables) (Q : Query) (w : ℕ) (ns : List ℕ) → Ready d t r → length Q ≡ n → Rows d Q w lines
     → SharedWord (lines_at left Q) w → get_elem? d.partitions i ≡ some ns
-    → ((k ≡ n) × ((j : ℕ) → j < n → is_set left j ≡ true → AnswersLine d Q left j ns)) ⊎ Unsettled d Q left k ns
+    → MatchOption found ((j : ℕ) → j < n → is_set left j ≡ true → AnswersLine d Q left j ns) (λ k. Unsettled d Q left k ns)

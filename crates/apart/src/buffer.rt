@@ -11,11 +11,8 @@ pub fn put_row(out: &mut [u64], k: usize, cells: Cells)
     requires { HasCells out.old k }
     ensures { PutAt k cells out.old out.new }
 {
-    let mut c = 0;
-    while c < ROW_CELLS {
-        out[k * ROW_CELLS + c] = cells[c];
-        c += 1;
-    }
+    let start = k * ROW_CELLS;
+    out[start..start + ROW_CELLS].copy_from_slice(&cells);
 }
 
 // Whether the row at place k is this one.
@@ -23,14 +20,8 @@ fn same_row(out: &[u64], k: usize, cells: Cells) -> bool
     requires { HasCells out.now k }
     ensures { SameAt out.now k cells result }
 {
-    let mut c = 0;
-    while c < ROW_CELLS {
-        if out[k * ROW_CELLS + c] != cells[c] {
-            return false;
-        }
-        c += 1;
-    }
-    true
+    let start = k * ROW_CELLS;
+    out[start..start + ROW_CELLS] == cells[..]
 }
 
 // Whether the row stands among those from one place on, before another.
@@ -38,12 +29,10 @@ pub fn stands(out: &[u64], from: usize, to: usize, cells: Cells) -> bool
     requires { (from ≤ to) × (to * row_cells ≤ length out.now) }
     ensures { StandsBetween out.now from to cells result }
 {
-    let mut k = from;
-    while k < to {
+    for k in from..to {
         if same_row(out, k, cells) {
             return true;
         }
-        k += 1;
     }
     false
 }

@@ -32,10 +32,9 @@ fn tell_rows(ready: &Prepared, i: u64, n: usize, lines: &mut QueryRows, out: &mu
     ensures { AskedTold ready.now i n lines.old out.old result out.new }
 {
     let left = labelling::shown_rows(n, lines);
-    let line = unsettled_line(ready, i, n, lines, left);
-    if line == n {
+    let Some(line) = unsettled_line(ready, i, n, lines, left) else {
         return Telling::Settled;
-    }
+    };
     let rows = put_archives(ready, i, n, lines, left, line, out);
     Telling::Apart { rows: rows as u64 }
 }

@@ -17,14 +17,12 @@ fn put_lines(base: u64, n: usize, lines: &QueryRows, others: u64, out: &mut [u64
     ensures { LinesPut base n lines.now others out.old out.new result }
 {
     let mut count = 1;
-    let mut k = 0;
-    while k < n {
+    for k in 0..n {
         if words::has_bit(others, k as u64) {
             let cells = freezing::frozen_row(base, lines, k);
             put_row(out, count, cells);
             count += 1;
         }
-        k += 1;
     }
     count
 }

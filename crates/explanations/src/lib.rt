@@ -52,11 +52,9 @@ pub fn granted_views(grants: [u64; MOST_VIEWS], i: u64) -> u64
     ensures { result ≡ test_bits (granted_at grants i) (up_from 0 most_views) }
 {
     let mut word = 0;
-    let mut k = 0;
-    while k < MOST_VIEWS {
-        let on = words::has_bit(grants[k], i);
+    for (k, granting) in grants.iter().enumerate() {
+        let on = words::has_bit(*granting, i);
         word = words::set_bit_if(word, k as u64, on);
-        k += 1;
     }
     word
 }
@@ -91,9 +89,7 @@ pub fn write_words(words: [u64; MOST_LINES], count: usize, out: &mut [u32])
     requires { (count ≤ most_lines) × (count ≤ length out.old) × ((i : ℕ) → get_or words i 0 < 2 ^ half_bits) }
     ensures { out.new ≡ take count words ++ drop count out.old }
 {
-    let mut i = 0;
-    while i < count {
-        out[i] = words[i] as u32;
-        i += 1;
+    for (i, word) in words[..count].iter().enumerate() {
+        out[i] = *word as u32;
     }
 }

@@ -23,14 +23,12 @@ fn take_row(rows: &[u64], k: usize, taken: &mut Blocks)
     requires { HasRow rows.now k × (length taken.old ≡ most_blocks) }
     ensures { RowTaken rows.now k taken.old taken.new }
 {
-    let mut p = 0;
-    while p < MOST_COLUMNS {
+    for p in 0..MOST_COLUMNS {
         let t = model::term_at(rows, k, p);
         let block = t.number / BLOCK;
         if t.mark == CONSTANT && block < BLOCKS as u64 {
             taken[block as usize] = 1;
         }
-        p += 1;
     }
 }
 
@@ -39,10 +37,8 @@ fn take_rows(rows: &[u64], count: usize, taken: &mut Blocks)
     requires { (count * row_long ≤ length rows.now) × (length taken.old ≡ most_blocks) }
     ensures { RowsTaken rows.now count taken.old taken.new }
 {
-    let mut k = 0;
-    while k < count {
+    for k in 0..count {
         take_row(rows, k, taken);
-        k += 1;
     }
 }
 
@@ -54,9 +50,6 @@ pub fn spare_block(views: &[u64], lines: &[u64]) -> u64
     let mut taken = [0; BLOCKS];
     take_rows(views, MOST_VIEWS, &mut taken);
     take_rows(lines, MOST_LINES, &mut taken);
-    let mut j = 0;
-    while taken[j] != 0 {
-        j += 1;
-    }
+    let j = taken.iter().position(|mark| *mark == 0).unwrap();
     j as u64 * BLOCK
 }

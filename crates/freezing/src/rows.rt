@@ -32,11 +32,9 @@ pub fn frozen_row(base: u64, lines: &[u64], i: usize) -> Cells
 {
     let mut cells = [0; ROW_CELLS];
     cells[0] = model::table_at(lines, i);
-    let mut p = 0;
-    while p < MOST_COLUMNS {
+    for p in 0..MOST_COLUMNS {
         let t = model::term_at(lines, i, p);
         cells[1 + p] = frozen(base, t);
-        p += 1;
     }
     cells
 }
@@ -47,13 +45,11 @@ fn first_column(rows: &[u64], k: usize, p: usize) -> usize
     ensures { FirstAlike rows.now k p result }
 {
     let t = model::term_at(rows, k, p);
-    let mut q = 0;
-    while q < p {
+    for q in 0..p {
         let u = model::term_at(rows, k, q);
         if same_term(u, t) {
             return q;
         }
-        q += 1;
     }
     p
 }
@@ -64,8 +60,7 @@ pub fn matches(views: &[u64], k: usize, cells: Cells) -> bool
     requires { HasRow views.now k }
     ensures { MatchGiven views.now k cells result }
 {
-    let mut p = 0;
-    while p < MOST_COLUMNS {
+    for p in 0..MOST_COLUMNS {
         let t = model::term_at(views, k, p);
         let q = first_column(views, k, p);
         if t.mark == CONSTANT && t.number != cells[1 + p] {
@@ -74,7 +69,6 @@ pub fn matches(views: &[u64], k: usize, cells: Cells) -> bool
         if cells[1 + q] != cells[1 + p] {
             return false;
         }
-        p += 1;
     }
     true
 }
@@ -96,12 +90,10 @@ pub fn marked_row(base: u64, views: &[u64], k: usize, cells: Cells) -> Cells
     ensures { MarkedGiven base views.now k cells result }
 {
     let mut marked = cells;
-    let mut p = 0;
-    while p < MOST_COLUMNS {
+    for p in 0..MOST_COLUMNS {
         let t = model::term_at(views, k, p);
         let q = first_column(views, k, p);
         marked[1 + p] = marked_cell(base, t, q, cells[1 + p]);
-        p += 1;
     }
     marked
 }

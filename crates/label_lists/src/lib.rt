@@ -60,9 +60,5 @@ fn copy_words(words: [u64; MOST_LINES], count: usize, out: &mut [u64])
     requires { (count ≤ most_lines) × (count ≤ length out.old) }
     ensures { out.new ≡ take count words ++ drop count out.old }
 {
-    let mut i = 0;
-    while i < count {
-        out[i] = words[i];
-        i += 1;
-    }
+    out[..count].copy_from_slice(&words[..count]);
 }

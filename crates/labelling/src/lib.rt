@@ -31,15 +31,13 @@ fn label_lines(ready: &Prepared, n: usize, lines: &QueryRows, left: u64) -> Labe
     let mut words = [0; MOST_LINES];
     let mut count = 0;
     let mut settling = covering::every_partition(ready);
-    let mut i = 0;
-    while i < n {
+    for i in 0..n {
         if words::has_bit(left, i as u64) {
             let l = covering::label_line(ready, lines, i);
             words[count] = l.label;
             settling = settling & l.grants;
             count += 1;
         }
-        i += 1;
     }
     let words = Words { count, words };
     Labels { words, settling }

@@ -1,42 +1,23 @@
-use mathlib.Core.Path.{ap, ◌∙◌}
-use native.Mathlib.Omega.{arith}
-use Rattle.word_list.specs.Value.{words_value}
-use Rattle.explain.proofs.Gathered.{gathered_none, granted_all, granted_none, granted_more}
+use Rattle.std.proofs.Common.{rules, arith, length, ap, refl}
+use Rattle.std.proofs.lemmas.List.{length_push}
+use Rattle.explain.proofs.Gathered.{gathered_none, gathered_few, gathered_more, gathered_all, granted_more}
 use Rattle.explain.proofs.granted_words.Goals as goal
 
-pub loop-i-init : goal.loop-i-init
-loop-i-init c = gathered_none c.no_words-r.ensures (granted_none _ _)
-
-pub overflow_sub-i : goal.overflow_sub-i
-overflow_sub-i c = omega (arith, c.loop-i-test.true)
-
-pub offset_bounds-l-i : goal.offset_bounds-l-i
-offset_bounds-l-i c = omega (arith, c.loop-i-test.true, c.loop-i.invariant.few, c.requires)
-
-pub bounds-l-i : goal.bounds-l-i
-bounds-l-i c = omega (arith, c.loop-i-test.true, c.loop-i.invariant.few, c.requires)
+pub loop-w-init : goal.loop-w-init
+loop-w-init c = gathered_none (search rules) c.no_words-r.ensures (λ ws. refl)
 
 pub push-r-requires : goal.push-r-requires
 push-r-requires c =
-    omega (arith, c.loop-i-test.true, c.loop-i.invariant.few, c.requires)
+    omega (arith, gathered_few c.loop-w.invariant (search rules), simp length_push at (ap length c.in-Some.ensures.steps))
 
-pub loop-i-smaller : goal.loop-i-smaller
-loop-i-smaller c = omega (arith, c.loop-i-test.true)
+pub loop-w-preserved : goal.loop-w-preserved
+loop-w-preserved c =
+    let h = c.loop-w.invariant in
+    gathered_more _ _ _ h c.in-Some.ensures.steps (omega (arith, c.push-r.ensures.count_value)) (λ ws e.
+    rw (granted_more _ _ _ c.high_half-views.ensures ws h.behind) (c.push-r.ensures.by_index _ (h.words ws e)))
 
-pub loop-i-preserved : goal.loop-i-preserved
-loop-i-preserved c =
-    let loop = c.loop-i in
-    record {
-      few = omega (arith, c.loop-i-test.true, loop.invariant.few, c.push-r.ensures.count_value);
-      words = λ ws e.
-          rw (granted_more _ _ ws e loop.i _ c.loop-i-test.true (omega (arith, loop.invariant.few)) c.high_half-views.ensures)
-          (c.push-r.ensures.by_index _ (loop.invariant.words ws e));
-    }
+pub returns-clause-count_le_count : goal.returns-clause-count_le_count
+returns-clause-count_le_count c = omega (arith, gathered_few c.loop-w.invariant (search rules))
 
-pub returns : goal.returns
-returns c =
-    let at = c.loop-i in
-    record {
-      count_le_count = omega (arith, at.invariant.few);
-      by_index = λ ws e. at.invariant.words ws e ∙ ap words_value (granted_all _ ws at.i c.loop-i-test.false);
-    }
+pub returns-clause-by_index : goal.returns-clause-by_index
+returns-clause-by_index c = gathered_all c.loop-w.invariant c.in-None.ensures.steps.0

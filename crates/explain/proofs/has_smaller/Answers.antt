@@ -1,47 +1,25 @@
-use mathlib.Core.Path.{◌≡◌, refl, sym, ◌∙◌}
-use mathlib.Core.List.{List}
-use Prim.Native.Nat.{ℕ}
-use native.Mathlib.Omega.{arith}
-use lib.ListN.{get_or}
-use Rattle.word_list.specs.Value.{words_value}
+-- `has_smaller`: the views of each label are tested.
+use Rattle.std.proofs.Common.{rules, tests, ◌/◌, ◌^◌, ap, sym, ◌∙◌, take}
+use mathlib.Core.Bool.{not, ◌&&◌}
+use mathlib.Core.Path.{refl}
+use Rattle.std.proofs.lemmas.Iterator.{YieldsList-from_slice}
+use Rattle.std.proofs.lemmas.Iterator.Search.{any_from_yields_List}
+use Rattle.words.specs.Bits.{half_bits}
+use Rattle.words.specs.Sets.{meet}
+use Rattle.theory.specs.Executable.Test.{any}
+use Rattle.word_list.proofs.Value.{words_are}
 use Rattle.explain.specs.Explanation.{exceeds}
 use Rattle.explain.proofs.Gathered.{label_passes}
 use Rattle.explain.proofs.Lacking.{passes, any_lacking}
-use Rattle.explain.proofs.Search.{none_more, one_there, none_there}
-use Rattle.word_list.proofs.Value.{inside, past}
+use Rattle.explain.proofs.Search.{any_is}
 use Rattle.explain.proofs.has_smaller.Goals as goal
-use Rattle.explain.proofs.has_smaller.Goals.{After-exceeds_lacking}
-
-pub loop-i-init : goal.loop-i-init
-loop-i-init c = λ ws e. refl
-
-pub offset_bounds-l-i : goal.offset_bounds-l-i
-offset_bounds-l-i c = omega (arith, c.loop-i-test.true, c.requires)
-
-pub bounds-l-i : goal.bounds-l-i
-bounds-l-i c = omega (arith, c.loop-i-test.true, c.requires)
-
--- what the test says of the label at `i`
-tested : (c : After-exceeds_lacking) →
-    (ws : List ℕ) → c.args.l ≡ words_value ws
-    → passes c.args.granted (exceeds c.args.v) (get_or ws c.loop-i.i 0) ≡ c.exceeds_lacking.result
-tested c ws e = label_passes _ _ ws e (exceeds _) _ _ c.high_half-views.ensures ∙ sym c.exceeds_lacking.ensures
-
-pub returns-then-exceeds_lacking : goal.returns-then-exceeds_lacking
-returns-then-exceeds_lacking c = λ ws e.
-    rw any_lacking
-    (one_there (passes _ (exceeds _)) ws 0 c.loop-i.i (inside _ ws e c.loop-i-test.true) (c.loop-i.invariant ws e)
-    (tested (goal.at.returns-then-exceeds_lacking c).After-exceeds_lacking ws e ∙ c.if-exceeds_lacking.true))
-
-pub loop-i-smaller : goal.loop-i-smaller
-loop-i-smaller c = omega (arith, c.loop-i-test.true)
-
-pub loop-i-preserved : goal.loop-i-preserved
-loop-i-preserved c = λ ws e.
-    none_more (passes _ (exceeds _)) ws 0 c.loop-i.i (inside _ ws e c.loop-i-test.true) (c.loop-i.invariant ws e)
-    (tested (goal.at.loop-i-preserved c).After-exceeds_lacking ws e ∙ c.if-exceeds_lacking.false)
 
 pub returns : goal.returns
 returns c = λ ws e.
-    rw any_lacking
-    (none_there (passes _ (exceeds _)) ws c.loop-i.i (past _ ws e c.loop-i-test.false) (c.loop-i.invariant ws e))
+    let a = c.args in
+    let found =
+    any_from_yields_List (λ w. not (meet 64 (w / 2 ^ half_bits) a.granted) && exceeds a.v (w / 2 ^ half_bits)) _ _ c.any.result
+    c.any.ensures.ran (YieldsList-from_slice (take a.l.count a.l.words) c.iter.ensures.rest) (λ x b q k. search (rules, tests)) in
+    let passing = passes a.granted (exceeds a.v) in
+    found ∙ any_is _ passing (λ w. sym (label_passes a.granted w (w / 2 ^ half_bits) refl (exceeds a.v))) _
+    ∙ ap (any passing) (words_are _ ws e) ∙ sym (any_lacking a.granted (exceeds a.v) ws)

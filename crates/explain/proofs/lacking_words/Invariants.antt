@@ -1,9 +1,6 @@
--- `lacking_words`: the words are those of the labels from `i` on.
-use Rattle.explain.proofs.Gathered.{Gathered, lacking_from}
+-- `lacking_words`: the least views of the labels that have come and hold no granted view.
+use Rattle.explain.proofs.Gathered.{Gathered, lacking_of}
 use Rattle.explain.proofs.lacking_words.Given as goal
 
-abbrev pub invariant-loop-i : goal.invariant-loop-i
-invariant-loop-i l = Gathered (lacking_from l.granted) l.l l.r l.i
-
-abbrev pub decreases-loop-i : goal.decreases-loop-i
-decreases-loop-i l = l.i
+abbrev pub invariant-loop-w : goal.invariant-loop-w
+invariant-loop-w l = Gathered (lacking_of l.granted) l.fn.l l.w-iterator.iter.rest.now l.r

@@ -9,29 +9,14 @@ use Rattle.explanations.proofs.granted_views.Goals as goal
 
 pub loop-k-init : goal.loop-k-init
 unfolding test_bits up_from
-loop-k-init c = (omega arith, refl)
-
-pub offset_bounds-grants-k : goal.offset_bounds-grants-k
-offset_bounds-grants-k c = omega arith
-
-pub bounds-grants-k : goal.bounds-grants-k
-bounds-grants-k c = omega arith
-
-pub set_bit_if-word-requires : goal.set_bit_if-word-requires
-set_bit_if-word-requires c = omega arith
-
-pub overflow_add-k : goal.overflow_add-k
-overflow_add-k c = omega arith
-
-pub loop-k-smaller : goal.loop-k-smaller
-loop-k-smaller c = omega arith
+loop-k-init c = refl
 
 pub loop-k-preserved : goal.loop-k-preserved
 unfolding granted_at
-loop-k-preserved c = (omega arith, next_test _ _ c.has_bit-on.ensures c.loop-k.invariant.1 c.set_bit_if-word.ensures)
+loop-k-preserved c = next_test _ _ c.has_bit-on.ensures c.loop-k.invariant c.set_bit_if-word.ensures
 
 pub returns : goal.returns
 returns c =
-    let all : c.loop-k.k ≡ most_views = omega (arith, c.loop-k.invariant.0, c.loop-k-test.false) in
+    let all : c.loop-k.k ≡ most_views = omega arith in
     let a = c.args in
-    c.loop-k.invariant.1 ∙ ap (λ (n : ℕ). test_bits (granted_at a.grants a.i) (up_from 0 n)) all
+    c.loop-k.invariant ∙ ap (λ (n : ℕ). test_bits (granted_at a.grants a.i) (up_from 0 n)) all

@@ -1,13 +1,8 @@
 -- `granted_views`: the word has the views before `k` that the partition grants.
 use mathlib.Core.Path.{◌≡◌}
-use Prim.Native.Nat.{◌-◌, ◌≤◌}
 use Rattle.words.specs.TestBits.{test_bits, up_from}
-use Rattle.model.specs.Limits.{most_views}
 use Rattle.policy_text.specs.Abstract.{granted_at}
 use Rattle.explanations.proofs.granted_views.Given as goal
 
 abbrev pub invariant-loop-k : goal.invariant-loop-k
-invariant-loop-k l = (l.k ≤ most_views) × (l.word ≡ test_bits (granted_at l.grants l.i) (up_from 0 l.k))
-
-abbrev pub decreases-loop-k : goal.decreases-loop-k
-decreases-loop-k l = most_views - l.k
+invariant-loop-k l = l.word ≡ test_bits (granted_at l.fn.grants l.i) (up_from 0 l.k)

@@ -1,28 +1,28 @@
-use mathlib.Core.Path.{◌≡◌}
-use native.Mathlib.Omega.{arith}
-use lib.ListN.{length}
-use borrow.Author.Rules.{rules}
+use Rattle.std.proofs.Common.{rules, arith, ◌≡◌, ◌<◌, length, take, get_or-take}
 use Rattle.model.specs.Limits.{most_lines}
 use Rattle.label_lists.proofs.Copied.{copied_none, copied_next, copied_all}
 use Rattle.explanations.proofs.write_words.Goals as goal
 use Rattle.explanations.proofs.write_words.Goals.{In-loop-i}
 
 pub loop-i-init : goal.loop-i-init
-loop-i-init c = (omega arith, copied_none _ _)
-
-pub overflow_cast-out : goal.overflow_cast-out
-overflow_cast-out c = record { fits = c.requires.2 c.loop-i.i }
+loop-i-init c = copied_none _ _
 
 long : (c : In-loop-i) → length c.args.words ≡ most_lines
 long c = search rules
 
+before : (c : In-loop-i) → c.loop-i.i < c.args.count
+before c = search rules
+
+pub overflow_cast-out : goal.overflow_cast-out
+overflow_cast-out c = let h = before (goal.at.overflow_cast-out c).In-loop-i in rw get_or-take (record { fits = c.requires.2 c.loop-i.i })
+
 pub loop-i-preserved : goal.loop-i-preserved
 loop-i-preserved c =
-    let at = c.loop-i in
-    (omega arith, copied_next _ _ at.invariant.1 (omega (arith, long c)) (omega arith))
-
-pub shape_of-out : goal.shape_of-out
-shape_of-out c = c.loop-i.invariant.1.long
+    let start = (goal.at.loop-i-preserved c).In-loop-i in
+    let h = before start in
+    rw get_or-take (copied_next _ _ c.loop-i.invariant (omega (arith, long start)) (omega arith))
 
 pub returns : goal.returns
-returns c = copied_all _ _ c.loop-i.invariant.1 c.loop-i.invariant.0 c.loop-i-test.false
+returns c =
+    let counted : length (take c.args.count c.args.words) ≡ c.args.count = search rules in
+    copied_all _ _ c.loop-i.invariant (omega arith) (omega (arith, c.loop-i-test.false))

@@ -18,7 +18,7 @@ every_partition-settling-requires c = let (d, t, Q, w, ready, e, rows) = c.requi
 pub loop-i-init : goal.loop-i-init
 unfolding pick pad
 loop-i-init c =
-    (omega arith, omega arith, λ d t Q w ready e rows word. written_none _ _ ready c.every_partition-settling.ensures)
+    (omega arith, λ d t Q w ready e rows word. written_none _ _ ready c.every_partition-settling.ensures)
 
 -- the query that was given has at most eight lines
 room : (c : In-loop-i) → c.loop-i.i < most_lines
@@ -37,31 +37,15 @@ label_line-l-requires c =
       tabled = line_tabled ready (some_line rows c.loop-i.i h);
     }
 
-pub offset_bounds-words-count : goal.offset_bounds-words-count
-offset_bounds-words-count c = omega (arith, room (goal.at.offset_bounds-words-count c).In-loop-i)
-
-pub bounds-words-count : goal.bounds-words-count
-bounds-words-count c = omega (arith, room (goal.at.bounds-words-count c).In-loop-i)
-
-pub overflow_add-count : goal.overflow_add-count
-overflow_add-count c = omega (arith, room (goal.at.overflow_add-count c).In-loop-i)
-
-pub overflow_add-i : goal.overflow_add-i
-overflow_add-i c = omega (arith, room (goal.at.overflow_add-i c).In-loop-i)
-
-pub loop-i-smaller : goal.loop-i-smaller
-loop-i-smaller c = omega (arith, c.loop-i-test.true)
-
 pub loop-i-preserved : goal.loop-i-preserved
 loop-i-preserved c =
     let at = c.loop-i in
     let args = c.args in
     let bit = c.has_bit.ensures in (
-      omega arith,
       elim c.if-has_bit.branch [ then-has_bit x ↦ rw x.count-is (omega arith) | else-has_bit x ↦ rw x.count-is (omega arith) ],
       λ d t Q w ready e rows word.
           let h : at.i < length Q = rw e c.loop-i-test.true in
-          let before = at.invariant.2 d t Q w ready e rows word in
+          let before = at.invariant.1 d t Q w ready e rows word in
           elim c.if-has_bit.branch [
             | then-has_bit x ↦ let there : is_set args.left at.i ≡ true = sym bit ∙ x.if-has_bit.true in
                 let (is, reached) = x.label_line-l.ensures d.views _ (line_labelled ready (shown_line rows at.i h args.left word there)) in
@@ -73,4 +57,4 @@ loop-i-preserved c =
 
 pub returns : goal.returns
 returns c = λ d t Q w ready e rows word.
-    written_all d _ Q c.loop-i.i _ _ _ (rw e c.loop-i-test.false) (c.loop-i.invariant.2 d t Q w ready e rows word)
+    written_all d _ Q c.loop-i.i _ _ _ (rw e c.loop-i-test.false) (c.loop-i.invariant.1 d t Q w ready e rows word)

@@ -1,6 +1,6 @@
 -- `label_lines`: the words written are the labels of the shown lines, of those left before `i`, and the partitions have a view for each.
 use mathlib.Core.Path.{◌≡◌}
-use Prim.Native.Nat.{ℕ, ◌-◌, ◌≤◌}
+use Prim.Native.Nat.{ℕ, ◌≤◌}
 use lib.ListN.{length, take}
 use Rattle.theory.specs.Query.{Query, over}
 use Rattle.theory.specs.Executable.Show.{show_term}
@@ -15,10 +15,6 @@ use Rattle.labelling.proofs.label_lines.Given as goal
 
 abbrev pub invariant-loop-i : goal.invariant-loop-i
 invariant-loop-i l =
-    (l.i ≤ l.n)
-    × (l.count ≤ l.i)
+    (l.count ≤ l.i)
     × ((d : Declared) (t : Tables) (Q : Query) (w : ℕ) → Ready d t l.ready → length Q ≡ l.n → Rows d Q w l.lines → SharedWord (lines_at l.left Q) w
     → Written d (over (show_term (lines_at l.left Q))) (pick (is_set l.left) (take l.i Q)) l.words l.count l.settling)
-
-abbrev pub decreases-loop-i : goal.decreases-loop-i
-decreases-loop-i l = l.n - l.i

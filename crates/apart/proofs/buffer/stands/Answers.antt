@@ -6,7 +6,7 @@ use borrow.Author.Count.{below_more}
 use Rattle.apart.proofs.buffer.stands.Goals as goal
 
 pub loop-k-init : goal.loop-k-init
-loop-k-init c = (omega arith, omega arith, λ j h g e. omega (arith, h, g))
+loop-k-init c = λ j h g e. omega (arith, h, g)
 
 pub same_row-requires : goal.same_row-requires
 same_row-requires c = omega arith
@@ -20,16 +20,12 @@ returns-then-same_row c =
 
 pub loop-k-preserved : goal.loop-k-preserved
 loop-k-preserved c =
-    let (low, high, none) = c.loop-k.invariant in (
-      omega arith,
-      omega arith,
-      below_more (λ j. c.args.from ≤ j → _) _ none
-          (λ h e. false≢true (sym c.if-same_row.false ∙ c.same_row.ensures.said e)),
-    )
+    below_more (λ j. c.args.from ≤ j → _) _ c.loop-k.invariant
+    (λ h e. false≢true (sym c.if-same_row.false ∙ c.same_row.ensures.said e))
 
 pub returns : goal.returns
 returns c =
     record {
       stands = λ e. absurd (false≢true e);
-      said = λ k h g e. absurd (c.loop-k.invariant.2 k (omega (arith, g, c.loop-k-test.false)) h e);
+      said = λ k h g e. absurd (c.loop-k.invariant k (omega (arith, g, c.loop-k-test.false)) h e);
     }

@@ -3,7 +3,7 @@ use mathlib.Core.Path.{◌≡◌}
 use mathlib.Core.Bool.{true}
 use mathlib.Core.Option.{some}
 use mathlib.Core.List.{List}
-use Prim.Native.Nat.{ℕ, ◌-◌, ◌≤◌, ◌<◌}
+use Prim.Native.Nat.{ℕ, ◌<◌}
 use lib.ListN.{length, get_elem?}
 use Rattle.theory.specs.Query.{Query}
 use Rattle.words.specs.Bits.{is_set}
@@ -17,10 +17,6 @@ use Rattle.apart.proofs.unsettled.unsettled_line.Given as goal
 
 abbrev pub invariant-loop-k : goal.invariant-loop-k
 invariant-loop-k l =
-    (l.k ≤ l.n)
-    × ((d : Declared) (t : Tables) (Q : Query) (w : ℕ) (ns : List ℕ) → Ready d t l.ready → length Q ≡ l.n → Rows d Q w l.lines
+    (d : Declared) (t : Tables) (Q : Query) (w : ℕ) (ns : List ℕ) → Ready d t l.ready → length Q ≡ l.n → Rows d Q w l.lines
     → SharedWord (lines_at l.left Q) w → get_elem? d.partitions l.i ≡ some ns
-    → (j : ℕ) → j < l.k → is_set l.left j ≡ true → AnswersLine d Q l.left j ns)
-
-abbrev pub decreases-loop-k : goal.decreases-loop-k
-decreases-loop-k l = l.n - l.k
+    → (j : ℕ) → j < l.k → is_set l.left j ≡ true → AnswersLine d Q l.left j ns

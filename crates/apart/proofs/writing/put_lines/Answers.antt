@@ -1,4 +1,4 @@
-use mathlib.Core.Path.{refl, sym, ◌∙◌}
+use mathlib.Core.Path.{sym, ◌∙◌}
 use Prim.Native.Nat.{◌<◌}
 use native.Mathlib.Omega.{arith}
 use lib.ListN.{length}
@@ -8,7 +8,7 @@ use Rattle.apart.proofs.writing.put_lines.Goals as goal
 use Rattle.apart.proofs.writing.put_lines.Goals.{In-loop-k, else-has_bit, then-has_bit}
 
 pub loop-k-init : goal.loop-k-init
-loop-k-init c = (omega arith, omega arith, refl, λ S has start odd h. lines_none h)
+loop-k-init c = (omega arith, λ S has start odd h. lines_none h)
 
 -- the query that was given has at most eight lines
 room : (c : In-loop-k) → c.loop-k.k < most_lines
@@ -26,24 +26,13 @@ frozen_row-cells-requires c =
 pub put_row-requires : goal.put_row-requires
 put_row-requires c =
     let (_, _, _, wide) = c.requires in
-    omega (arith, room (goal.at.put_row-requires c).In-loop-k, wide, c.loop-k.invariant.1, c.loop-k.invariant.2)
-
-pub overflow_add-count : goal.overflow_add-count
-overflow_add-count c = omega (arith, room (goal.at.overflow_add-count c).In-loop-k)
-
-pub overflow_add-k : goal.overflow_add-k
-overflow_add-k c = omega (arith, room (goal.at.overflow_add-k c).In-loop-k)
-
-pub loop-k-smaller : goal.loop-k-smaller
-loop-k-smaller c = omega (arith, c.loop-k-test.true)
+    omega (arith, room (goal.at.put_row-requires c).In-loop-k, wide, c.loop-k.invariant.0, c.loop-k.auto.out)
 
 pub loop-k-preserved : goal.loop-k-preserved
 loop-k-preserved c =
     let at = c.loop-k in
-    let (_, few, long, lines) = at.invariant in (
-      omega (arith, c.loop-k-test.true),
+    let (few, lines) = at.invariant in (
       elim c.if-has_bit.branch [ then-has_bit x ↦ rw x.count-is (omega arith) | else-has_bit x ↦ rw x.count-is (omega arith) ],
-      omega arith,
       λ S has start odd h.
           let below : at.k < length S = rw has.count c.loop-k-test.true in
           let before = lines S has start odd h in
@@ -55,9 +44,6 @@ loop-k-preserved c =
           ],
     )
 
-pub shape_of-out : goal.shape_of-out
-shape_of-out c = c.loop-k.invariant.2
-
 pub returns : goal.returns
 returns c = λ S has start odd h.
-    lines_all (omega (arith, has.count, c.loop-k-test.false)) (c.loop-k.invariant.3 S has start odd h)
+    lines_all (omega (arith, has.count, c.loop-k-test.false)) (c.loop-k.invariant.1 S has start odd h)

@@ -1,8 +1,6 @@
 -- `put_lines`: the rows of the lines at the bits of the word before `k` stand behind the one row.
-use mathlib.Core.Path.{◌≡◌}
 use mathlib.Core.List.{List, [], ◌∷◌}
-use Prim.Native.Nat.{ℕ, ◌+◌, ◌-◌, ◌≤◌}
-use lib.ListN.{length}
+use Prim.Native.Nat.{ℕ, ◌+◌, ◌≤◌}
 use Rattle.theory.specs.Query.{Query}
 use Rattle.theory.specs.Archive.{Row}
 use Rattle.apart.specs.Buffer.{Holds}
@@ -12,11 +10,6 @@ use Rattle.apart.proofs.writing.put_lines.Given as goal
 
 abbrev pub invariant-loop-k : goal.invariant-loop-k
 invariant-loop-k l =
-    (l.k ≤ l.n)
-    × (l.count ≤ l.k + 1)
-    × (length l.out ≡ length l.initial.out)
+    (l.count ≤ l.k + 1)
     × ((S : Query) → HasLines S l.n l.lines → (start : List ℕ) (odd : Row) → Holds start (odd ∷ []) l.initial.out
     → LinesSome l.base l.others S start odd l.k l.out l.count)
-
-abbrev pub decreases-loop-k : goal.decreases-loop-k
-decreases-loop-k l = l.n - l.k

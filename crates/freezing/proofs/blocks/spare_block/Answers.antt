@@ -1,7 +1,11 @@
-use Prim.Native.Nat.{◌+◌}
-use native.Mathlib.Omega.{arith}
-use borrow.Author.Count.{below_more}
-use Rattle.freezing.specs.Blocks.{most_blocks}
+use Rattle.std.proofs.Common.{rules, tests, arith, ◌≡◌, ℕ, ◌<◌, length, get_or}
+use lib.Dec.{eqb}
+use Rattle.std.specs.List.{position_or_len}
+use Rattle.std.proofs.lemmas.Bool.{lt-ltb, eqb-false}
+use Rattle.std.proofs.lemmas.Iterator.{YieldsList-from_slice}
+use Rattle.std.proofs.lemmas.Iterator.Search.{position_from_yields_List}
+use Rattle.std.proofs.lemmas.List.Sums.{fails_before_first}
+use Rattle.freezing.specs.Blocks.{most_blocks, IsTaken}
 use Rattle.freezing.proofs.Spare.{none_taken, taken_few, spare_found}
 use Rattle.freezing.proofs.blocks.spare_block.Goals as goal
 
@@ -11,32 +15,21 @@ take_rows-requires c = omega arith
 pub take_rows-requires-2 : goal.take_rows-requires-2
 take_rows-requires-2 c = omega (arith, c.take_rows.ensures.long)
 
-pub loop-j-init : goal.loop-j-init
-loop-j-init c = (omega arith, λ b h. absurd (omega (arith, h)))
-
-pub offset_bounds-taken-j : goal.offset_bounds-taken-j
-offset_bounds-taken-j c = omega arith
-
-pub bounds-taken-j : goal.bounds-taken-j
-bounds-taken-j c = omega arith
-
-pub overflow_add-j : goal.overflow_add-j
-overflow_add-j c = omega arith
-
-pub loop-j-smaller : goal.loop-j-smaller
-loop-j-smaller c = omega arith
-
-pub loop-j-preserved : goal.loop-j-preserved
-loop-j-preserved c =
-    let at = c.loop-j in
-    let all = below_more _ _ at.invariant.1 c.loop-j-test.true in
-    let few = taken_few (none_taken most_blocks) c.take_rows.ensures c.take_rows-2.ensures (at.j + 1) all in
-    (omega (arith, few), all)
-
-pub overflow_mul-result : goal.overflow_mul-result
-overflow_mul-result c = omega arith
+pub unwrap-j-requires : goal.unwrap-j-requires
+unwrap-j-requires c =
+    let taken = c.take_rows-2.new.taken in
+    let found =
+    position_from_yields_List (λ t. eqb t 0) _ _ c.position.result c.position.ensures.ran
+    (YieldsList-from_slice taken c.iter.ensures.rest) (λ x b q k. search (rules, tests)) in
+    let j = position_or_len (λ t. eqb t 0) taken in
+    let few = taken_few (none_taken most_blocks) c.take_rows.ensures c.take_rows-2.ensures j (λ b h.
+    eqb-false _ _ (fails_before_first (λ t. eqb t 0) taken b 0 h)) in
+    rw (found, lt-ltb j (length taken) (omega (arith, few, c.take_rows-2.array_long)))
 
 pub returns : goal.returns
 returns c =
-    let at = c.loop-j in
-    spare_found c.take_rows.ensures c.take_rows-2.ensures at.j at.invariant.0 c.loop-j-test.false
+    let taken = c.take_rows-2.new.taken in
+    let all : (b : ℕ) → b < c.unwrap-j.result → IsTaken taken b = search rules in
+    let free : get_or taken c.unwrap-j.result 0 ≡ 0 = search rules in
+    let few = taken_few (none_taken most_blocks) c.take_rows.ensures c.take_rows-2.ensures c.unwrap-j.result all in
+    spare_found c.take_rows.ensures c.take_rows-2.ensures c.unwrap-j.result few free

@@ -1,10 +1,6 @@
 -- `take_rows`: the blocks of the constants in the rows before `k` are taken.
-use Prim.Native.Nat.{◌-◌, ◌≤◌}
 use Rattle.freezing.specs.Blocks.{RowsTaken}
 use Rattle.freezing.proofs.blocks.take_rows.Given as goal
 
 abbrev pub invariant-loop-k : goal.invariant-loop-k
-invariant-loop-k l = (l.k ≤ l.count) × RowsTaken l.rows l.k l.initial.taken l.taken
-
-abbrev pub decreases-loop-k : goal.decreases-loop-k
-decreases-loop-k l = l.count - l.k
+invariant-loop-k l = RowsTaken l.rows l.k l.initial.taken l.taken

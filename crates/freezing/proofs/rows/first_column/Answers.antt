@@ -10,7 +10,7 @@ pub term_at-t-requires : goal.term_at-t-requires
 term_at-t-requires c = c.requires
 
 pub loop-q-init : goal.loop-q-init
-loop-q-init c = (omega arith, below_none _)
+loop-q-init c = below_none _
 
 pub term_at-u-requires : goal.term_at-u-requires
 term_at-u-requires c = (c.requires.0, omega (arith, c.requires.1))
@@ -19,28 +19,20 @@ pub returns-then-same_term : goal.returns-then-same_term
 returns-then-same_term c =
     let here = c.term_at-u.ensures in
     record {
-      upto = c.loop-q.invariant.0;
+      upto = omega arith;
       same =
           sym here ∙ (same_term_iff _ _).0 (true_holds (sym c.same_term.ensures ∙ c.if-same_term.true))
           ∙ c.term_at-t.ensures;
-      least = c.loop-q.invariant.1;
+      least = c.loop-q.invariant;
     }
-
-pub overflow_add-q : goal.overflow_add-q
-overflow_add-q c = omega arith
-
-pub loop-q-smaller : goal.loop-q-smaller
-loop-q-smaller c = omega arith
 
 pub loop-q-preserved : goal.loop-q-preserved
 loop-q-preserved c =
     let here = c.term_at-u.ensures in
-    let sought = c.term_at-t.ensures in (
-      omega arith,
-      below_more _ _ c.loop-q.invariant.1 (λ e.
-          false≢true (sym c.if-same_term.false ∙ c.same_term.ensures
-          ∙ sym (holds_true _ ((same_term_iff _ _).1 (here ∙ e ∙ sym sought))))),
-    )
+    let sought = c.term_at-t.ensures in
+    below_more _ _ c.loop-q.invariant (λ e.
+    false≢true (sym c.if-same_term.false ∙ c.same_term.ensures
+    ∙ sym (holds_true _ ((same_term_iff _ _).1 (here ∙ e ∙ sym sought)))))
 
 pub returns : goal.returns
-returns c = record { upto = omega arith; same = refl; least = λ j l. c.loop-q.invariant.1 j (omega arith) }
+returns c = record { upto = omega arith; same = refl; least = λ j l. c.loop-q.invariant j (omega arith) }

@@ -7,11 +7,8 @@ use Rattle.freezing.proofs.rows.frozen_row.Goals as goal
 pub table_at-requires : goal.table_at-requires
 table_at-requires c = c.requires.1
 
-pub bounds-cells-0 : goal.bounds-cells-0
-bounds-cells-0 c = omega arith
-
 pub loop-p-init : goal.loop-p-init
-loop-p-init c = (omega arith, record { long = refl; table = c.table_at.ensures; columns = λ q l. absurd (omega arith) })
+loop-p-init c = record { long = refl; table = c.table_at.ensures; columns = λ q l. absurd (omega arith) }
 
 pub term_at-t-requires : goal.term_at-t-requires
 term_at-t-requires c = (c.requires.1, omega arith)
@@ -21,27 +18,10 @@ frozen-requires c =
     let some = c.requires.2 in
     (c.requires.0, rw c.term_at-t.ensures (small_term _ _ some.0 some.1 _ c.loop-p-test.true))
 
-pub overflow_add-cells : goal.overflow_add-cells
-overflow_add-cells c = omega arith
-
-pub offset_bounds-cells-p : goal.offset_bounds-cells-p
-offset_bounds-cells-p c = omega arith
-
-pub bounds-cells-p : goal.bounds-cells-p
-bounds-cells-p c = omega arith
-
-pub overflow_add-p : goal.overflow_add-p
-overflow_add-p c = omega arith
-
-pub loop-p-smaller : goal.loop-p-smaller
-loop-p-smaller c = omega arith
-
 pub loop-p-preserved : goal.loop-p-preserved
-loop-p-preserved c = (
-  omega arith,
-  frozen_more c.loop-p.invariant.1 c.loop-p-test.true
-      (c.frozen.ensures ∙ ap (frozen_term _) c.term_at-t.ensures),
-)
+loop-p-preserved c =
+    frozen_more c.loop-p.invariant c.loop-p-test.true
+    (c.frozen.ensures ∙ ap (frozen_term _) c.term_at-t.ensures)
 
 pub returns : goal.returns
-returns c = frozen_all c.loop-p.invariant.1 (omega arith)
+returns c = frozen_all c.loop-p.invariant (omega arith)
