@@ -3,6 +3,7 @@
 use mathlib.Core.Path.{◌≡◌, refl, sym, ap, ◌∙◌}
 use mathlib.Core.Bool.{Bool, true, false, cond, ◌&&◌, true≢false}
 use mathlib.Core.Option.{Option, none, some}
+use mathlib.Core.Logic.{◌⊎◌, ⊎_elim}
 use mathlib.Core.List.{List, [], ◌∷◌}
 use Prim.Native.Nat.{ℕ, zero, suc, ◌+◌, ◌≤◌, ◌<◌}
 use native.Mathlib.Nat.{suc-ne-zero, not-suc-le-zero}
@@ -13,12 +14,13 @@ use Rattle.text.specs.Lines.{lines, split, before}
 use Rattle.text.specs.declared.Cursor.{Cursor}
 use Rattle.text.proofs.NextLines.{front, back, of_tail, of_line, LineAt}
 use Rattle.model.specs.Fields.{Numbered, table_line, view_line, partition_line}
-use Rattle.policy_text.specs.Text.{Block, tables, views, partitions, is_next, next_block}
+use Rattle.policy_text.specs.Text.{Block as TheBlock, tables, views, partitions, is_next, next_block}
 use Rattle.policy_text.specs.Text.{faulty, entered, unless, entry, enter, table_fault, view_fault, partition_fault}
 use Rattle.policy_text.specs.Text.{nothing, refused, accepted, policy_ends, go_on, load_from}
 use Rattle.policy_text.specs.Declared.{Declared}
 use Rattle.policy_text.specs.Text.{Loading as TheLoading, Entered as TheEntered}
-use Rattle.load.specs.Steps.{block_number, progress_value, after_entry, stepped_value, more_tables, more_views, more_partitions}
+use Rattle.load.specs.Steps.{block_value, progress_value, after_entry, stepped_value, more_tables, more_views, more_partitions}
+use Rattle.load.specs.declared.Block.TheVariants.{Tables, Views, Partitions}
 use Rattle.load.specs.declared.Progress.{Progress}
 use Rattle.load.specs.declared.Stepped.{Stepped}
 use Rattle.load.proofs.Blocks.{block_of, started_of}
@@ -26,15 +28,15 @@ use Rattle.load.proofs.Blocks.{block_of, started_of}
 -- ---- the rest of a text
 
 -- the lines from number k on
-abbrev pub behind : Block → Bool → Declared → ℕ → List ℕ → TheLoading
+abbrev pub behind : TheBlock → Bool → Declared → ℕ → List ℕ → TheLoading
 behind b started d k text = load_from b started d k (lines text).ended (lines text).rest
 
-behind_line : (b : Block) (started : Bool) (d : Declared) (k : ℕ) (text : List ℕ) → before 10 text < length text
+behind_line : (b : TheBlock) (started : Bool) (d : Declared) (k : ℕ) (text : List ℕ) → before 10 text < length text
     → behind b started d k text ≡ load_from b started d k (front text ∷ (lines (back text)).ended) (lines (back text)).rest
 behind_line b started d k text h = of_line (load_from b started d k) text h
 
 -- the text stops in a line
-behind_tail : (b : Block) (started : Bool) (d : Declared) (k : ℕ) (text : List ℕ) → before 10 text ≡ length text → 0 < length text
+behind_tail : (b : TheBlock) (started : Bool) (d : Declared) (k : ℕ) (text : List ℕ) → before 10 text ≡ length text → 0 < length text
     → behind b started d k text ≡ refused 1 k
 unfolding load_from policy_ends
 behind_tail b started d k [] e h = absurd (not-suc-le-zero h)
@@ -56,21 +58,21 @@ entry_positive (some x) f add = by_fault (f x)
     by_fault zero = tt
     by_fault (suc n) = suc-ne-zero n
 
-enter_positive : (b : Block) (d : Declared) (l : List ℕ) → Positive (enter b d l)
+enter_positive : (b : TheBlock) (d : Declared) (l : List ℕ) → Positive (enter b d l)
 unfolding enter more_tables more_views more_partitions
 enter_positive tables d l = entry_positive (table_line l) (table_fault d) (more_tables d)
 enter_positive views d l = entry_positive (view_line l) (view_fault d) (more_views d)
 enter_positive partitions d l = entry_positive (partition_line l) (partition_fault d) (more_partitions d)
 
 -- how the text goes on behind a line that is not turned back
-pub record Next (b : Block) (started : Bool) (d : Declared) (l : List ℕ) (k : ℕ) (ls : List (List ℕ)) (tail : List ℕ) : Type 0 where
-  pub block : Block
+pub record Next (b : TheBlock) (started : Bool) (d : Declared) (l : List ℕ) (k : ℕ) (ls : List (List ℕ)) (tail : List ℕ) : Type 0 where
+  pub block : TheBlock
   pub begun : Bool
   pub declared : Declared
   pub progress : (stepped_value b started d l).progress ≡ progress_value block begun declared
   pub same : load_from b started d k (l ∷ ls) tail ≡ load_from block begun declared (suc k) ls tail
 
-module _ (b : Block) (started : Bool) (d : Declared) (l : List ℕ) (k : ℕ) (ls : List (List ℕ)) (tail : List ℕ) where
+module _ (b : TheBlock) (started : Bool) (d : Declared) (l : List ℕ) (k : ℕ) (ls : List (List ℕ)) (tail : List ℕ) where
   pub turned_back : ((stepped_value b started d l).fault ≡ 0 → ⊥)
       → load_from b started d k (l ∷ ls) tail ≡ refused (stepped_value b started d l).fault k
   unfolding stepped_value load_from after_entry go_on
@@ -101,7 +103,7 @@ module _ (b : Block) (started : Bool) (d : Declared) (l : List ℕ) (k : ℕ) (l
 
 -- line number `line` starts at the place `at`, and the text's first line has the number `start`
 pub record Walked (text : List ℕ) (start : ℕ) (g : Progress) (line at : ℕ) : Type 0 where
-  pub block : Block
+  pub block : TheBlock
   pub begun : Bool
   pub declared : Declared
   pub held : g ≡ progress_value block begun declared
@@ -122,15 +124,6 @@ walked_none text start g e =
     }
 
 module _ {text : List ℕ} {start : ℕ} {g : Progress} {line at : ℕ} (w : Walked text start g line at) where
-  pub block_small : g.block ≤ 2
-  unfolding block_number
-  block_small = go w.block (block_of w.block w.begun w.declared g w.held)
-    where
-      go : (b : Block) → g.block ≡ block_number b → g.block ≤ 2
-      go tables e = omega arith
-      go views e = omega arith
-      go partitions e = omega arith
-
   -- the text stops in a line
   pub stops : at < length text → before 10 (drop at text) ≡ length (drop at text) → refused 1 line ≡ behind tables false nothing start text
   stops l e =
@@ -176,15 +169,17 @@ module _ {text : List ℕ} {start : ℕ} {g : Progress} {line at : ℕ} (w : Wal
     unfolding load_from lines split
     ended = ap (behind w.block w.begun w.declared line) (sym (drop_of_length-le text l)) ∙ w.ahead
 
-    pub not_partitions : (g.block ≡ 2 → ⊥) → refused 1 line ≡ behind tables false nothing start text
-    unfolding policy_ends block_number
-    not_partitions n = go w.block (block_of w.block w.begun w.declared g w.held) ended
+    pub too_early : (g.block ≡ Tables) ⊎ (g.block ≡ Views) → refused 1 line ≡ behind tables false nothing start text
+    unfolding policy_ends
+    too_early n = go w.block (block_of w.block w.begun w.declared g w.held) ended
       where
-        go : (b : Block) → g.block ≡ block_number b → policy_ends b w.begun w.declared line [] ≡ behind tables false nothing start text
+        go : (b : TheBlock) → g.block ≡ block_value b → policy_ends b w.begun w.declared line [] ≡ behind tables false nothing start text
             → refused 1 line ≡ behind tables false nothing start text
         go tables e q = q
         go views e q = q
-        go partitions e q = absurd (n e)
+        go partitions e q =
+            ⊎_elim (λ t. let z : Tables ≡ Partitions = sym t ∙ e in absurd (grind arith))
+            (λ v. let z : Views ≡ Partitions = sym v ∙ e in absurd (grind arith)) n
 
     is_begun : w.begun ≡ g.started
     is_begun = sym (started_of w.block w.begun w.declared g w.held)
@@ -193,21 +188,22 @@ module _ {text : List ℕ} {start : ℕ} {g : Progress} {line at : ℕ} (w : Wal
     unfolding policy_ends
     not_begun s = go w.block w.begun (is_begun ∙ s) ended
       where
-        go : (b : Block) (t : Bool) → t ≡ false → policy_ends b t w.declared line [] ≡ behind tables false nothing start text
+        go : (b : TheBlock) (t : Bool) → t ≡ false → policy_ends b t w.declared line [] ≡ behind tables false nothing start text
             → refused 1 line ≡ behind tables false nothing start text
         go tables t e q = q
         go views t e q = q
         go partitions true e q = absurd (true≢false e)
         go partitions false e q = q
 
-    pub all_declared : g.block ≡ 2 → g.started ≡ true → accepted w.declared ≡ behind tables false nothing start text
-    unfolding policy_ends block_number
-    all_declared p s = go w.block w.begun (sym (block_of w.block w.begun w.declared g w.held) ∙ p) (is_begun ∙ s) ended
+    pub all_declared : (g.block ≡ Tables → ⊥) → (g.block ≡ Views → ⊥) → g.started ≡ true
+        → accepted w.declared ≡ behind tables false nothing start text
+    unfolding policy_ends
+    all_declared t v s = go w.block w.begun (block_of w.block w.begun w.declared g w.held) (is_begun ∙ s) ended
       where
-        go : (b : Block) (t : Bool) → block_number b ≡ 2 → t ≡ true
-            → policy_ends b t w.declared line [] ≡ behind tables false nothing start text
+        go : (b : TheBlock) (y : Bool) → g.block ≡ block_value b → y ≡ true
+            → policy_ends b y w.declared line [] ≡ behind tables false nothing start text
             → accepted w.declared ≡ behind tables false nothing start text
-        go tables t e f q = absurd (omega (arith, e))
-        go views t e f q = absurd (omega (arith, e))
+        go tables y e f q = absurd (t e)
+        go views y e f q = absurd (v e)
         go partitions true e f q = q
         go partitions false e f q = absurd (true≢false (sym f))

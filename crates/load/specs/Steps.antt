@@ -6,13 +6,15 @@ use Rattle.theory.specs.Query.{Line}
 use Rattle.model.specs.Limits.{most_tables}
 use Rattle.model.specs.Fields.{Numbered}
 use Rattle.model.specs.declared.Parsed.{Parsed}
-use Rattle.policy_text.specs.Text.{nothing, faulty, entered, tables, views, partitions, Block, enter, is_next, next_block, load_from}
+use Rattle.policy_text.specs.Text.{nothing, faulty, entered, tables, views, partitions, enter, is_next, next_block, load_from}
 use Rattle.policy_text.specs.Declared.{Declared}
-use Rattle.policy_text.specs.Text.{Entered as TheEntered}
+use Rattle.policy_text.specs.Text.{Block as TheBlock, Entered as TheEntered}
 use Rattle.policy_text.specs.Policy.{policy_value}
 use Rattle.load.specs.Value.{loading_value}
 use Rattle.model.specs.declared.Policy.{Policy}
 use Rattle.model.specs.declared.Refusal.{Refusal}
+use Rattle.load.specs.declared.Block.{Block}
+use Rattle.load.specs.declared.Block.TheVariants.{Tables, Views, Partitions}
 use Rattle.load.specs.declared.Progress.{Progress}
 use Rattle.load.specs.declared.Stepped.{Stepped}
 use Rattle.load.specs.declared.enter.Entered.{Entered}
@@ -49,23 +51,23 @@ Numbering most ok outside n = ok ≡ true → outside ≡ false → (1 ≤ n) ×
 abbrev pub ViewTabled : Bool → Bool → Parsed → Type 0
 ViewTabled ok outside v = ok ≡ true → outside ≡ false → (1 ≤ v.table) × (v.table ≤ most_tables)
 
--- a block's number
-unfoldable pub block_number : Block → ℕ
-block_number tables = 0
-block_number views = 1
-block_number partitions = 2
+-- a block, as the code's value
+abbrev pub block_value : TheBlock → Block
+block_value tables = Tables
+block_value views = Views
+block_value partitions = Partitions
 
-unfoldable pub progress_value : Block → Bool → Declared → Progress
-unfolding block_number policy_value
-progress_value b started d = record { block = block_number b; started = started; policy = policy_value d }
+unfoldable pub progress_value : TheBlock → Bool → Declared → Progress
+unfolding policy_value
+progress_value b started d = record { block = block_value b; started = started; policy = policy_value d }
 
 -- a line in a block: the next block's names line, once this one has a line of values, or a line of values
-unfoldable pub after_entry : Block → Declared → TheEntered → Stepped
+unfoldable pub after_entry : TheBlock → Declared → TheEntered → Stepped
 unfolding progress_value
 after_entry b d (faulty n) = record { fault = n; progress = progress_value b true d }
 after_entry b d (entered e) = record { fault = 0; progress = progress_value b true e }
 
-unfoldable pub stepped_value : Block → Bool → Declared → List ℕ → Stepped
+unfoldable pub stepped_value : TheBlock → Bool → Declared → List ℕ → Stepped
 unfolding progress_value next_block is_next enter after_entry
 stepped_value b started d l =
     cond (started && is_next b l) (record { fault = 0; progress = progress_value (next_block b) false d }) (after_entry b d (enter b d l))

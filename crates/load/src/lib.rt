@@ -5,10 +5,10 @@
 mod enter;
 
 ghost use Rattle.std.specs.Prelude.{◌≡◌, ◌&&◌, ◌≤◌, ◌<◌, ◌^◌, length};
-ghost use Rattle.policy_text.specs.Text.{Block, nothing, refused as refusedLoading, is_next, load as loadText};
+ghost use Rattle.policy_text.specs.Text.{Block as TheBlock, nothing, refused as refusedLoading, is_next, next_block, load as loadText};
 ghost use Rattle.policy_text.specs.Policy.{policy_value};
 ghost use Rattle.load.specs.Value.{loading_value};
-ghost use Rattle.load.specs.Steps.{BlocksLoaded, block_number};
+ghost use Rattle.load.specs.Steps.{BlocksLoaded, block_value};
 ghost use Rattle.load.specs.Entering.{Entering, Stepping};
 
 use enter::Entered;
@@ -18,16 +18,17 @@ use model::{Line, MOST_COLUMNS, MOST_TABLES, MOST_VIEWS, Policy, Refusal, Tables
 pub const MOST_BYTES: usize = 16384;
 
 // The blocks of a policy text.
-const TABLES: u8 = 0;
-
-const VIEWS: u8 = 1;
-
-const PARTITIONS: u8 = 2;
+#[derive(Clone, Copy)]
+enum Block {
+    Tables,
+    Views,
+    Partitions,
+}
 
 // The block that is read, whether it has a line of values, and what is declared so far.
 #[derive(Clone, Copy)]
 struct Progress {
-    block: u8,
+    block: Block,
     started: bool,
     policy: Policy,
 }
@@ -59,33 +60,39 @@ fn refused(number: u64, line: u64) -> Result<Policy, Refusal>
 }
 
 // Whether the line is the names line of the block behind this one, and this one has a line of values.
-fn is_next(started: bool, block: u8, line: &[u8]) -> bool
-    ensures { (b : Block) → block ≡ block_number b → result ≡ (started && is_next b line.now) }
+fn is_next(started: bool, block: Block, line: &[u8]) -> bool
+    ensures { (b : TheBlock) → block ≡ block_value b → result ≡ (started && is_next b line.now) }
 {
     if !started {
         return false;
     }
-    if block == TABLES {
-        return text::same(line, &text::VIEW_TABLE_TERMS);
+    match block {
+        Block::Tables => text::same(line, &text::VIEW_TABLE_TERMS),
+        Block::Views => text::same(line, &text::PARTITION_VIEWS),
+        Block::Partitions => false,
     }
-    if block == VIEWS {
-        return text::same(line, &text::PARTITION_VIEWS);
+}
+
+// The block behind one; none is behind the last.
+fn next_block(block: Block) -> Block
+    ensures { (b : TheBlock) → block ≡ block_value b → result ≡ block_value (next_block b) }
+{
+    match block {
+        Block::Tables => Block::Views,
+        Block::Views | Block::Partitions => Block::Partitions,
     }
-    false
 }
 
 // What a line of values of a block declares.
-fn enter_line(block: u8, p: Policy, line: &[u8]) -> Entered
+fn enter_line(block: Block, p: Policy, line: &[u8]) -> Entered
     requires { length line.now < 2 ^ 32 }
-    ensures { (b : Block) → block ≡ block_number b → Entering b p line.now result }
+    ensures { (b : TheBlock) → block ≡ block_value b → Entering b p line.now result }
 {
-    if block == TABLES {
-        return enter::enter_table(p, line);
+    match block {
+        Block::Tables => enter::enter_table(p, line),
+        Block::Views => enter::enter_view(p, line),
+        Block::Partitions => enter::enter_partition(p, line),
     }
-    if block == VIEWS {
-        return enter::enter_view(p, line);
-    }
-    enter::enter_partition(p, line)
 }
 
 // What a line turns the text back with, or 0, and how it goes on.
@@ -96,7 +103,7 @@ struct Stepped {
 }
 
 fn step(g: Progress, line: &[u8]) -> Stepped
-    requires { (g.block ≤ 2) × (length line.now < 2 ^ 32) }
+    requires { length line.now < 2 ^ 32 }
     ensures { Stepping g line.now result }
 {
     let policy = g.policy;
@@ -104,7 +111,7 @@ fn step(g: Progress, line: &[u8]) -> Stepped
         return Stepped {
             fault: 0,
             progress: Progress {
-                block: g.block + 1,
+                block: next_block(g.block),
                 started: false,
                 policy,
             },
@@ -128,7 +135,7 @@ fn load_lines(text: &[u8], start: u64) -> Result<Policy, Refusal>
     ensures { BlocksLoaded text.now start result }
 {
     let mut g = Progress {
-        block: TABLES,
+        block: Block::Tables,
         started: false,
         policy: empty_policy(),
     };
@@ -148,7 +155,7 @@ fn load_lines(text: &[u8], start: u64) -> Result<Policy, Refusal>
         line = next.line;
         at = at + next.at;
     }
-    if g.block != PARTITIONS {
+    if let Block::Tables | Block::Views = g.block {
         return refused(1, line);
     }
     if !g.started {

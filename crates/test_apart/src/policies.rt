@@ -33,7 +33,8 @@ pub fn long_constants() -> Policy {
 17 1 #18446744073709551544 ?1 !2 !3 !4 !5 !6 !7
 18 1 #18446744073709551615 ?1 !2 !3 !4 !5 !6 !7
 partition views\n1 1 2 3 4 5 6 7 8 9 10 11 12 13 14 15 16 17 18\n",
-    ).unwrap_or(load::empty_policy())
+    )
+    .unwrap_or(load::empty_policy())
 }
 
 // View k hides the columns at the bits of k, column 1 at bit 0; the partition grants all 32.
@@ -49,5 +50,6 @@ pub fn forty() -> Policy {
 25 1 ?0 !1 !2 ?3 ?4 !5 !6 !7\n26 1 !0 ?1 !2 ?3 ?4 !5 !6 !7\n27 1 ?0 ?1 !2 ?3 ?4 !5 !6 !7\n28 1 !0 !1 ?2 ?3 ?4 !5 !6 !7
 29 1 ?0 !1 ?2 ?3 ?4 !5 !6 !7\n30 1 !0 ?1 ?2 ?3 ?4 !5 !6 !7\n31 1 ?0 ?1 ?2 ?3 ?4 !5 !6 !7\n32 1 !0 !1 !2 !3 !4 ?5 !6 !7
 partition views\n1 1 2 3 4 5 6 7 8 9 10 11 12 13 14 15 16 17 18 19 20 21 22 23 24 25 26 27 28 29 30 31 32\n",
-    ).unwrap_or(load::empty_policy())
+    )
+    .unwrap_or(load::empty_policy())
 }

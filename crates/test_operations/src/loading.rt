@@ -6,7 +6,8 @@ use crate::policies::{
 };
 use crate::values;
 use model::{
-    CONSTANT, HIDDEN, Line, MOST_COLUMNS, MOST_TABLES, MOST_VIEWS, Policy, Refusal, SHOWN, Tables, Term,
+    CONSTANT, HIDDEN, Line, MOST_COLUMNS, MOST_TABLES, MOST_VIEWS, Policy, Refusal, SHOWN, Tables,
+    Term,
 };
 use test_expect::Said;
 

@@ -38,7 +38,8 @@ pub fn widest() -> Policy {
 partition views\n1 1\n2 2\n3 3\n4 4\n5 5\n6 6\n7 7\n8 8\n9 9\n10 10\n11 11\n12 12\n13 13\n14 14\n15 15\n16 16
 17 17\n18 18\n19 19\n20 20\n21 21\n22 22\n23 23\n24 24\n25 25\n26 26\n27 27\n28 28\n29 29\n30 30\n31 31\n32 32
 ",
-    ).unwrap_or(load::empty_policy())
+    )
+    .unwrap_or(load::empty_policy())
 }
 
 pub fn policy(number: u64) -> Policy {

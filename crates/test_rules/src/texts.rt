@@ -8,7 +8,8 @@ pub fn widest() -> Policy {
     load::load(
         b"table columns\n1 8\n2 8\n3 8\n4 8\n5 8\n6 8\n7 8\n8 8\n9 8\n10 8\n11 8\n12 8\n13 8\n14 8\n15 8\n16 8
 view table terms\n1 16 !1 !2 !3 !4 !5 !6 !7 !8\npartition views\n1 1\n",
-    ).unwrap_or(load::empty_policy())
+    )
+    .unwrap_or(load::empty_policy())
 }
 
 // Document 02's own, at the front of the buffer, behind other bytes and at its end; a buffer with room for the text alone.

@@ -8,10 +8,11 @@ use lib.ListN.{drop, length-take, length-drop}
 use borrow.Author.Tests.{not-true, not-false}
 use Rattle.text.proofs.NextLines.{front, LineAt, stops_here, ends_here}
 use Rattle.load.specs.Value.{loading_value}
-use Rattle.load.specs.Steps.{progress_value, block_number, stepped_value}
+use Rattle.load.specs.Steps.{progress_value, stepped_value}
+use Rattle.load.specs.declared.Block.TheVariants.{Tables}
 use Rattle.load.proofs.Blocks.{policy_of}
-use Rattle.load.proofs.Walk.{walked_none, walked_more, block_small}
-use Rattle.load.proofs.Walk.{stops, turns_back, not_partitions, not_begun, all_declared}
+use Rattle.load.proofs.Walk.{walked_none, walked_more}
+use Rattle.load.proofs.Walk.{stops, turns_back, too_early, not_begun, all_declared}
 use Rattle.load.proofs.load_lines.Goals as goal
 use Rattle.load.proofs.load_lines.Goals.{After-next_line-next, After-step-r, At-loop-at, Else-rest-next}
 
@@ -50,10 +51,10 @@ stepped c =
 -- ---- the needs
 
 pub loop-at-init : goal.loop-at-init
-unfolding progress_value block_number
+unfolding progress_value
 loop-at-init c =
     walked_none c.args.text.now _ _
-    (λ i. record { block = 0; started = false; policy = c.empty_policy.ensures i })
+    (λ i. record { block = Tables; started = false; policy = c.empty_policy.ensures i })
 
 pub slice_bounds-rest-count : goal.slice_bounds-rest-count
 slice_bounds-rest-count c = omega arith
@@ -80,7 +81,7 @@ slice_bounds-step-length c = simp (length-take, length-drop) (omega (arith, ends
 pub step-r-requires : goal.step-r-requires
 step-r-requires c =
     let t = turn (of_end (goal.at.step-r-requires c).Else-rest-next) in
-    (block_small t.loop-at.invariant, simp (length-take, length-drop) (omega (arith, t.requires)))
+    simp (length-take, length-drop) (omega (arith, t.requires))
 
 pub returns-then-r-ne0 : goal.returns-then-r-ne0
 returns-then-r-ne0 c =
@@ -99,12 +100,9 @@ loop-at-preserved c =
     let d = of-step s in
     walked_more (start s).loop-at.invariant (ends d) s.step-r.result (stepped s) (of_end d).next_line-next.ensures.number c.if-r-ne0.false
 
-pub returns-then-g-ne-PARTITIONS : goal.returns-then-g-ne-PARTITIONS
-returns-then-g-ne-PARTITIONS c =
-    c.refused-then-g-ne-PARTITIONS.ensures
-    ∙ ap loading_value
-    (let end = c in
-    not_partitions end.loop-at.invariant end.loop-at-test.false c.if-g-ne-PARTITIONS.true)
+pub returns-in-Tables : goal.returns-in-Tables
+returns-in-Tables c =
+    c.refused-in-Tables.ensures ∙ ap loading_value (too_early c.loop-at.invariant c.loop-at-test.false c.in-Tables.is)
 
 pub returns-then-not-g : goal.returns-then-not-g
 returns-then-not-g c =
@@ -119,4 +117,4 @@ returns c =
     let w = c.loop-at.invariant in
     ap Ok (policy_of w.block w.begun w.declared _ w.held)
     ∙ ap loading_value
-    (all_declared w c.loop-at-test.false c.if-g-ne-PARTITIONS.false (not-false _ c.if-not-g.false))
+    (all_declared w c.loop-at-test.false c.in_default.not-Tables c.in_default.not-Views (not-false _ c.if-not-g.false))

@@ -6,7 +6,7 @@ use Rattle.load.proofs.step.Goals as goal
 pub returns-then-is_next : goal.returns-then-is_next
 returns-then-is_next c = λ b started d e.
     goes_on b started d _ e c.args.line.now
-    (sym (c.is_next.ensures b (block_of b started d _ e)) ∙ c.if-is_next.true)
+    (sym (c.is_next.ensures b (block_of b started d _ e)) ∙ c.if-is_next.true) _ (c.next_block.ensures b (block_of b started d _ e))
 
 pub returns : goal.returns
 returns c = λ b started d e.
