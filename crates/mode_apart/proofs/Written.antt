@@ -5,8 +5,8 @@ use mathlib.Core.List.{List, [], ◌∷◌, ◌++◌, append_assoc, append-nil}
 use Prim.Native.Nat.{ℕ, ◌+◌, ◌-◌, ◌*◌, ◌/◌, ◌≤◌, ◌<◌}
 use native.Mathlib.Numerals.{add-one}
 use native.Mathlib.Omega.{arith}
-use lib.ListN.{length, take, drop, get_or, length-take, length-drop}
-use lib.Seq.{take_at, drop_at, drop-drop}
+use lib.ListN.{length, take, drop, get_or, length-take, length-drop, length-append}
+use lib.Seq.{take_at, drop_at}
 use Rattle.theory.specs.Archive.{Row}
 use Rattle.text.specs.Lines.{newline}
 use Rattle.text.specs.Names.{bytes}
@@ -96,16 +96,16 @@ rows_long {cells = cells} (x ∷ xs) h = omega (arith, rows_long xs (rows_behind
 
 -- ---- the loop
 
--- the rows before the place are written, and the others are ahead
-pub record Reached (t : Tables) (cells : List ℕ) (xs : List Row) (was : List ℕ) (start : ℕ) (out : List ℕ) (to at : ℕ) : Type 0 where
+-- some rows are written, and the cells that are left are those of the others
+pub record Reached (t : Tables) (left : List ℕ) (xs : List Row) (was : List ℕ) (start : ℕ) (out : List ℕ) (to : ℕ) : Type 0 where
   pub done : List Row
   pub rest : List Row
   pub all : done ++ rest ≡ xs
-  pub ahead : AreRows t (drop at cells) rest
+  pub ahead : AreRows t left rest
   pub wrote : Wrote was start (row_lines done) out to
 
 pub reached_none : {t : Tables} {cells : List ℕ} {xs : List Row} (was : List ℕ) (start : ℕ) → AreRows t cells xs
-    → Reached t cells xs was start was start 0
+    → Reached t cells xs was start was start
 unfolding row_lines
 reached_none {xs = xs} was start h = record { done = []; rest = xs; all = refl; ahead = h; wrote = wrote_none was start }
 
@@ -116,35 +116,44 @@ lines_last (y ∷ xs) x =
     append_assoc (row_line (bytes "row") y) (row_lines xs) (row_line (bytes "row") x)
     ∙ ap (λ (l : List ℕ). row_line (bytes "row") y ++ l) (lines_last xs x)
 
-module _ {t : Tables} {cells : List ℕ} {xs : List Row} {was : List ℕ} {start : ℕ} {out : List ℕ} {to at : ℕ}
-    (r : Reached t cells xs was start out to at) where
-  pub reached_all : length cells ≤ at → Wrote was start (row_lines xs) out to
+module _ {t : Tables} {left : List ℕ} {xs : List Row} {was : List ℕ} {start : ℕ} {out : List ℕ} {to : ℕ}
+    (r : Reached t left xs was start out to) where
+  pub reached_all : length left < row_cells → Wrote was start (row_lines xs) out to
   reached_all h = go r.rest r.all r.ahead
     where
-      go : (rest : List Row) → r.done ++ rest ≡ xs → AreRows t (drop at cells) rest → Wrote was start (row_lines xs) out to
+      go : (rest : List Row) → r.done ++ rest ≡ xs → AreRows t left rest → Wrote was start (row_lines xs) out to
       go [] e a = wrote_as (ap row_lines (sym (append-nil r.done) ∙ e)) r.wrote
-      go (x ∷ rest) e a = absurd (omega (arith, rows_some a, length-drop at cells))
+      go (x ∷ rest) e a = absurd (omega (arith, rows_some a))
 
-  module _ (h : at < length cells) where
-    pub reached_row : SomeRow t (take row_cells (drop at cells)) × (at + row_cells ≤ length cells)
+  -- the next nine cells, and those behind them
+  module _ (row behind : List ℕ) (parts : left ≡ row ++ behind) (long : length row ≡ row_cells) where
+    row_first : take row_cells left ≡ row
+    row_first = rw parts (take_at row behind row_cells long)
+
+    row_behind : drop row_cells left ≡ behind
+    row_behind = rw parts (drop_at row behind row_cells long)
+
+    some : length left ≡ 0 → ⊥
+    some e = omega (arith, ap length parts, length-append row behind)
+
+    pub reached_row : SomeRow t row
     reached_row = go r.rest r.ahead
       where
-        go : (rest : List Row) → AreRows t (drop at cells) rest → SomeRow t (take row_cells (drop at cells)) × (at + row_cells ≤ length cells)
-        go [] a = absurd (omega (arith, rows_long [] a, length-drop at cells))
-        go (x ∷ rest) a = ((x, rows_first a), omega (arith, rows_some a, length-drop at cells))
+        go : (rest : List Row) → AreRows t left rest → SomeRow t row
+        go [] a = absurd (some (rows_long [] a))
+        go (x ∷ rest) a = (x, rw row_first at (rows_first a))
 
-    pub reached_more : {next : List ℕ} {k : ℕ} → RowPut (bytes "row") t (take row_cells (drop at cells)) out to next k
-        → Reached t cells xs was start next k (at + row_cells)
+    pub reached_more : {next : List ℕ} {k : ℕ} → RowPut (bytes "row") t row out to next k → Reached t behind xs was start next k
     reached_more {next} {k} w = go r.rest r.all r.ahead
       where
-        go : (rest : List Row) → r.done ++ rest ≡ xs → AreRows t (drop at cells) rest → Reached t cells xs was start next k (at + row_cells)
-        go [] e a = absurd (omega (arith, rows_long [] a, length-drop at cells))
+        go : (rest : List Row) → r.done ++ rest ≡ xs → AreRows t left rest → Reached t behind xs was start next k
+        go [] e a = absurd (some (rows_long [] a))
         go (x ∷ rest) e a = record {
           done = r.done ++ x ∷ [];
           rest = rest;
           all = append_assoc r.done (x ∷ []) rest ∙ e;
-          ahead = subst (λ (l : List ℕ). AreRows t l rest) (drop-drop row_cells at cells) (rows_behind a);
-          wrote = wrote_as (lines_last r.done x) (wrote_more r.wrote (w x (rows_first a)));
+          ahead = rw row_behind at (rows_behind a);
+          wrote = wrote_as (lines_last r.done x) (wrote_more r.wrote (w x (rw row_first at (rows_first a))));
         }
 
 -- ---- the page of two archives

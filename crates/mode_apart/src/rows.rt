@@ -12,17 +12,16 @@ ghost use Rattle.mode_apart.specs.Rows.{SomeRow, SomeRows, SomeArchives, RowPut,
 use freezing::ROW_CELLS;
 use model::Tables;
 
-// Numbers, each behind a space.
+// Numbers of 64 bits, each behind a space. `page::put_numbers` writes those of 32: one function for both would have to be told what number
+// an item is, in its bounds and in its clauses.
 fn put_cells(out: &mut [u8], start: usize, cells: &[u64]) -> usize
     requires { start + length cells.now * most_field_bytes ≤ length out.old }
     ensures wrote { Wrote out.old start (spaced_numbers cells.now) out.new result }
     ensures upper_bound { result ≤ start + length cells.now * most_field_bytes }
 {
     let mut to = start;
-    let mut i = 0;
-    while i < cells.len() {
-        to = page::put_spaced(out, to, cells[i]);
-        i += 1;
+    for n in cells {
+        to = page::put_spaced(out, to, *n);
     }
     to
 }
@@ -54,11 +53,8 @@ fn put_rows(out: &mut [u8], start: usize, tables: Tables, cells: &[u64]) -> usiz
     ensures { RowsPut tables cells.now out.old start out.new result }
 {
     let mut to = start;
-    let mut at = 0;
-    while at < cells.len() {
-        let behind = at + ROW_CELLS;
-        to = put_row(out, to, b"row", tables, &cells[at..behind]);
-        at = behind;
+    for row in cells.chunks_exact(ROW_CELLS) {
+        to = put_row(out, to, b"row", tables, row);
     }
     to
 }

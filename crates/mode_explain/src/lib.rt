@@ -17,13 +17,11 @@ fn put_word(out: &mut [u8], at: usize, p: Policy, word: u32) -> usize
     requires { at + most_word ≤ length out.old }
     ensures { WordPut p word out.old at out.new result × (result ≤ at + most_word) }
 {
-    let v = page::views_of(page::wide(word));
-    let count = v.count;
-    let numbers = v.numbers;
-    if count == 0 {
+    let v = page::views_of(u64::from(word));
+    if v.count == 0 {
         return writing::put_bytes(out, at, b"views none\n");
     }
-    view_texts::put_list(out, at, b"views", p, &numbers[..count])
+    view_texts::put_list(out, at, b"views", p, &v.numbers[..v.count])
 }
 
 // The words, one below the other.
@@ -32,10 +30,8 @@ fn put_words(out: &mut [u8], start: usize, p: Policy, words: &[u32]) -> usize
     ensures { WordsPut p words.now out.old start out.new result }
 {
     let mut to = start;
-    let mut i = 0;
-    while i < words.len() {
-        to = put_word(out, to, p, words[i]);
-        i += 1;
+    for word in words {
+        to = put_word(out, to, p, *word);
     }
     to
 }

@@ -18,14 +18,12 @@ fn put_label(out: &mut [u8], at: usize, w: u64) -> usize
     ensures { Wrote out.old at (label_line w) out.new result × (result ≤ at + most_label) }
 {
     let v = page::views_of(words::high_half(w));
-    let count = v.count;
-    let numbers = v.numbers;
     let a = writing::put_bytes(out, at, b"label");
     let b = page::put_spaced(out, a, w);
     let c = writing::put_bytes(out, b, b" table");
     let d = page::put_spaced(out, c, words::low_half(w));
     let e = writing::put_bytes(out, d, b" views");
-    let f = page::put_numbers(out, e, &numbers[..count]);
+    let f = page::put_numbers(out, e, &v.numbers[..v.count]);
     writing::put_byte(out, f, b'\n')
 }
 
@@ -35,10 +33,8 @@ fn put_labels(out: &mut [u8], labels: &[u64]) -> usize
     ensures { Wrote out.old 0 (label_lines labels.now) out.new result }
 {
     let mut to = 0;
-    let mut i = 0;
-    while i < labels.len() {
-        to = put_label(out, to, labels[i]);
-        i += 1;
+    for w in labels {
+        to = put_label(out, to, *w);
     }
     to
 }

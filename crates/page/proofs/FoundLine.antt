@@ -1,19 +1,19 @@
 -- The line of a number, found from the front: what the loop over a text's lines keeps.
 use mathlib.Core.Path.{◌≡◌, refl, sym, ap, ◌∙◌, subst}
 use mathlib.Core.List.{List, [], ◌∷◌}
-use Prim.Native.Nat.{ℕ, zero, suc, ◌+◌, ◌-◌, ◌≤◌, ◌<◌}
+use Prim.Native.Nat.{ℕ, zero, suc, ◌-◌, ◌≤◌, ◌<◌}
 use native.Mathlib.Decide.{dec_lt}
 use native.Mathlib.Nat.{not-suc-le-zero}
 use native.Mathlib.Omega.{arith}
-use lib.ListN.{length, take, drop, length-drop, drop_of_length-le}
-use lib.Seq.{take_all, drop-drop, length-take-le}
+use lib.ListN.{length}
+use lib.Seq.{take_all}
 use Rattle.text.specs.Lines.{newline, lines, split, before}
 use Rattle.text.proofs.Lines.{before_le}
-use Rattle.text.proofs.Parts.{to_end}
-use Rattle.text.proofs.NextLines.{front, back, of_tail, of_line, rest_from}
+use Rattle.text.proofs.NextLines.{front, back, of_tail, of_line}
 use Rattle.writing.specs.Wrote.{Wrote}
 use Rattle.writing.proofs.Wrote.{wrote_as, wrote_none}
 use Rattle.page.specs.Refusal.{indented, numbered, line_below}
+use Rattle.page.proofs.Pieces.{FirstPiece}
 
 -- ---- the lines of a text
 
@@ -49,66 +49,29 @@ below_past (b ∷ l) k h = of_tail (numbered (suc (suc k))) (b ∷ l) h
 
 -- ---- the loop
 
--- the line of number `left` from the place `at` on is the one that is looked for
-pub record Reached (text : List ℕ) (line left at : ℕ) : Type 0 where
-  pub inside : at ≤ length text
-  pub some : 1 ≤ left
-  pub ahead : line_below (drop at text) left ≡ line_below text line
+pub below_nothing : (text : List ℕ) (k : ℕ) → length text ≡ 0 → [] ≡ line_below text k
+below_nothing [] k e = sym (below_none k)
+below_nothing (b ∷ l) k e = absurd (omega arith)
 
-pub reached_none : (text : List ℕ) (line : ℕ) → (line ≡ 0 → ⊥) → Reached text line line 0
-reached_none text line h = record { inside = omega arith; some = omega arith; ahead = refl }
+pub below_here : (text : List ℕ) (left : ℕ) → 0 < length text → left ≡ 1 → indented (front text) ≡ line_below text left
+below_here text left h e = sym (below_first text h) ∙ ap (line_below text) (sym e)
 
-module _ {text : List ℕ} {line left at : ℕ} (r : Reached text line left at) where
-  pub reached_all : length text ≤ at → [] ≡ line_below text line
-  reached_all h = sym (below_none left) ∙ ap (λ (l : List ℕ). line_below l left) (sym (drop_of_length-le text h)) ∙ r.ahead
+pub below_next : {text piece rest : List ℕ} (left : ℕ) → FirstPiece text piece rest → 1 ≤ left → (left ≡ 1 → ⊥)
+    → line_below rest (left - 1) ≡ line_below text left
+below_next {text} {rest = rest} left f some other = go (dec_lt (before newline text) (length text))
+  where
+    two : left ≡ suc (suc (left - 2))
+    two = omega arith
 
-  module _ (n : ℕ) (e : n ≡ before newline (rest_from text at)) where
-    here : n ≡ before newline (drop at text)
-    here = e ∙ ap (before newline) (to_end at text)
+    one : left - 1 ≡ suc (left - 2)
+    one = omega arith
 
-    long : length (rest_from text at) ≡ length (drop at text)
-    long = ap length (to_end at text)
-
-    pub first_within : n ≤ length (rest_from text at)
-    first_within = omega (arith, here, long, before_le newline (drop at text))
-
-    pub line_short : length (take n (rest_from text at)) ≤ length text
-    line_short = omega (arith, length-take-le n (rest_from text at) first_within, first_within, long, length-drop at text)
-
-    pub reached_line : at < length text → left ≡ 1 → indented (take n (rest_from text at)) ≡ line_below text line
-    reached_line h one =
-        rw (to_end at text, here) (sym (below_first (drop at text) (simp length-drop (omega arith))))
-        ∙ ap (line_below (drop at text)) (sym one) ∙ r.ahead
-
-    module _ (other : left ≡ 1 → ⊥) where
-      two : left ≡ suc (suc (left - 2))
-      two = omega (arith, r.some)
-
-      pub reached_end : n ≡ length (rest_from text at) → [] ≡ line_below text line
-      reached_end h =
-          sym (below_past (drop at text) (left - 2) (omega (arith, here, long)))
-          ∙ ap (line_below (drop at text)) (sym two) ∙ r.ahead
-
-      module _ (h : n ≡ length (rest_from text at) → ⊥) where
-        ends : before newline (drop at text) < length (drop at text)
-        ends = omega (arith, here, long, before_le newline (drop at text))
-
-        pub next_within : at + n + 1 ≤ length text
-        next_within = omega (arith, ends, here, r.inside, length-drop at text)
-
-        pub reached_more : Reached text line (left - 1) (at + n + 1)
-        reached_more =
-            let place : at + n + 1 ≡ at + suc (before newline (drop at text)) = omega (arith, here) in
-            let fewer : left - 1 ≡ suc (left - 2) = omega (arith, r.some) in
-            let behind : drop (at + n + 1) text ≡ back (drop at text)
-            = ap (λ (m : ℕ). drop m text) place ∙ sym (drop-drop (suc (before newline (drop at text))) at text) in
-            record {
-              inside = next_within;
-              some = omega (arith, r.some);
-              ahead =
-                  ap (λ (l : List ℕ). line_below l (left - 1)) behind ∙ ap (line_below (back (drop at text))) fewer
-                  ∙ sym (below_other (drop at text) (left - 2) ends) ∙ ap (line_below (drop at text)) (sym two) ∙ r.ahead;
-            }
+    go : Dec (before newline text < length text) → line_below rest (left - 1) ≡ line_below text left
+    go (yes h) =
+        rw ((f.ended h).1, one) (sym (below_other text (left - 2) h)) ∙ ap (line_below text) (sym two)
+    go (no h) =
+        let e : before newline text ≡ length text = omega (arith, before_le newline text) in
+        rw (f.tail e).1 (below_none (left - 1)) ∙ sym (below_past text (left - 2) e) ∙ ap (line_below text) (sym two)
 
 -- ---- written from a buffer that is as it was
 

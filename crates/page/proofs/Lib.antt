@@ -1,4 +1,5 @@
 -- Lines shown and numbers listed.
+pub mod Pieces
 pub mod FoundLine
 pub mod Refused
 pub mod Listed

@@ -24,18 +24,11 @@ pub fn put_below(out: &mut [u8], start: usize, text: &[u8], line: u64) -> usize
         return start;
     }
     let mut left = line;
-    let mut at = 0;
-    while at < text.len() {
-        let rest = &text[at..];
-        let n = text::first(rest, b'\n');
+    for piece in text.split_inclusive(|b| *b == b'\n') {
         if left == 1 {
-            return put_indented(out, start, &rest[..n]);
+            return put_indented(out, start, piece.strip_suffix(b"\n").unwrap_or(piece));
         }
-        if n == rest.len() {
-            return start;
-        }
-        left = left - 1;
-        at = at + n + 1;
+        left -= 1;
     }
     start
 }

@@ -11,7 +11,7 @@ ghost use Rattle.page.specs.Sizes.{most_page, most_said, Shown};
 ghost use Rattle.page.specs.Refusal.{refusal};
 
 pub use below::put_indented;
-pub use views::{ViewNumbers, put_numbers, put_spaced, views_of, wide};
+pub use views::{ViewNumbers, put_numbers, put_spaced, views_of};
 
 // Room for any page.
 pub const MOST_PAGE: usize = 65536;

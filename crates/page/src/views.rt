@@ -21,22 +21,13 @@ pub fn views_of(word: u64) -> ViewNumbers
 {
     let mut numbers = [0; MOST_VIEWS];
     let mut count = 0;
-    let mut k = 0;
-    while k < MOST_VIEWS {
+    for k in 0..MOST_VIEWS {
         if words::has_bit(word, k as u64) {
             numbers[count] = k as u32 + 1;
             count += 1;
         }
-        k += 1;
     }
     ViewNumbers { count, numbers }
-}
-
-// A number of 32 bits as one of 64.
-pub fn wide(n: u32) -> u64
-    ensures { result ≡ n }
-{
-    n as u64
 }
 
 // A space, and a number behind it.
@@ -55,10 +46,8 @@ pub fn put_numbers(out: &mut [u8], start: usize, numbers: &[u32]) -> usize
     ensures upper_bound { result ≤ start + length numbers.now * most_field_bytes }
 {
     let mut to = start;
-    let mut i = 0;
-    while i < numbers.len() {
-        to = put_spaced(out, to, wide(numbers[i]));
-        i += 1;
+    for n in numbers {
+        to = put_spaced(out, to, u64::from(*n));
     }
     to
 }

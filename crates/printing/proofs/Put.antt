@@ -84,9 +84,6 @@ module _ {line : Line} {was is : List ℕ} {start p to : ℕ} (f : FirstPut line
   pub put_unused : (term_at line p).mark ≡ 0 → TermsPut line was start is to
   put_unused m A e few = ended A e few (unused_behind A e few p m)
 
-  pub put_all : most_columns ≤ p → TermsPut line was start is to
-  put_all h A e few = ended A e few (omega arith)
-
   -- one term more
   pub put_more : {is' : List ℕ} {r : ℕ} → ((term_at line p).mark ≡ 0 → ⊥) → p < most_columns → TermPut (term_at line p) is to is' r
       → r ≤ to + most_term_bytes → length is' ≡ length is → FirstPut line was start (p + 1) is' r

@@ -6,7 +6,7 @@ ghost use Rattle.std.specs.Prelude.{◌≡◌, ◌+◌, ◌*◌, ◌≤◌, leng
 ghost use Rattle.model.specs.Limits.{most_columns};
 ghost use Rattle.printing.specs.Printing.{most_term_bytes, most_line_bytes, mark_byte, TermPut, TermsPut, LinePut};
 
-use model::{CONSTANT, Line, MOST_COLUMNS, SHOWN, Term, UNUSED};
+use model::{CONSTANT, Line, SHOWN, Term, UNUSED};
 
 // The byte of a mark.
 fn mark_byte(mark: u64) -> u8
@@ -37,14 +37,11 @@ fn put_terms(out: &mut [u8], start: usize, line: Line) -> usize
     ensures { TermsPut line out.old start out.new result × (result ≤ start + most_columns * most_term_bytes) }
 {
     let mut at = start;
-    let mut p = 0;
-    while p < MOST_COLUMNS {
-        let t = line.terms[p];
+    for t in &line.terms {
         if t.mark == UNUSED {
             return at;
         }
-        at = put_term(out, at, t);
-        p += 1;
+        at = put_term(out, at, *t);
     }
     at
 }

@@ -24,13 +24,10 @@ fn put_views(out: &mut [u8], start: usize, p: Policy, numbers: &[u32]) -> usize
     ensures upper_bound { result ≤ start + length numbers.now * most_view_text }
 {
     let mut to = start;
-    let mut i = 0;
-    while i < numbers.len() {
-        let n = page::wide(numbers[i]);
-        let k = n as usize - 1;
+    for n in numbers {
+        let k = *n as usize - 1;
         let view = p.views[k];
-        to = put_view(out, to, n, view);
-        i += 1;
+        to = put_view(out, to, u64::from(*n), view);
     }
     to
 }

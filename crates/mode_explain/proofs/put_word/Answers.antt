@@ -16,7 +16,7 @@ use Rattle.mode_explain.proofs.put_word.Goals as goal
 use Rattle.mode_explain.proofs.put_word.Goals.{After-views_of-v}
 
 held : (c : After-views_of-v) → HoldsViews c.args.word c.views_of-v.result
-held c = subst (λ (w : ℕ). HoldsViews w c.views_of-v.result) c.wide.ensures c.views_of-v.ensures
+held c = subst (λ (w : ℕ). HoldsViews w c.views_of-v.result) c.from.ensures c.views_of-v.ensures
 
 within : (c : After-views_of-v) → c.views_of-v.result.count ≤ length c.views_of-v.result.numbers
 within c =
@@ -27,16 +27,13 @@ listed : (c : After-views_of-v) →
     let v = c.views_of-v.result in length (take v.count v.numbers) ≡ v.count
 listed c = length-take-le _ _ (within c)
 
-pub returns-then-count-eq0 : goal.returns-then-count-eq0
+pub returns-then-v-eq0 : goal.returns-then-v-eq0
 unfolding bytes
-returns-then-count-eq0 c =
+returns-then-v-eq0 c =
     let n : c.put_bytes.result ≡ c.args.at + 11 = c.put_bytes.ensures.next in (
-      λ l. wrote_as (no_views l.declared.views (held (goal.at.returns-then-count-eq0 c).After-views_of-v) (within (goal.at.returns-then-count-eq0 c).After-views_of-v) c.if-count-eq0.true) c.put_bytes.ensures,
+      λ l. wrote_as (no_views l.declared.views (held (goal.at.returns-then-v-eq0 c).After-views_of-v) (within (goal.at.returns-then-v-eq0 c).After-views_of-v) c.if-v-eq0.true) c.put_bytes.ensures,
       omega (arith, n),
     )
-
-pub slice_bounds-numbers-end : goal.slice_bounds-numbers-end
-slice_bounds-numbers-end c = within (goal.at.slice_bounds-numbers-end c).After-views_of-v
 
 pub put_list-requires : goal.put_list-requires
 put_list-requires c = (
@@ -48,6 +45,6 @@ put_list-requires c = (
 pub returns : goal.returns
 unfolding bytes
 returns c = (
-  λ l. wrote_as (some_views l.declared.views (held (goal.at.returns c).After-views_of-v) (within (goal.at.returns c).After-views_of-v) c.if-count-eq0.false) (c.put_list.ensures.list_put l.declared (loaded_to l)),
+  λ l. wrote_as (some_views l.declared.views (held (goal.at.returns c).After-views_of-v) (within (goal.at.returns c).After-views_of-v) c.if-v-eq0.false) (c.put_list.ensures.list_put l.declared (loaded_to l)),
   omega (arith, listed (goal.at.returns c).After-views_of-v, c.views_of-v.ensures.few, c.put_list.ensures.upper_bound.0),
 )

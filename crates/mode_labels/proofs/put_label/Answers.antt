@@ -62,10 +62,6 @@ placed c =
           ∙ w.put_spaced-b.ensures.0.size ∙ a.put_bytes-a.ensures.size,
     )
 
-pub slice_bounds-numbers-end : goal.slice_bounds-numbers-end
-slice_bounds-numbers-end c =
-    within (viewed (tabled (worded (said (goal.at.slice_bounds-numbers-end c).After-put_bytes-e))))
-
 pub slice_bounds-put_numbers-end : goal.slice_bounds-put_numbers-end
 slice_bounds-put_numbers-end c =
     sym (listed (viewed (tabled (worded (said (goal.at.slice_bounds-put_numbers-end c).After-put_bytes-e)))))

@@ -1,68 +1,50 @@
 use mathlib.Core.Path.{refl, sym, ap, ◌∙◌}
 use native.Mathlib.Omega.{arith}
-use lib.ListN.{length}
-use lib.Seq.{length-take-le}
+use borrow.Author.Rules.{rules}
+use borrow.Author.Tests.{tests}
+use Prim.Native.Nat.{ℕ}
+use denote.Ref.{Bor}
+use mathlib.Core.List.{List}
+use lib.Dec.{eqb}
+use lib.ListN.{length, length-append}
+use Rattle.std.proofs.lemmas.Bool.Decides.{Decides-eqb}
+use Rattle.std.proofs.lemmas.Fn.{always_returns_same}
+use Rattle.std.proofs.lemmas.Slice.Eq.{strip_suffix_is}
+use Rattle.std.specs.Slice.Iter.{split_inclusive_rest}
+use Rattle.text.specs.Lines.{newline}
 use Rattle.writing.proofs.Wrote.{wrote_as}
-use Rattle.page.proofs.FoundLine.{below_zero, reached_none, reached_line, reached_end, reached_more, reached_all}
-use Rattle.page.proofs.FoundLine.{first_within, line_short, next_within, wrote_from, wrote_nothing}
+use Rattle.page.specs.Refusal.{indented}
+use Rattle.page.proofs.Pieces.{FirstPiece, first_piece, stripped}
+use Rattle.page.proofs.FoundLine.{below_zero, below_nothing, below_here, below_next, wrote_from, wrote_nothing}
 use Rattle.page.proofs.below.put_below.Goals as goal
+use Rattle.page.proofs.below.put_below.Goals.{In-Some}
 
 pub returns-then-line-eq0 : goal.returns-then-line-eq0
 returns-then-line-eq0 c =
     wrote_nothing refl (sym (rw c.if-line-eq0.true (below_zero _)))
 
-pub loop-at-init : goal.loop-at-init
-loop-at-init c = (reached_none _ _ c.if-line-eq0.false, refl)
-
-pub slice_bounds-rest-count : goal.slice_bounds-rest-count
-slice_bounds-rest-count c = omega arith
-
-pub slice_bounds-rest-start : goal.slice_bounds-rest-start
-slice_bounds-rest-start c = omega arith
-
-pub slice_bounds-rest-end : goal.slice_bounds-rest-end
-slice_bounds-rest-end c = omega arith
-
-pub slice_bounds-put_indented-end : goal.slice_bounds-put_indented-end
-slice_bounds-put_indented-end c =
-    sym (length-take-le _ _ (first_within c.loop-at.invariant.0 _ c.first-n.ensures))
-
-pub put_indented-requires : goal.put_indented-requires
-put_indented-requires c =
-    omega (arith, c.requires c.if-line-eq0.false, line_short c.loop-at.invariant.0 _ c.first-n.ensures, ap length c.loop-at.invariant.1)
-
-pub shape_of-out-then-left-eq1 : goal.shape_of-out-then-left-eq1
-shape_of-out-then-left-eq1 c =
-    c.put_indented.ensures.size ∙ ap length c.loop-at.invariant.1
+cut : (c : In-Some) → FirstPiece (split_inclusive_rest c.loop-piece.piece-iterator) c.in-Some.piece.now (split_inclusive_rest c.next.new.self)
+cut c =
+    let s = c.in-Some.ensures.steps in
+    let m = (s.1.2 (λ x. eqb x newline) (always_returns_same _ _ _ (λ a r f k. search (rules, tests)))).1 in
+    first_piece _ s.1.0 m _ _ s.0 s.1.1
 
 pub returns-then-left-eq1 : goal.returns-then-left-eq1
 returns-then-left-eq1 c =
-    wrote_from c.loop-at.invariant.1
-    (wrote_as (reached_line c.loop-at.invariant.0 _ c.first-n.ensures c.loop-at-test.true c.if-left-eq1.true) c.put_indented.ensures)
+    let f = cut (goal.at.returns-then-left-eq1 c).In-Some in
+    let s = c.in-Some.ensures.steps in
+    let said = strip_suffix_is Decides-eqb _ _ _ c.strip_suffix.ensures.cases in
+    let is = ap (λ (x : Bor (List ℕ)). indented x.now) c.unwrap_or.ensures ∙ ap indented (stripped f c.strip_suffix.result c.in-Some.piece refl said) ∙ below_here _ _ s.2 c.if-left-eq1.true ∙ c.loop-piece.invariant.4 in
+    wrote_from c.loop-piece.invariant.5 (wrote_as is c.put_indented.ensures)
 
-pub returns-then-n-rest : goal.returns-then-n-rest
-returns-then-n-rest c =
-    wrote_nothing c.loop-at.invariant.1 (reached_end c.loop-at.invariant.0 _ c.first-n.ensures c.if-left-eq1.false c.if-n-rest.true)
-
-pub overflow_sub-left : goal.overflow_sub-left
-overflow_sub-left c =
-    omega (arith, c.loop-at.invariant.0.some)
-
-pub overflow_add-at : goal.overflow_add-at
-overflow_add-at c =
-    omega (arith, next_within c.loop-at.invariant.0 _ c.first-n.ensures c.if-left-eq1.false c.if-n-rest.false)
-
-pub overflow_add-at-in-loop-at : goal.overflow_add-at-in-loop-at
-overflow_add-at-in-loop-at c =
-    omega (arith, next_within c.loop-at.invariant.0 _ c.first-n.ensures c.if-left-eq1.false c.if-n-rest.false)
-
-pub loop-at-smaller : goal.loop-at-smaller
-loop-at-smaller c =
-    omega (arith, next_within c.loop-at.invariant.0 _ c.first-n.ensures c.if-left-eq1.false c.if-n-rest.false)
-
-pub loop-at-preserved : goal.loop-at-preserved
-loop-at-preserved c =
-    (reached_more c.loop-at.invariant.0 _ c.first-n.ensures c.if-left-eq1.false c.if-n-rest.false, c.loop-at.invariant.1)
+pub loop-piece-preserved : goal.loop-piece-preserved
+loop-piece-preserved c =
+    let inv = c.loop-piece.invariant in
+    let f = cut (goal.at.loop-piece-preserved c).In-Some in
+    let s = c.in-Some.ensures.steps in
+    (search rules, tt, omega (arith, ap length s.0, length-append {A = ℕ}, inv.2), omega (arith, inv.3), below_next _ f inv.3 c.if-left-eq1.false ∙ inv.4, inv.5)
 
 pub returns : goal.returns
-returns c = wrote_nothing c.loop-at.invariant.1 (reached_all c.loop-at.invariant.0 c.loop-at-test.false)
+returns c =
+    let inv = c.loop-piece.invariant in
+    wrote_nothing inv.5 (below_nothing _ _ c.in-None.ensures.steps.0 ∙ inv.4)
