@@ -1,5 +1,5 @@
 -- One partition more in the words of the views that it grants, word by word.
-use mathlib.Core.Path.{◌≡◌, refl, ap, ◌∙◌}
+use mathlib.Core.Path.{◌≡◌, ap, ◌∙◌}
 use mathlib.Core.Bool.{cond}
 use mathlib.Core.List.{List}
 use Prim.Native.Nat.{ℕ, ◌+◌, ◌≤◌, ◌<◌}
@@ -21,9 +21,6 @@ pub record Partly (word i k : ℕ) (grants r : List ℕ) : Type 0 where
   pub rest : (j : ℕ) → k ≤ j → get_or r j 0 ≡ get_or grants j 0
 
 module _ (word i : ℕ) (grants : List ℕ) where
-  pub partly_none : Partly word i 0 grants grants
-  partly_none = record { long = refl; done = λ j h. absurd (omega arith); rest = λ j h. refl }
-
   pub partly_more : {k : ℕ} {r : List ℕ} (g : ℕ) → k < length grants → Partly word i k grants r → g ≡ with_grant word i k (get_or r k 0)
       → Partly word i (k + 1) grants (set r k g)
   partly_more {k} {r} g room p e = record {

@@ -146,12 +146,8 @@ fn granting(grants: [u64; MOST_VIEWS], views: u64, i: u64) -> [u64; MOST_VIEWS]
     ensures { Granting grants views i result }
 {
     let mut r = grants;
-    let mut k = 0;
-    while k < MOST_VIEWS {
-        let on = words::has_bit(views, k as u64);
-        let g = r[k];
-        r[k] = words::set_bit_if(g, i, on);
-        k += 1;
+    for (k, g) in r.iter_mut().enumerate() {
+        *g = words::set_bit_if(*g, i, words::has_bit(views, k as u64));
     }
     r
 }
