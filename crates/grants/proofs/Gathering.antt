@@ -14,7 +14,6 @@ use Rattle.words.proofs.TestBits.{tests_more, made_of}
 use Rattle.model.specs.Limits.{most_views}
 use Rattle.word_list.specs.Value.{words_value}
 use Rattle.word_list.specs.declared.Words.{Words}
-use Rattle.word_list.proofs.Value.{count_is, inside, word_is}
 use Rattle.labelling.specs.Settled.{holds_one}
 use Rattle.explain.specs.Explanation.{views_of, lacking}
 use Rattle.grants.specs.Searching.{holding, hits_of}
@@ -26,68 +25,61 @@ first_more ws i h = let one : i + 1 ≡ suc i = omega arith in ap (λ (k : ℕ).
 
 -- ---- the labels that hold no granted view
 
-pub record LackingTo (granted : ℕ) (l r : Words) (i : ℕ) : Type 0 where
+-- r is those among the first labels
+pub record LackingTo (granted : ℕ) (labels : List ℕ) (i : ℕ) (r : Words) : Type 0 where
   pub few : r.count ≤ i
-  pub words : (ws : List ℕ) → l ≡ words_value ws → r ≡ words_value (lacking granted (take i ws))
+  pub words : r ≡ words_value (lacking granted (take i labels))
 
-module _ (granted : ℕ) {l r : Words} where
-  pub lacking_none : r ≡ words_value [] → LackingTo granted l r 0
+module _ (granted : ℕ) (labels : List ℕ) {r : Words} where
+  pub lacking_none : r ≡ words_value [] → LackingTo granted labels 0 r
   unfolding words_value lacking
-  lacking_none e = record { few = omega (arith, ap (λ (w : Words). w.count) e); words = λ ws is. e }
+  lacking_none e = record { few = omega (arith, ap (λ (w : Words). w.count) e); words = e }
 
-  module _ {i views : ℕ} (h : i < l.count) (v : views ≡ get_or l.words i 0 / 2 ^ half_bits) (t : LackingTo granted l r i) where
+  module _ {i views : ℕ} (h : i < length labels) (v : views ≡ get_or labels i 0 / 2 ^ half_bits) (t : LackingTo granted labels i r) where
     -- the label at place i holds a granted view or not, and is put behind the others or not
-    next_label : (ws : List ℕ) → l ≡ words_value ws
-        → lacking granted (take (i + 1) ws)
-        ≡ cond (meet 64 views granted) (lacking granted (take i ws)) (lacking granted (take i ws) ++ views ∷ [])
+    next_label : lacking granted (take (i + 1) labels)
+        ≡ cond (meet 64 views granted) (lacking granted (take i labels)) (lacking granted (take i labels) ++ views ∷ [])
     unfolding holds_one views_of
-    next_label ws e =
-        let is = v ∙ ap (λ (w : ℕ). w / 2 ^ half_bits) (word_is l ws e i) in
-        ap (lacking granted) (first_more ws i (inside l ws e h)) ∙ lacking_snoc granted (take i ws) (get_or ws i 0)
-        ∙ ap (λ (x : ℕ). cond (meet 64 x granted) (lacking granted (take i ws)) (lacking granted (take i ws) ++ x ∷ [])) (sym is)
+    next_label =
+        ap (lacking granted) (first_more labels i h) ∙ lacking_snoc granted (take i labels) (get_or labels i 0)
+        ∙ ap (λ (x : ℕ). cond (meet 64 x granted) (lacking granted (take i labels)) (lacking granted (take i labels) ++ x ∷ [])) (sym v)
 
-    pub lacking_kept : {same : Words} → meet 64 views granted ≡ true → same ≡ r → LackingTo granted l same (i + 1)
-    lacking_kept m q = record {
-      few = omega (arith, t.few, ap (λ (w : Words). w.count) q);
-      words = λ ws e. rw (next_label ws e, m) (q ∙ t.words ws e);
-    }
+    pub lacking_kept : {same : Words} → meet 64 views granted ≡ true → same ≡ r → LackingTo granted labels (i + 1) same
+    lacking_kept m q =
+        record { few = omega (arith, t.few, ap (λ (w : Words). w.count) q); words = rw (next_label, m) (q ∙ t.words) }
 
     pub lacking_more : {pushed more : Words} → meet 64 views granted ≡ false → pushed.count ≡ r.count + 1
-        → ((k : List ℕ) → r ≡ words_value k → pushed ≡ words_value (k ++ views ∷ [])) → more ≡ pushed → LackingTo granted l more (i + 1)
+        → ((k : List ℕ) → r ≡ words_value k → pushed ≡ words_value (k ++ views ∷ [])) → more ≡ pushed
+        → LackingTo granted labels (i + 1) more
     lacking_more m one put q = record {
       few = omega (arith, t.few, one, ap (λ (w : Words). w.count) q);
-      words = λ ws e. rw (next_label ws e, m) (q ∙ put (lacking granted (take i ws)) (t.words ws e));
+      words = rw (next_label, m) (q ∙ put (lacking granted (take i labels)) t.words);
     }
 
-  pub lacking_all : {i : ℕ} → l.count ≤ i → LackingTo granted l r i → (ws : List ℕ) → l ≡ words_value ws
-      → r ≡ words_value (lacking granted ws)
-  lacking_all {i} h t ws e =
-      t.words ws e
-      ∙ ap (λ (k : List ℕ). words_value (lacking granted k)) (take_all i ws (omega (arith, h, count_is l ws e)))
+  pub lacking_all : {i : ℕ} → length labels ≤ i → LackingTo granted labels i r → r ≡ words_value (lacking granted labels)
+  lacking_all {i} h t = t.words ∙ ap (λ (k : List ℕ). words_value (lacking granted k)) (take_all i labels h)
 
 -- ---- the words that hold a view
 
-module _ (v : ℕ) (l : Words) where
+module _ (v : ℕ) (words : List ℕ) where
   -- of the first words
   abbrev pub HoldingTo : ℕ → ℕ → Type 0
-  HoldingTo i word = (ws : List ℕ) → l ≡ words_value ws → word ≡ holding (take i ws) v
+  HoldingTo i word = word ≡ holding (take i words) v
 
-  pub holding_more : {i word more : ℕ} {on : Bool} → i < l.count → on ≡ is_set (get_or l.words i 0) v
+  pub holding_more : {i word more : ℕ} {on : Bool} → i < length words → on ≡ is_set (get_or words i 0) v
       → more ≡ cond on (set_bit word i) word → HoldingTo i word → HoldingTo (i + 1) more
   unfolding holding
-  holding_more {i} {word} {more} {on} h is made t ws e =
+  holding_more {i} {word} {more} {on} h is made t =
       let f : ℕ → Bool = λ w. is_set w v in
-      let inside_ws = inside l ws e h in
-      let tested : on ≡ f (get_or ws i 0) = is ∙ ap f (word_is l ws e i) in
-      let next = tests_more f (take i ws) (get_or ws i 0) in
-      made ∙ ap (λ (b : Bool). cond b (set_bit word i) word) tested
-      ∙ ap (λ (w : ℕ). cond (f (get_or ws i 0)) (set_bit w i) w) (t ws e)
-      ∙ ap (λ (k : ℕ). cond (f (get_or ws i 0)) (set_bit (test_bits f (take i ws)) k) (test_bits f (take i ws)))
-      (sym (length-take-le i ws (omega (arith, inside_ws))))
-      ∙ sym next ∙ ap (test_bits f) (sym (first_more ws i inside_ws))
+      let next = tests_more f (take i words) (get_or words i 0) in
+      made ∙ ap (λ (b : Bool). cond b (set_bit word i) word) is
+      ∙ ap (λ (w : ℕ). cond (f (get_or words i 0)) (set_bit w i) w) t
+      ∙ ap (λ (k : ℕ). cond (f (get_or words i 0)) (set_bit (test_bits f (take i words)) k) (test_bits f (take i words)))
+      (sym (length-take-le i words (omega (arith, h))))
+      ∙ sym next ∙ ap (test_bits f) (sym (first_more words i h))
 
-  pub holding_all : {i word : ℕ} → l.count ≤ i → HoldingTo i word → (ws : List ℕ) → l ≡ words_value ws → word ≡ holding ws v
-  holding_all {i} h t ws e = t ws e ∙ ap (λ (k : List ℕ). holding k v) (take_all i ws (omega (arith, h, count_is l ws e)))
+  pub holding_all : {i word : ℕ} → length words ≤ i → HoldingTo i word → word ≡ holding words v
+  holding_all {i} h t = t ∙ ap (λ (k : List ℕ). holding k v) (take_all i words h)
 
 -- ---- each view
 

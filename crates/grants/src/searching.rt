@@ -16,15 +16,12 @@ pub fn lacking_views(l: Words, granted: u64) -> Words
     ensures count_le_count { result.count ≤ l.count }
     ensures by_index { (ws : List ℕ) → l ≡ words_value ws → result ≡ words_value (lacking granted ws) }
 {
-    let n = l.count;
     let mut r = word_list::no_words();
-    let mut i = 0;
-    while i < n {
-        let views = words::high_half(l.words[i]);
+    for w in &l.words[..l.count] {
+        let views = words::high_half(*w);
         if !words::meets(views, granted) {
             r = word_list::push(r, views);
         }
-        i += 1;
     }
     r
 }
@@ -34,13 +31,10 @@ fn holding(l: Words, v: u64) -> u64
     requires { (l.count ≤ most_lines) × (v < most_views) }
     ensures { (ws : List ℕ) → l ≡ words_value ws → result ≡ holding ws v }
 {
-    let n = l.count;
     let mut word = 0;
-    let mut i = 0;
-    while i < n {
-        let on = words::has_bit(l.words[i], v);
+    for (i, w) in l.words[..l.count].iter().enumerate() {
+        let on = words::has_bit(*w, v);
         word = words::set_bit_if(word, i as u64, on);
-        i += 1;
     }
     word
 }
@@ -51,10 +45,8 @@ fn hits_of(l: Words) -> Hits
     ensures { (ws : List ℕ) → l ≡ words_value ws → result ≡ hits_of ws }
 {
     let mut hits = [0; MOST_VIEWS];
-    let mut v = 0;
-    while v < MOST_VIEWS {
-        hits[v] = holding(l, v as u64);
-        v += 1;
+    for (v, hit) in hits.iter_mut().enumerate() {
+        *hit = holding(l, v as u64);
     }
     hits
 }

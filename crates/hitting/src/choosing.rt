@@ -5,6 +5,7 @@ ghost use Rattle.hitting.specs.Best.{HoldsBest};
 ghost use Rattle.hitting.specs.Table.{Searched, FilledTo, FirstView};
 
 use crate::filling::{Costs, Hits, SETS, TOO_HEAVY, Table, fill, weight_with};
+use model::MOST_VIEWS;
 use word_list::Words;
 
 // The place of the first view with which a lightest list for a set begins.
@@ -13,11 +14,13 @@ fn first_view(hits: &Hits, costs: &Costs, table: &Table, m: u64) -> usize
     ensures { FirstView hits.now costs.now table.now m (result + 1) }
 {
     let least = table[m as usize];
-    let mut v = 0;
-    while weight_with(hits, costs, table, m, v) != least {
-        v += 1;
+    for v in 0..MOST_VIEWS {
+        if weight_with(hits, costs, table, m, v) == least {
+            return v;
+        }
     }
-    v
+    // a lightest list for the set begins with some view
+    unreachable!()
 }
 
 // The best list for a set, by the table: the first view that leaves a lightest list, and so on with what it leaves.

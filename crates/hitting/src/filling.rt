@@ -1,6 +1,6 @@
 // What the lightest list weighs that hits a set of labels, for every set.
 
-ghost use Rattle.std.specs.Prelude.{◌≡◌, ◌+◌, ◌*◌, ◌≤◌, ◌<◌, min};
+ghost use Rattle.std.specs.Prelude.{◌≡◌, ◌+◌, ◌*◌, ◌≤◌, ◌<◌};
 ghost use Rattle.hitting.specs.Table.{SomeSet, Lightest, Weighed, Filled};
 ghost use Rattle.hitting.specs.Table.{weight_with, view_weight, most_cost};
 
@@ -34,16 +34,6 @@ pub fn weight_with(hits: &Hits, costs: &Costs, table: &Table, m: u64, v: usize) 
     VIEW_WEIGHT + costs[v] + table[rest as usize]
 }
 
-// The lesser of two numbers.
-fn lesser(a: u64, b: u64) -> u64
-    ensures { result ≡ min a b }
-{
-    if a < b {
-        return a;
-    }
-    b
-}
-
 // What the lightest list for a set weighs, where the table has the sets below it. A view that hits no label of the set leaves the set
 // itself, and the entry of that is too heavy yet, so the view is not taken.
 fn least_weight(hits: &Hits, costs: &Costs, table: &Table, m: u64) -> u64
@@ -51,10 +41,8 @@ fn least_weight(hits: &Hits, costs: &Costs, table: &Table, m: u64) -> u64
     ensures { Lightest hits.now costs.now m result × (result ≤ m * (view_weight + most_cost)) }
 {
     let mut least = TOO_HEAVY;
-    let mut v = 0;
-    while v < MOST_VIEWS {
-        least = lesser(least, weight_with(hits, costs, table, m, v));
-        v += 1;
+    for v in 0..MOST_VIEWS {
+        least = least.min(weight_with(hits, costs, table, m, v));
     }
     least
 }
@@ -64,9 +52,7 @@ pub fn fill(hits: &Hits, costs: &Costs, full: u64, table: &mut Table)
     requires { SomeSet hits.now costs.now full × Filled hits.now costs.now table.old 1 }
     ensures { Filled hits.now costs.now table.new (full + 1) }
 {
-    let mut m = 1;
-    while m <= full {
+    for m in 1..=full {
         table[m as usize] = least_weight(hits, costs, table, m);
-        m += 1;
     }
 }

@@ -1,6 +1,5 @@
 -- The words of a value and of a list, one by one.
 pub mod Value
-pub mod Places
 -- Insertion, and the order that it makes.
 pub mod Insert
 pub mod Sorted

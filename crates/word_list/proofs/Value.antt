@@ -1,7 +1,7 @@
 -- What the value of words holds for a list.
 use mathlib.Core.Path.{◌≡◌, ap, ◌∙◌}
 use mathlib.Core.List.{List, [], ◌∷◌, ◌++◌}
-use Prim.Native.Nat.{ℕ, ◌+◌, ◌≤◌, ◌<◌}
+use Prim.Native.Nat.{ℕ, ◌+◌, ◌<◌}
 use native.Mathlib.Omega.{arith}
 use lib.ListN.{length, get_or, take, set, length-append}
 use Rattle.model.specs.Limits.{most_lines}
@@ -13,12 +13,6 @@ module _ (w : Words) (l : List ℕ) (e : w ≡ words_value l) where
   pub count_is : w.count ≡ length l
   unfolding words_value
   count_is = ap (λ (x : Words). x.count) e
-
-  pub inside : {i : ℕ} → i < w.count → i < length l
-  inside h = omega (arith, h, count_is)
-
-  pub past : {i : ℕ} → w.count ≤ i → length l ≤ i
-  past h = omega (arith, h, count_is)
 
   pub word_is : (i : ℕ) → get_or w.words i 0 ≡ get_or l i 0
   unfolding words_value

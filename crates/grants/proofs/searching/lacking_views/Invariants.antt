@@ -1,10 +1,6 @@
--- `lacking_views`: the words are those of the labels before `i`.
-use Prim.Native.Nat.{◌-◌, ◌≤◌}
+-- `lacking_views`: the words are those of the labels before place `w-index`.
 use Rattle.grants.proofs.Gathering.{LackingTo}
 use Rattle.grants.proofs.searching.lacking_views.Given as goal
 
-abbrev pub invariant-loop-i : goal.invariant-loop-i
-invariant-loop-i l = (l.i ≤ l.l.count) × LackingTo l.granted l.l l.r l.i
-
-abbrev pub decreases-loop-i : goal.decreases-loop-i
-decreases-loop-i l = l.n - l.i
+abbrev pub invariant-loop-w : goal.invariant-loop-w
+invariant-loop-w l = LackingTo l.granted l.w-items l.w-index l.r

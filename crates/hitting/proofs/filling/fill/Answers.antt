@@ -8,12 +8,12 @@ use Rattle.hitting.proofs.filling.fill.Goals as goal
 use Rattle.hitting.proofs.filling.fill.Goals.{After-least_weight}
 
 pub loop-m-init : goal.loop-m-init
-loop-m-init c = (omega arith, omega arith, c.requires.1)
+loop-m-init c = (omega arith, c.requires.1)
 
 pub least_weight-requires : goal.least_weight-requires
 least_weight-requires c =
     let (k, searched, below) = c.requires.0 in
-    ((k, searched, omega (arith, below, c.loop-m-test.true)), c.loop-m.invariant.2, omega (arith, c.loop-m.invariant.0))
+    ((k, searched, omega (arith, below, c.loop-m-test.true)), c.loop-m.invariant.1, omega arith)
 
 -- a set of at most eight labels
 few : (c : After-least_weight) → c.loop-m.m < sets
@@ -21,26 +21,14 @@ few c =
     let (k, searched, below) = c.requires.0 in
     few_sets _ _ _ searched (omega (arith, below, c.loop-m-test.true))
 
-pub offset_bounds-table-m : goal.offset_bounds-table-m
-offset_bounds-table-m c = omega (arith, few c)
-
-pub bounds-table-m : goal.bounds-table-m
-bounds-table-m c = few (goal.at.bounds-table-m c).After-least_weight
-
-pub overflow_add-m : goal.overflow_add-m
-overflow_add-m c = omega (arith, few (goal.at.overflow_add-m c).After-least_weight)
-
-pub loop-m-smaller : goal.loop-m-smaller
-loop-m-smaller c = omega (arith, c.loop-m-test.true)
-
 pub loop-m-preserved : goal.loop-m-preserved
 loop-m-preserved c =
     let (light, bound) = c.least_weight.ensures in
-    (omega arith, omega (arith, c.loop-m-test.true), filled_more _ _ _ (few (goal.at.loop-m-preserved c).After-least_weight) c.loop-m.invariant.2 light bound)
+    (omega (arith, c.loop-m-test.true), filled_more _ _ _ (few (goal.at.loop-m-preserved c).After-least_weight) c.loop-m.invariant.1 light bound)
 
 pub returns : goal.returns
 returns c =
     let at = c.loop-m in
     let a = c.args in
-    let all : at.m ≡ a.full + 1 = omega (arith, at.invariant.1, c.loop-m-test.false) in
-    subst (Filled a.hits.now a.costs.now at.table) all at.invariant.2
+    let all : at.m ≡ a.full + 1 = omega (arith, at.invariant.0, c.loop-m-test.false) in
+    subst (Filled a.hits.now a.costs.now at.table) all at.invariant.1

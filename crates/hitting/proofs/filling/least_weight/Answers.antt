@@ -6,29 +6,23 @@ use Rattle.hitting.proofs.LeastWeight.{weighed, LeastTo, least_none, least_more,
 use Rattle.hitting.proofs.filling.least_weight.Goals as goal
 
 pub loop-v-init : goal.loop-v-init
-loop-v-init c = let a = c.args in (omega arith, least_none a.hits.now a.costs.now a.table.now a.m)
+loop-v-init c = let a = c.args in least_none a.hits.now a.costs.now a.table.now a.m
 
 pub weight_with-requires : goal.weight_with-requires
 weight_with-requires c =
     let (set, filled, some) = c.requires in weighed _ _ _ set filled c.loop-v-test.true
 
-pub loop-v-smaller : goal.loop-v-smaller
-loop-v-smaller c = omega (arith, c.loop-v-test.true)
-
 pub loop-v-preserved : goal.loop-v-preserved
 loop-v-preserved c =
-    let (set, filled, some) = c.requires in (
-      omega (arith, c.loop-v-test.true),
-      subst (LeastTo _ _ _ _ (c.loop-v.v + 1))
-          (sym (c.lesser-least.ensures ∙ ap (min c.loop-v.least) c.weight_with.ensures))
-          (least_more _ _ _ _ set filled c.loop-v-test.true c.loop-v.invariant.1),
-    )
+    let (set, filled, some) = c.requires in
+    subst (LeastTo _ _ _ _ (c.loop-v.v + 1)) (sym (c.min-least.ensures ∙ ap (min c.loop-v.least) c.weight_with.ensures))
+    (least_more _ _ _ _ set filled c.loop-v-test.true c.loop-v.invariant)
 
 pub returns : goal.returns
 returns c =
     let at = c.loop-v in
     let (set, filled, some) = c.requires in
     let a = c.args in
-    let all : at.v ≡ most_views = omega (arith, at.invariant.0, c.loop-v-test.false) in
+    let all : at.v ≡ most_views = omega arith in
     least_all _ _ _ _ set filled some
-    (subst (λ (v : ℕ). LeastTo a.hits.now a.costs.now a.table.now a.m v at.least) all at.invariant.1)
+    (subst (λ (v : ℕ). LeastTo a.hits.now a.costs.now a.table.now a.m v at.least) all at.invariant)
