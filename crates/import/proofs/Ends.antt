@@ -1,12 +1,16 @@
 -- A rule's text taken apart: its end, and the first bracket that closes.
 use mathlib.Core.Path.{◌≡◌, refl, sym, ap, ◌∙◌}
+use mathlib.Core.Bool.{true, false}
 use mathlib.Core.List.{List, [], ◌∷◌, ◌++◌}
 use mathlib.Core.Option.{Option, none, some}
 use Prim.Native.Nat.{ℕ, ◌+◌, ◌-◌, ◌<◌, zero-le, suc-le-suc}
 use native.Mathlib.Numerals.{add-one}
 use native.Mathlib.Omega.{arith}
+use lib.Dec.{eqb}
 use lib.ListN.{length, take, drop, length-append, take-append-drop}
-use lib.Seq.{length-take-le, drop-append_seam}
+use lib.Seq.{drop-append_seam}
+use lib.Pointwise.{pointwise}
+use Rattle.std.specs.Cmp.Lexicographic.{same_text, other_text}
 use Rattle.text.specs.Lines.{before, parts}
 use Rattle.text.specs.Names.{bytes}
 use Rattle.text.proofs.Lines.{before_le, parts_last, parts_more}
@@ -32,37 +36,29 @@ module _ (rule : List ℕ) where
       go none q = refl
       go (some m) q = absurd (f m ((unended_iff rule_end rule m (suc-le-suc zero-le)).0 q))
 
-  pub too_short : length rule < 2 → rule_of rule ≡ none
+  end_seam : (m : List ℕ) → rule ≡ m ++ rule_end → drop (length rule - 2) rule ≡ rule_end
   unfolding bytes
-  too_short h = not_ended (λ m e. omega (arith, h, ap length e, length-append m rule_end))
+  end_seam m e =
+      let long : length rule - 2 ≡ length m = omega (arith, ap length e, length-append m rule_end) in
+      rw (long, e) (drop-append_seam m rule_end)
 
-  module _ (to : ℕ) (last : to + 2 ≡ length rule) where
-    -- the part from there on
-    tail : take (length rule - to) (drop to rule) ≡ drop to rule
-    tail = to_end to rule
+  pub other_end : pointwise eqb (drop (length rule - 2) rule) rule_end ≡ false → rule_of rule ≡ none
+  other_end f = not_ended (λ m e. other_text (drop (length rule - 2) rule) rule_end (sym f) (end_seam m e))
 
-    pub other_end : (take (length rule - to) (drop to rule) ≡ rule_end → ⊥) → rule_of rule ≡ none
-    unfolding bytes
-    other_end f = not_ended (λ m e.
-        let long : to ≡ length m = omega (arith, last, ap length e, length-append m rule_end) in
-        f (tail ∙ rw (long, e) (drop-append_seam m rule_end)))
+  module _ {whole : List ℕ} (ends : pointwise eqb (drop (length rule - 2) rule) rule_end ≡ true) (front : whole ≡ take (length rule - 2) rule) where
+    pieces : rule_of rule ≡ rule_of_pieces (parts closing whole)
+    pieces =
+        ended whole
+        (sym (take-append-drop (length rule - 2) rule)
+        ∙ rw front (ap (λ (l : List ℕ). take (length rule - 2) rule ++ l) (same_text (drop (length rule - 2) rule) rule_end (sym ends))))
 
-    module _ (ends : take (length rule - to) (drop to rule) ≡ rule_end) where
-      pieces : rule_of rule ≡ rule_of_pieces (parts closing (take to rule))
-      pieces = ended (take to rule) (sym (take-append-drop to rule) ∙ ap (λ (l : List ℕ). take to rule ++ l) (sym tail ∙ ends))
+    module _ {h : ℕ} (first : h ≡ before closing whole) where
+      pub one_piece : h ≡ length whole → rule_of rule ≡ none
+      unfolding body_of
+      one_piece e = pieces ∙ rw (parts_last closing whole (sym first ∙ e)) (no_rule whole [] refl)
 
-      long : length (take to rule) ≡ to
-      long = length-take-le to rule (omega (arith, last))
-
-      module _ (h : ℕ) (first : h ≡ before closing (take to rule)) where
-        pub one_piece : h ≡ to → rule_of rule ≡ none
-        unfolding body_of
-        one_piece e = pieces ∙ rw (parts_last closing (take to rule) (sym first ∙ e ∙ sym long)) (no_rule (take to rule) [] refl)
-
-        pub two_pieces : (h ≡ to → ⊥)
-            → rule_of rule
-            ≡ rule_of_pieces (take h (take to rule) ∷ parts closing (take (length (take to rule) - (h + 1)) (drop (h + 1) (take to rule))))
-        two_pieces n =
-            let inside : before closing (take to rule) < length (take to rule)
-            = omega (arith, before_le closing (take to rule), long, first, n) in
-            pieces ∙ rw (to_end (h + 1) (take to rule), add-one h, first) (ap rule_of_pieces (parts_more closing (take to rule) inside))
+      pub two_pieces : (h ≡ length whole → ⊥)
+          → rule_of rule ≡ rule_of_pieces (take h whole ∷ parts closing (take (length whole - (h + 1)) (drop (h + 1) whole)))
+      two_pieces n =
+          let inside : before closing whole < length whole = omega (arith, before_le closing whole, first, n) in
+          pieces ∙ rw (to_end (h + 1) whole, add-one h, first) (ap rule_of_pieces (parts_more closing whole inside))

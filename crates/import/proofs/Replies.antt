@@ -1,11 +1,13 @@
 -- The reply of importing and the buffer after it, case by case.
 use mathlib.Core.Path.{◌≡◌, refl, sym, ap, subst, ◌∙◌}
 use mathlib.Core.List.{List}
-use mathlib.Core.Option.{Option, none, some}
+use mathlib.Core.Bool.{true≢false}
+use mathlib.Core.Option.{Option as Maybe, none, some}
 use Prim.Native.Nat.{ℕ, zero, suc, ◌≤◌, ◌<◌}
-use native.Mathlib.Omega.{arith}
 use lib.ListN.{length, take}
 use borrow.Author.Tests.{lt-ltb, le-ltb}
+use Rattle.std.specs.Prelude.{Result, Ok, Err}
+use Rattle.std.specs.Result.{is_ok}
 use Rattle.model.specs.declared.Tables.{Tables}
 use Rattle.model.specs.declared.Policy.{Policy}
 use Rattle.policy_text.specs.Policy.{policy_value}
@@ -13,11 +15,12 @@ use Rattle.policy_text.proofs.Loaded.{loaded_well_formed}
 use Rattle.validity.specs.Loadable.{Loadable}
 use Rattle.rules.specs.Rule.{Rule}
 use Rattle.rules.specs.Text.{rule_of}
+use Rattle.rules.specs.Checks.{rule_fault}
 use Rattle.import.specs.declared.importing.Imported.{Imported}
 use Rattle.import.specs.declared.importing.Imported.TheVariants.{Refused}
-use Rattle.import.specs.declared.translating.Translated.{Translated}
+use Rattle.import.specs.declared.translating.TurnedBack.{TurnedBack}
 use Rattle.import.specs.Translating.{TranslatedAs, Translates}
-use Rattle.import.specs.Import.{most_rule_bytes, said_import, owed_for, owed_rule, owed, Gives, TextGiven, RuleGiven, ImportGiven}
+use Rattle.import.specs.Import.{most_rule_bytes, said_import, Owed, owed_for, owed_rule, owed, Gives, TextGiven, RuleGiven, ImportGiven}
 
 -- ---- a rule under tables
 
@@ -26,38 +29,44 @@ module _ (tables : Tables) (rule : List ℕ) (place : ℕ) (before : List ℕ) w
   unfolding owed said_import
   too_long h widths t n = rw (lt-ltb most_rule_bytes (length rule) h) (refl, refl)
 
-  module _ (short : length rule ≤ most_rule_bytes) (text : List ℕ) (t : Translated) (says : Translates tables rule text t) where
+  module _ (short : length rule ≤ most_rule_bytes) (text : List ℕ) {t : Result ℕ TurnedBack} (says : Translates tables rule text t) where
     -- what is owed goes by the rule that the text says
     by_rule : (r : Imported) (after : List ℕ)
-        → ((widths : List ℕ) (o : Option Rule) → TranslatedAs widths o text t
+        → ((widths : List ℕ) (o : Maybe Rule) → TranslatedAs widths o text t
         → Gives place r before after (owed_rule widths place (length before) o))
         → RuleGiven tables rule place before r after
     unfolding owed
     by_rule r after f widths e n = rw (le-ltb most_rule_bytes (length rule) short) (f widths (rule_of rule) (says widths e n))
 
     -- a fault at line 1
-    turned : (n : ℕ) → (n ≡ 0 → ⊥) → t.fault ≡ n → RuleGiven tables rule place before (Refused n 1) before
+    pub turned_back : (n : ℕ) → t ≡ Err (record { number = n }) → RuleGiven tables rule place before (Refused n 1) before
     unfolding owed_rule owed_for said_import
-    turned zero f e = absurd (f refl)
-    turned (suc n) f e = by_rule (Refused (suc n) 1) before go
+    turned_back n e = by_rule (Refused n 1) before go
       where
-        go : (widths : List ℕ) (o : Option Rule) → TranslatedAs widths o text t
-            → Gives place (Refused (suc n) 1) before before (owed_rule widths place (length before) o)
-        go widths none q = rw (sym e ∙ q) (refl, refl)
-        go widths (some x) (q, z) = rw (sym q ∙ e) (refl, refl)
+        number_in : Result ℕ TurnedBack → ℕ
+        number_in (Ok n) = 0
+        number_in (Err b) = b.number
 
-    pub turned_back : (t.fault ≡ 0 → ⊥) → RuleGiven tables rule place before (Refused t.fault 1) before
-    turned_back f = turned t.fault f refl
+        owing : (f n : ℕ) (next : Owed) → n ≡ f → (n ≡ 0 → ⊥) → Gives place (Refused n 1) before before (owed_for f next)
+        owing zero n next q z = absurd (z q)
+        owing (suc f) n next q z = rw q (refl, refl)
 
-    pub text_given : (r : Imported) (after : List ℕ) → t.fault ≡ 0 → TextGiven (take t.bytes text) place before r after
+        go : (widths : List ℕ) (o : Maybe Rule) → TranslatedAs widths o text t
+            → Gives place (Refused n 1) before before (owed_rule widths place (length before) o)
+        go widths none q = let same : n ≡ 1 = ap number_in (sym e ∙ q) in rw same (refl, refl)
+        go widths (some x) q = let w = rw e at q in owing (rule_fault widths x) n _ w.0 w.1
+
+    pub text_given : (n : ℕ) → t ≡ Ok n → (r : Imported) (after : List ℕ) → TextGiven (take n text) place before r after
         → RuleGiven tables rule place before r after
     unfolding owed_rule owed_for
-    text_given r after e g = by_rule r after go
+    text_given n e r after g = by_rule r after go
       where
-        go : (widths : List ℕ) (o : Option Rule) → TranslatedAs widths o text t
+        go : (widths : List ℕ) (o : Maybe Rule) → TranslatedAs widths o text t
             → Gives place r before after (owed_rule widths place (length before) o)
-        go widths none q = absurd (omega (arith, e, q))
-        go widths (some x) (q, z) = rw (sym q ∙ e) (subst (λ (l : List ℕ). TextGiven l place before r after) (z e).0 g)
+        go widths none q = absurd (true≢false (ap is_ok (sym e ∙ q)))
+        go widths (some x) q =
+            let w = rw e at q in
+            rw w.0 (subst (λ (l : List ℕ). TextGiven l place before r after) w.1 g)
 
 -- ---- under a policy
 

@@ -47,14 +47,15 @@ pub fn import_checked(tables: Tables, rule: &[u8], out: &mut [u8], place: usize)
         return Imported::Refused { number: 7, line: 0 };
     }
     let mut text = [0; TEXT_ROOM];
-    let t = translate(tables, rule, &mut text);
-    if t.fault != 0 {
-        return Imported::Refused {
-            number: t.fault,
-            line: 1,
-        };
-    }
-    let n = t.bytes;
+    let n = match translate(tables, rule, &mut text) {
+        Ok(n) => n,
+        Err(back) => {
+            return Imported::Refused {
+                number: back.number,
+                line: 1,
+            };
+        }
+    };
     put_text(&text[..n], out, place)
 }
 

@@ -13,7 +13,8 @@ use Rattle.model.specs.Limits.{most_columns, most_lines}
 use Rattle.model.specs.declared.Term.{Term}
 use Rattle.model.specs.declared.Line.{Line}
 use Rattle.model.specs.declared.Query.{Query}
-use Rattle.numbering.specs.Names.{most_names, entered, Entered, keys_in, LineNamed, keys_of, BodyNamed}
+use Rattle.numbering.specs.Names.{held, entered, Entered, keys_in, LineNamed, keys_of, BodyNamed}
+use Rattle.numbering.specs.declared.names.Names.{Names}
 
 -- ---- the keys of one term more
 
@@ -30,44 +31,33 @@ keys_more seen (u ∷ ts) t e = keys_more (cond (eqb u.mark 3) (entered seen u.n
 -- ---- while the keys of a line are entered
 
 -- the keys of the first p terms are behind those that were there
-pub record Named (ts : List Term) (was : List ℕ) (start p : ℕ) (is : List ℕ) (count : ℕ) : Type 0 where
-  pub keys : take count is ≡ keys_in (take start was) (take p ts)
-  pub most : count ≤ start + p
-  pub size : length is ≡ length was
+pub record Named (ts : List Term) (was : Names) (p : ℕ) (is : Names) : Type 0 where
+  pub keys : held is ≡ keys_in (held was) (take p ts)
+  pub most : is.count ≤ was.count + p
 
-pub named_none : (ts : List Term) (was : List ℕ) (start : ℕ) → Named ts was start 0 was start
+pub named_none : (ts : List Term) (was : Names) → Named ts was 0 was
 unfolding keys_in
-named_none ts was start = record { keys = refl; most = omega arith; size = refl }
+named_none ts was = record { keys = refl; most = omega arith }
 
-module _ {ts : List Term} {was is : List ℕ} {start p count : ℕ} (s : Named ts was start p is count) where
-  module _ (d : Term) (h : p < length ts) where
-    pub named_same : {is' : List ℕ} {r : ℕ} → ((get_or ts p d).mark ≡ 3 → ⊥) → is' ≡ is → r ≡ count → Named ts was start (p + 1) is' r
-    named_same n e f =
-        rw (e, f) record {
-          keys = s.keys ∙ rw (add-one p, take-suc ts p d h) (sym (keys_same (take start was) (take p ts) (get_or ts p d) n));
-          most = omega (arith, s.most);
-          size = s.size;
-        }
+module _ {ts : List Term} {was is : Names} {p : ℕ} (s : Named ts was p is) (d : Term) (h : p < length ts) where
+  pub named_same : {r : Names} → ((get_or ts p d).mark ≡ 3 → ⊥) → r ≡ is → Named ts was (p + 1) r
+  named_same n e =
+      rw e record {
+        keys = s.keys ∙ rw (add-one p, take-suc ts p d h) (sym (keys_same (held was) (take p ts) (get_or ts p d) n));
+        most = omega (arith, s.most);
+      }
 
-    pub named_more : {is' is'' : List ℕ} {r r' : ℕ} → (get_or ts p d).mark ≡ 3 → Entered is count (get_or ts p d).number is' r → is'' ≡ is'
-        → r' ≡ r → Named ts was start (p + 1) is'' r'
-    named_more m w e f =
-        rw (e, f) record {
-          keys =
-              w.keys ∙ ap (λ (l : List ℕ). entered l (get_or ts p d).number) s.keys
-              ∙ rw (add-one p, take-suc ts p d h) (sym (keys_more (take start was) (take p ts) (get_or ts p d) m));
-          most = omega (arith, s.most, w.most);
-          size = w.size ∙ s.size;
-        }
+  pub named_more : {r r' : Names} → (get_or ts p d).mark ≡ 3 → Entered is (get_or ts p d).number r → r' ≡ r → Named ts was (p + 1) r'
+  named_more m w e =
+      rw e record {
+        keys =
+            w.keys ∙ ap (λ (l : List ℕ). entered l (get_or ts p d).number) s.keys
+            ∙ rw (add-one p, take-suc ts p d h) (sym (keys_more (held was) (take p ts) (get_or ts p d) m));
+        most = omega (arith, s.most, w.most);
+      }
 
-pub named_all : (l : Line) {was is : List ℕ} {start p count : ℕ} → Named l.terms was start p is count → length l.terms ≡ most_columns
-    → most_columns ≤ p → p ≤ most_columns → LineNamed l was start is count
-named_all l {start = start} {p = p} s long h g =
-    record {
-      keys = rw (take_all p l.terms (omega arith)) at s.keys;
-      most = omega (arith, s.most);
-      size = s.size;
-    }
+pub named_all : (l : Line) {was is : Names} {p : ℕ} → Named l.terms was p is → length l.terms ≤ p → p ≤ most_columns → LineNamed l was is
+named_all l {p = p} s all few = record { keys = rw (take_all p l.terms all) at s.keys; most = omega (arith, s.most) }
 
 -- ---- while the keys of a body are entered
 
@@ -77,32 +67,25 @@ lines_more seen [] l = refl
 lines_more seen (m ∷ ls) l = lines_more (keys_in seen m.terms) ls l
 
 -- the keys of the first k lines are there
-pub record Gathered (ls : List Line) (k : ℕ) (is : List ℕ) (count : ℕ) : Type 0 where
-  pub keys : take count is ≡ keys_of [] (take k ls)
-  pub most : count ≤ k * most_columns
-  pub size : length is ≡ most_names
+pub record Gathered (ls : List Line) (k : ℕ) (is : Names) : Type 0 where
+  pub keys : held is ≡ keys_of [] (take k ls)
+  pub most : is.count ≤ k * most_columns
 
-pub gathered_none : (ls : List Line) (is : List ℕ) → length is ≡ most_names → Gathered ls 0 is 0
+pub gathered_none : (ls : List Line) (is : Names) → (held is ≡ []) × (is.count ≡ 0) → Gathered ls 0 is
 unfolding keys_of
-gathered_none ls is e = record { keys = refl; most = omega arith; size = e }
+gathered_none ls is e = record { keys = e.0; most = omega (arith, e.1) }
 
-pub gathered_more : {ls : List Line} {is is' : List ℕ} {k count r : ℕ} (d : Line) → Gathered ls k is count → k < length ls
-    → LineNamed (get_or ls k d) is count is' r → Gathered ls (k + 1) is' r
+pub gathered_more : {ls : List Line} {is r : Names} {k : ℕ} (d : Line) → Gathered ls k is → k < length ls
+    → LineNamed (get_or ls k d) is r → Gathered ls (k + 1) r
 gathered_more {ls} {k = k} d g h w =
     record {
       keys =
           w.keys ∙ ap (λ (l : List ℕ). keys_in l (get_or ls k d).terms) g.keys
           ∙ rw (add-one k, take-suc ls k d h) (sym (lines_more [] (take k ls) (get_or ls k d)));
       most = omega (arith, g.most, w.most);
-      size = w.size ∙ g.size;
     }
 
-pub gathered_all : {q : Query} {is : List ℕ} {k count : ℕ} → Gathered q.lines k is count → q.count ≤ k → k ≤ q.count
-    → q.count ≤ most_lines → BodyNamed q is count
-gathered_all {q} {k = k} g h l few =
-    let e : k ≡ q.count = omega arith in
-    record {
-      keys = g.keys ∙ ap (λ (n : ℕ). keys_of [] (take n q.lines)) e;
-      most = omega (arith, g.most);
-      size = g.size;
-    }
+pub gathered_all : {q : Query} {is : Names} {k : ℕ} → Gathered (take q.count q.lines) k is → length (take q.count q.lines) ≤ k
+    → k ≤ most_lines → BodyNamed q is
+gathered_all {q} {k = k} g all few =
+    record { keys = rw (take_all k (take q.count q.lines) all) at g.keys; most = omega (arith, g.most, few) }

@@ -1,13 +1,13 @@
 -- Terms with the numbers of their variables, and a line that gets them one by one.
-use mathlib.Core.Path.{◌≡◌, refl, ap, ◌∙◌}
+use mathlib.Core.Path.{◌≡◌, sym, ap, ◌∙◌}
 use mathlib.Core.Bool.{Bool, cond}
-use mathlib.Core.List.{List, ◌++◌, map, map-append, append-nil}
+use mathlib.Core.List.{List, ◌∷◌, ◌++◌, map, map-append, append-nil}
 use Prim.Native.Nat.{ℕ, suc, ◌+◌, ◌≤◌, ◌<◌}
 use native.Mathlib.Numerals.{add-one}
 use native.Mathlib.Omega.{arith}
 use borrow.Author.Tests.{eq-eqb, ne_eqb}
 use lib.ListN.{length, take, drop, get_or, set, length-map, drop_of_length-le}
-use lib.Seq.{length-take-le, take-suc, take_all, drop-cons, set_at, append_snoc}
+use lib.Seq.{get_or-append_seam, length-take-le, take-suc, take_all, drop-cons, set_at, append_snoc}
 use Rattle.words.specs.Bits.{is_set}
 use Rattle.text.specs.Lines.{before}
 use Rattle.model.specs.declared.Term.{Term}
@@ -31,7 +31,14 @@ numbered_variable keys shown t n m e s f = rw (eq-eqb t.mark 3 m, ← e, ← s, 
 abbrev pub changed : (Term → Term) → ℕ → List Term → List Term
 changed f p ts = map f (take p ts) ++ drop p ts
 
-changed_more : (f : Term → Term) (p : ℕ) (ts : List Term) (d : Term) → p < length ts
+-- the next one is not changed yet
+pub changed_next : (f : Term → Term) (p : ℕ) (ts : List Term) (d : Term) → p < length ts → get_or (changed f p ts) p d ≡ get_or ts p d
+changed_next f p ts d h =
+    let long : length (map f (take p ts)) ≡ p = simp length-map (length-take-le p ts (omega arith)) in
+    rw (drop-cons ts p d h) (ap (λ (n : ℕ). get_or (map f (take p ts) ++ get_or ts p d ∷ drop (suc p) ts) n d) (sym long)
+    ∙ get_or-append_seam (map f (take p ts)) (get_or ts p d) (drop (suc p) ts) d)
+
+pub changed_more : (f : Term → Term) (p : ℕ) (ts : List Term) (d : Term) → p < length ts
     → set (changed f p ts) p (f (get_or ts p d)) ≡ changed f (p + 1) ts
 changed_more f p ts d h =
     ap (λ (l : List Term). set (map f (take p ts) ++ l) p (f (get_or ts p d))) (drop-cons ts p d h)
@@ -41,25 +48,7 @@ changed_more f p ts d h =
 changed_all : (f : Term → Term) (p : ℕ) (ts : List Term) → length ts ≤ p → changed f p ts ≡ map f ts
 changed_all f p ts h = rw (take_all p ts h, drop_of_length-le ts {i = p} h) (append-nil (map f ts))
 
--- r is the line with the numbers of its first p terms
-pub record Numbered (keys : List ℕ) (shown : ℕ) (l : Line) (r : Line) (p : ℕ) : Type 0 where
-  pub table : r.table ≡ l.table
-  pub terms : r.terms ≡ changed (numbered_term keys shown) p l.terms
-
-pub numbered_none : (keys : List ℕ) (shown : ℕ) (l : Line) → Numbered keys shown l l 0
-numbered_none keys shown l = record { table = refl; terms = refl }
-
-module _ {keys : List ℕ} {shown p : ℕ} {l r : Line} (s : Numbered keys shown l r p) where
-  pub numbered_more : (d t : Term) → p < length l.terms → t ≡ numbered_term keys shown (get_or l.terms p d)
-      → Numbered keys shown l (record { table = r.table; terms = set r.terms p t }) (p + 1)
-  numbered_more d t h e =
-      record {
-        table = s.table;
-        terms = rw (e, s.terms) (changed_more (numbered_term keys shown) p l.terms d h);
-      }
-
-  pub numbered_all : length l.terms ≤ p → r ≡ numbered_line keys shown l
-  unfolding numbered_line
-  numbered_all h =
-      let terms = s.terms ∙ changed_all (numbered_term keys shown) p l.terms h in
-      λ i. record { table = s.table i; terms = terms i }
+pub numbered_all : (keys : List ℕ) (shown p : ℕ) (l : Line) → length l.terms ≤ p
+    → record { table = l.table; terms = changed (numbered_term keys shown) p l.terms } ≡ numbered_line keys shown l
+unfolding numbered_line
+numbered_all keys shown p l h = λ i. record { table = l.table; terms = changed_all (numbered_term keys shown) p l.terms h i }

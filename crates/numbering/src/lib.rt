@@ -6,4 +6,4 @@ mod lines;
 mod names;
 
 pub use lines::number_line;
-pub use names::{Keys, names_of, no_keys, place_of};
+pub use names::{Names, names_of, place_of};

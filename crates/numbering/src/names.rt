@@ -1,76 +1,75 @@
 // The names of a body: their keys, each at its first place.
 
-ghost use Rattle.std.specs.Prelude.{◌≡◌, ◌+◌, ◌<◌, ◌≤◌, length, take};
+ghost use Rattle.std.specs.Prelude.{◌≡◌, ◌==◌, [], ◌+◌, ◌<◌, ◌≤◌, position};
 ghost use Rattle.model.specs.Limits.{most_columns, most_lines};
-ghost use Rattle.text.specs.Lines.{before};
-ghost use Rattle.numbering.specs.Names.{most_names, Entered, LineNamed, BodyNamed};
+ghost use Rattle.numbering.specs.Names.{most_names, held, Entered, LineNamed, BodyNamed};
 
 use model::{HIDDEN, Line, MOST_COLUMNS, MOST_LINES, Query};
 
-// A key for each place of a query where a variable can stand; behind the names there are, any number.
-pub type Keys = [u64; MOST_LINES * MOST_COLUMNS];
-
-pub fn no_keys() -> Keys
-    ensures { length result ≡ most_names }
-{
-    [0; MOST_LINES * MOST_COLUMNS]
+// The keys of names, the first `count`; behind them any number. There is room for each place of a query where a variable can stand.
+#[derive(Clone, Copy)]
+pub struct Names {
+    keys: [u64; MOST_LINES * MOST_COLUMNS],
+    count: usize,
 }
 
-// The place of a key among the first ones, as many as `count`, or `count` where it is none of them.
-pub fn place_of(keys: &Keys, count: usize, key: u64) -> usize
-    requires { (count ≤ most_names) × (length keys.now ≡ most_names) }
-    ensures value { result ≡ before key (take count keys.now) }
-    ensures upper_bound { result ≤ count }
-{
-    let mut i = 0;
-    while i < count {
-        if keys[i] == key {
-            return i;
+impl Names {
+    fn none() -> Names
+        ensures { (held result ≡ []) × (result.count ≡ 0) }
+    {
+        Names {
+            keys: [0; MOST_LINES * MOST_COLUMNS],
+            count: 0,
         }
-        i += 1;
     }
-    count
-}
 
-// A key behind the others, where it is not there yet. How many there are then.
-fn enter(keys: &mut Keys, count: usize, key: u64) -> usize
-    requires { (count < most_names) × (length keys.old ≡ most_names) }
-    ensures { Entered keys.old count key keys.new result }
-{
-    if place_of(keys, count, key) < count {
-        return count;
+    pub fn keys(&self) -> &[u64]
+        requires { self.now.count ≤ most_names }
+        ensures { result.now ≡ held self.now }
+    {
+        &self.keys[..self.count]
     }
-    keys[count] = key;
-    count + 1
-}
 
-// The keys of a line's variables behind those that are there. How many there are then.
-fn names_in(line: Line, keys: &mut Keys, start: usize) -> usize
-    requires { (start + most_columns ≤ most_names) × (length keys.old ≡ most_names) }
-    ensures { LineNamed line keys.old start keys.new result }
-{
-    let mut count = start;
-    let mut p = 0;
-    while p < MOST_COLUMNS {
-        let t = line.terms[p];
-        if t.mark == HIDDEN {
-            count = enter(keys, count, t.number);
+    // A key behind the others, where it is not there yet.
+    fn enter(&mut self, key: u64)
+        requires { self.old.count < most_names }
+        ensures { Entered self.old key self.new }
+    {
+        if self.keys().contains(&key) {
+            return;
         }
-        p += 1;
+        self.keys[self.count] = key;
+        self.count += 1;
     }
-    count
+
+    // The keys of a line's variables behind those that are there.
+    fn enter_line(&mut self, line: Line)
+        requires { self.old.count + most_columns ≤ most_names }
+        ensures { LineNamed line self.old self.new }
+    {
+        for t in line.terms {
+            if t.mark == HIDDEN {
+                self.enter(t.number);
+            }
+        }
+    }
 }
 
-// The keys of the names of a body, each at its first place. How many there are.
-pub fn names_of(q: Query, keys: &mut Keys) -> usize
-    requires { (q.count ≤ most_lines) × (length keys.old ≡ most_names) }
-    ensures { BodyNamed q keys.new result }
+// The place of a key among these.
+pub fn place_of(keys: &[u64], key: u64) -> Option<usize>
+    ensures { result ≡ position (λ k. k == key) keys.now }
 {
-    let mut count = 0;
-    let mut k = 0;
-    while k < q.count {
-        count = names_in(q.lines[k], keys, count);
-        k += 1;
+    keys.iter().position(|k| *k == key)
+}
+
+// The names of a body, each at its first place.
+pub fn names_of(q: Query) -> Names
+    requires { q.count ≤ most_lines }
+    ensures { BodyNamed q result }
+{
+    let mut names = Names::none();
+    for line in &q.lines[..q.count] {
+        names.enter_line(*line);
     }
-    count
+    names
 }

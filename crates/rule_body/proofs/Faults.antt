@@ -1,12 +1,13 @@
 -- What turns atoms back: with one atom more, the sooner of what turns the others back and what turns it back.
-use mathlib.Core.Path.{◌≡◌, refl, sym, ◌∙◌}
-use mathlib.Core.Bool.{Bool, true, false, cond, not, ◌&&◌, and-true}
+use mathlib.Core.Path.{◌≡◌, refl, sym, ap, ◌∙◌}
+use mathlib.Core.Bool.{Bool, true, false, not, ◌&&◌, and-true}
 use mathlib.Core.List.{List, [], ◌∷◌, ◌++◌, map-append}
-use Prim.Native.Nat.{ℕ}
+use Prim.Native.Nat.{ℕ, zero, suc, min}
 use native.Mathlib.Omega.{arith}
-use lib.Dec.{eqb, ltb}
 use lib.ListN.{length, length-map}
-use borrow.Author.Tests.{eqb-true, eqb-false}
+use Rattle.std.specs.Prelude.{Option, Some, None}
+use Rattle.std.specs.Option.{unwrap_or}
+use Rattle.std.proofs.lemmas.Option.{none-some}
 use Rattle.theory.specs.Executable.Test.{all}
 use Rattle.theory.proofs.Executable.Test.{all_more}
 use Rattle.model.specs.Checks.{known, wide, first_fault, fitting_table}
@@ -14,7 +15,7 @@ use Rattle.rules.specs.Rule.{Atom as TheAtom}
 use Rattle.rules.specs.Numbering.{line_of}
 use Rattle.rules.specs.Checks.{atom_within}
 use Rattle.rule_text.specs.Keys.{keyed}
-use Rattle.rule_body.specs.Body.{keyed_lines, atoms_fault, soonest}
+use Rattle.rule_body.specs.Body.{keyed_lines, atoms_fault, fault_value, soonest}
 
 -- ---- by whether each check is passed
 
@@ -23,8 +24,8 @@ fault_by a b c =
     first_fault (record { broken = not a; number = 2 } ∷ record { broken = not b; number = 4 } ∷ record { broken = not c; number = 5 } ∷ [])
 
 -- both pass where each does
-joined : (a b c x y z : Bool) → fault_by (a && x) (b && y) (c && z) ≡ soonest (fault_by a b c) (fault_by x y z)
-unfolding first_fault soonest
+joined : (a b c x y z : Bool) → fault_value (fault_by (a && x) (b && y) (c && z)) ≡ soonest (fault_value (fault_by a b c)) (fault_value (fault_by x y z))
+unfolding first_fault fault_value soonest
 joined false b c false y z = refl
 joined false b c true false z = refl
 joined false b c true true false = refl
@@ -58,7 +59,7 @@ module _ (widths : List ℕ) where
   one x = rw (and-true (atom_within x), and-true (known widths (line_of keyed x)), and-true (wide widths (line_of keyed x)))
 
   pub faults_more : (atoms : List TheAtom) (x : TheAtom)
-      → atoms_fault widths (atoms ++ x ∷ []) ≡ soonest (atoms_fault widths atoms) (atoms_fault widths (x ∷ []))
+      → fault_value (atoms_fault widths (atoms ++ x ∷ [])) ≡ soonest (fault_value (atoms_fault widths atoms)) (fault_value (atoms_fault widths (x ∷ [])))
   unfolding atoms_fault
   faults_more atoms x =
       rw (
@@ -90,14 +91,25 @@ module _ (widths : List ℕ) where
         go true z = refl
         go false z = absurd (omega (arith, z))
 
--- ---- the sooner of two
+-- ---- a number as the code's value
 
-pub soonest_none : (f g : ℕ) → soonest f g ≡ 0 → (f ≡ 0) × (g ≡ 0)
+pub some_fault : (n : ℕ) → (n ≡ 0 → ⊥) → Some n ≡ fault_value n
+unfolding fault_value
+some_fault zero f = absurd (f refl)
+some_fault (suc n) f = refl
+
+pub no_fault : (n : ℕ) → fault_value n ≡ None → n ≡ 0
+unfolding fault_value
+no_fault zero e = refl
+no_fault (suc n) e = absurd (none-some (suc n) (sym e))
+
+pub fault_some : (m n : ℕ) → Some n ≡ fault_value m → (n ≡ m) × (n ≡ 0 → ⊥)
+unfolding fault_value
+fault_some zero n e = absurd (none-some n (sym e))
+fault_some (suc m) n e = let z = ap (λ (o : Option ℕ). unwrap_or o 0) e in (z, λ y. absurd (omega (arith, y, z)))
+
+pub soonest_none : (f g : Option ℕ) → soonest f g ≡ None → (f ≡ None) × (g ≡ None)
 unfolding soonest
-soonest_none f g e = go (eqb f 0) (eqb g 0) (ltb f g) refl refl e
-  where
-    go : (a b c : Bool) → eqb f 0 ≡ a → eqb g 0 ≡ b → cond a g (cond b f (cond c f g)) ≡ 0 → (f ≡ 0) × (g ≡ 0)
-    go true b c p q z = (eqb-true f 0 p, z)
-    go false true c p q z = (z, eqb-true g 0 q)
-    go false false true p q z = absurd (eqb-false f 0 p z)
-    go false false false p q z = absurd (eqb-false g 0 q z)
+soonest_none None g e = (refl, e)
+soonest_none (Some m) None e = absurd (none-some m (sym e))
+soonest_none (Some m) (Some n) e = absurd (none-some (min m n) (sym e))

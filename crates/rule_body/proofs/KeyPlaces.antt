@@ -16,6 +16,7 @@ use Rattle.text.specs.Lines.{before}
 use Rattle.rules.specs.Rule.{Name}
 use Rattle.rule_text.specs.Keys.{key}
 use Rattle.numbering.specs.Names.{is_key}
+use Rattle.numbering.proofs.Search.{eqb_sym}
 use Rattle.rule_body.specs.Head.{placed_at, repeats_key}
 
 -- ---- one more behind
@@ -24,10 +25,6 @@ pub placed_more : (keys : List ℕ) (xs : List Name) (x : Name) (n : ℕ)
     → placed_at keys (xs ++ x ∷ []) n ≡ (placed_at keys xs n || eqb (before (key x) keys) n)
 unfolding placed_at
 placed_more keys xs x n = any_more (λ (y : Name). eqb (before (key y) keys) n) xs x
-
-eqb_sym : (a b : ℕ) → eqb a b ≡ eqb b a
-eqb_sym a b =
-    same_test (eqb a b) (eqb b a) (λ t. true_holds (eq-eqb b a (sym (eqb→eq a b t)))) (λ t. true_holds (eq-eqb a b (sym (eqb→eq b a t))))
 
 regroup : (a b c d : Bool) → ((a || b) || (c || d)) ≡ ((a || c) || (b || d))
 regroup true b c d = refl

@@ -19,13 +19,13 @@ use Rattle.rules.specs.Rule.{Name}
 use Rattle.rule_text.specs.Keys.{key}
 use Rattle.numbering.specs.Names.{is_key}
 use Rattle.numbering.proofs.Search.{is_key_lem, no_key}
-use Rattle.rule_body.specs.Head.{head_value, placed_at, repeats_key, NamesHeld}
+use Rattle.rule_body.specs.Head.{placed_at, repeats_key, NamesHeld}
 use Rattle.rule_body.specs.declared.head.Head.{Head}
 use Rattle.rule_body.proofs.KeyPlaces.{placed_more, repeats_more, placed_key}
 
-pub held_none : (keys : List ℕ) → NamesHeld keys [] (head_value true)
-unfolding head_value all repeats_key placed_at any
-held_none keys = record { ok = refl; missing = refl; twice = λ e. refl; shown = λ n h. is_clear 0 n (bit_zero n) }
+pub held_none : (keys : List ℕ) → NamesHeld keys [] (record { missing = false; twice = false; shown = 0 })
+unfolding all repeats_key placed_at any
+held_none keys = record { missing = refl; twice = λ e. refl; shown = λ n h. is_clear 0 n (bit_zero n) }
 
 -- ---- bits
 
@@ -49,22 +49,20 @@ bit_set m k n = go (ℕ_discrete k n)
 
 -- ---- the name behind
 
-module _ (keys : List ℕ) (xs : List Name) (x : Name) {h : Head} (held : NamesHeld keys xs h) {place : ℕ}
-    (at : place ≡ before (key x) keys) where
+module _ (keys : List ℕ) (xs : List Name) (x : Name) {h : Head} (held : NamesHeld keys xs h) where
   -- the body lacks it
-  pub held_missing : length keys ≤ place
-      → NamesHeld keys (xs ++ x ∷ []) (record { ok = h.ok; missing = true; twice = h.twice; shown = h.shown })
+  pub held_missing : length keys ≤ before (key x) keys
+      → NamesHeld keys (xs ++ x ∷ []) (record { missing = true; twice = h.twice; shown = h.shown })
   held_missing far =
       record {
-        ok = held.ok;
-        missing = rw (all_more, no_key (key x) keys (omega (arith, far, at)), and-false);
+        missing = rw (all_more, no_key (key x) keys far, and-false);
         twice = λ e. absurd (true≢false e);
         shown =
             λ n l.
-            rw (placed_more keys xs x n, ne_eqb (before (key x) keys) n (λ e. omega (arith, e, far, l, at)), or-false) (held.shown n l);
+            rw (placed_more keys xs x n, ne_eqb (before (key x) keys) n (λ e. omega (arith, e, far, l)), or-false) (held.shown n l);
       }
 
-  module _ (near : place < length keys) where
+  module _ {place : ℕ} (near : place < length keys) (at : place ≡ before (key x) keys) where
     there : before (key x) keys < length keys
     there = omega (arith, near, at)
 
@@ -80,10 +78,9 @@ module _ (keys : List ℕ) (xs : List Name) (x : Name) {h : Head} (held : NamesH
 
     -- the head has it
     pub held_twice : is_set h.shown place ≡ true
-        → NamesHeld keys (xs ++ x ∷ []) (record { ok = h.ok; missing = h.missing; twice = true; shown = h.shown })
+        → NamesHeld keys (xs ++ x ∷ []) (record { missing = h.missing; twice = true; shown = h.shown })
     held_twice e =
         record {
-          ok = held.ok;
           missing = found;
           twice = λ z. rw (repeats_more xs x, ← known, e, or-true);
           shown = more h.shown (bit_there h.shown place e);
@@ -91,10 +88,9 @@ module _ (keys : List ℕ) (xs : List Name) (x : Name) {h : Head} (held : NamesH
 
     -- it is new to the head
     pub held_new : {m : ℕ} → is_set h.shown place ≡ false → m ≡ set_bit h.shown place
-        → NamesHeld keys (xs ++ x ∷ []) (record { ok = h.ok; missing = h.missing; twice = h.twice; shown = m })
+        → NamesHeld keys (xs ++ x ∷ []) (record { missing = h.missing; twice = h.twice; shown = m })
     held_new {m} e set =
         record {
-          ok = held.ok;
           missing = found;
           twice = λ z. rw (repeats_more xs x, ← known, e, or-false) (held.twice z);
           shown = more m (rw set (bit_set h.shown place));

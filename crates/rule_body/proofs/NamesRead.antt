@@ -1,127 +1,119 @@
 -- Reading the pieces of a head as names: those passed are held, beside the keys of the body.
-use mathlib.Core.Path.{◌≡◌, refl, sym, ap, subst, ◌∙◌}
-use mathlib.Core.Bool.{true, false}
+use mathlib.Core.Path.{◌≡◌, refl, sym, ap, ◌∙◌}
+use mathlib.Core.Logic.{inl, inr}
+use mathlib.Core.Bool.{Bool, true, false, ◌&&◌}
 use mathlib.Core.List.{List, [], ◌∷◌, ◌++◌}
-use mathlib.Core.Option.{none, some, some-injective, none-ne-some}
-use Prim.Native.Nat.{ℕ, ◌+◌, ◌-◌, ◌≤◌, ◌<◌}
-use lib.Dec.{lit≤, lit<}
+use mathlib.Core.Option.{none, some}
+use Prim.Native.Nat.{ℕ, ◌-◌}
+use lib.Dec.{eqb}
 use lib.ListN.{length, take, drop}
-use lib.Seq.{length-take-le}
+use lib.Pointwise.{pointwise}
+use Rattle.std.specs.Prelude.{Option, Some, None, MatchOption}
+use Rattle.std.specs.List.{position}
+use Rattle.std.specs.declared.slice.Split.{Split as Pieces}
 use Rattle.text.specs.Lines.{before, parts, same_bytes}
 use Rattle.text.specs.Names.{bytes}
 use Rattle.text.proofs.Parts.{to_end}
 use Rattle.rules.specs.Rule.{Name}
-use Rattle.rules.specs.Text.{comma, opening, upper, lower, series, name_of, head_names}
+use Rattle.rules.specs.Text.{comma, opening, upper, lower, onto, behind, series, name_of, head_names}
 use Rattle.rule_text.specs.Keys.{key, name_value}
 use Rattle.rule_text.proofs.Keys.{value_none, value_some}
 use Rattle.rule_text.proofs.ArgsRead.{bracket, gap}
-use Rattle.rule_text.proofs.Series.{NextPiece, SeriesRead}
-use Rattle.rule_text.proofs.Series.{series_none, series_unled, series_broken, series_more, series_all}
-use Rattle.rule_body.specs.Head.{head_value, NamesHeld, NameBehind, NamesRead, HeadRead}
+use Rattle.rule_text.proofs.Series.{Cut, SeriesRead, series_none, series_broken, series_more, series_all}
+use Rattle.rule_body.specs.Head.{NamesHeld, NameBehind, NamesRead, Headless, HeadRead}
 use Rattle.rule_body.specs.declared.head.Head.{Head}
 use Rattle.rule_body.proofs.NamesHeld.{held_none}
 
 -- ---- a field and its value
 
-module _ (letters : ℕ) (first : 48 ≤ letters) (last : letters ≤ lower) (f : List ℕ) {v : ℕ} (read : v ≡ name_value letters f) where
-  name_none : v ≡ 0 → name_of letters f ≡ none
+module _ (letters : ℕ) (f : List ℕ) where
+  pub name_none : name_value letters f ≡ None → name_of letters f ≡ none
   unfolding name_of
-  name_none e = rw (value_none letters first last f (sym read ∙ e))
+  name_none e = rw (value_none letters f e)
 
-  name_some : (v ≡ 0 → ⊥) → (name_of letters f ≡ some f) × (v ≡ key f)
+  pub name_some : (k : ℕ) → name_value letters f ≡ Some k → (name_of letters f ≡ some f) × (k ≡ key f)
   unfolding name_of
-  name_some p = let w = value_some letters first last f (λ e. p (read ∙ e)) in (rw w.0, read ∙ w.1)
+  name_some k e = let w = value_some letters f k e in (rw w.0, w.1)
 
--- ---- the names by what the head says
+-- ---- an empty head
 
-module _ {s ks : List ℕ} {count : ℕ} where
-  names_malformed : head_names s ≡ none → NamesRead s ks count (head_value false)
-  unfolding head_value
-  names_malformed e = record { malformed = λ z. refl; formed = λ xs z. absurd (none-ne-some xs (sym e ∙ z)) }
+-- the head of no names yet
+abbrev pub no_names : Head
+no_names = record { missing = false; twice = false; shown = 0 }
 
-  names_formed : {xs : List Name} {h : Head} → head_names s ≡ some xs → NamesHeld (take count ks) xs h → NamesRead s ks count h
-  names_formed {xs} {h} e held =
-      record {
-        malformed = λ z. absurd (none-ne-some xs (sym z ∙ e));
-        formed = λ ys z. subst (λ (l : List Name). NamesHeld (take count ks) l h) (some-injective xs ys (sym e ∙ z)) held;
-      }
+same_is : (l m : List ℕ) → pointwise eqb l m ≡ same_bytes l m
+unfolding same_bytes
+same_is [] [] = refl
+same_is [] (c ∷ m) = refl
+same_is (b ∷ l) [] = refl
+same_is (b ∷ l) (c ∷ m) = ap (λ (t : Bool). eqb b c && t) (same_is l m)
 
-  -- a bracket alone
-  pub names_empty : {h : Head} → same_bytes s bracket ≡ true → h ≡ head_value true → NamesRead s ks count h
-  unfolding head_names bytes
-  names_empty e z = names_formed {xs = []} (rw e) (rw z (held_none (take count ks)))
+-- a bracket alone
+pub names_empty : {s keys : List ℕ} → pointwise eqb s bracket ≡ true → NamesRead s keys no_names
+unfolding head_names bytes
+names_empty {s} {keys} e = record { names = []; parses = rw (sym (same_is s bracket) ∙ e); held = held_none keys }
 
--- ---- the pieces before a place
+-- ---- the pieces passed
 
--- the pieces of s before place i were read as names, which h holds
-pub record NamesPassed (s ks : List ℕ) (count : ℕ) (h : Head) (i : ℕ) : Type 0 where
+-- the pieces before those that are left were read as names, which h holds
+pub record NamesPassed {F : Type 0} (s keys : List ℕ) (h : Head) (now : List ℕ) (it : Pieces ℕ F) : Type 0 where
   pub values : List Name
   pub whole : head_names s ≡ series bracket gap (name_of lower) (parts comma s)
-  pub passed : SeriesRead comma bracket gap (name_of lower) s values i
-  pub held : NamesHeld (take count ks) values h
+  pub passed : SeriesRead comma bracket gap (name_of lower) s now values it
+  pub held : NamesHeld keys values h
 
-pub none_passed : (s ks : List ℕ) (count : ℕ) (h : Head) → same_bytes s bracket ≡ false → h ≡ head_value true → NamesPassed s ks count h 0
-unfolding head_names bytes
-none_passed s ks count h e z =
-    record {
-      values = [];
-      whole = rw e;
-      passed = series_none comma bracket gap (name_of lower) s;
-      held = rw z (held_none (take count ks));
-    }
+module _ {F : Type 0} {s keys : List ℕ} where
+  pub none_passed : {it : Pieces ℕ F} → pointwise eqb s bracket ≡ false → it.done ≡ false → it.rest.now ≡ s
+      → NamesPassed s keys no_names bracket it
+  unfolding head_names bytes
+  none_passed {it} e d z =
+      record {
+        values = [];
+        whole = rw (sym (same_is s bracket) ∙ e);
+        passed = series_none comma bracket gap (name_of lower) s it d z;
+        held = held_none keys;
+      }
 
-abbrev pub NextName : (s ks : List ℕ) (count : ℕ) (h : Head) (i n : ℕ) (f : List ℕ) (r : ℕ) → Type 0
-NextName s ks count h i = NextPiece (NamesPassed s ks count h i) comma bracket gap s i
+  module _ {h : Head} {now f : List ℕ} {it then : Pieces ℕ F} (x : NamesPassed s keys h now it) (here : Cut comma it f then) where
+    broken : onto (name_of lower) (behind now f) ≡ none → head_names s ≡ none
+    broken e = x.whole ∙ series_broken comma bracket gap (name_of lower) s x.passed here e
 
-module _ {s f ks : List ℕ} {count : ℕ} {h : Head} {i n r : ℕ} (x : NextName s ks count h i n f r) where
-  passed : SeriesRead comma bracket gap (name_of lower) s x.passed.values i
-  passed = x.passed.passed
+    pub next_unled : behind now f ≡ none → head_names s ≡ none
+    unfolding onto
+    next_unled e = broken (rw e)
 
-  pub next_unled : {b : Head} → r ≡ 0 → b ≡ head_value false → NamesRead s ks count b
-  next_unled e z =
-      rw z
-      (names_malformed (x.passed.whole ∙ series_unled comma bracket gap (name_of lower) passed x.here x.led (lit< tt) (lit< tt) e))
+    module _ {g : List ℕ} (led : behind now f ≡ some g) where
+      said : onto (name_of lower) (behind now f) ≡ name_of lower g
+      unfolding onto
+      said = rw led
 
-  module _ (p : r ≡ 0 → ⊥) {v : ℕ} (read : v ≡ name_value lower (drop r f)) where
-    pub next_unnamed : {b : Head} → v ≡ 0 → b ≡ head_value false → NamesRead s ks count b
-    next_unnamed e z =
-        let unread = name_none lower (lit≤ tt) (lit≤ tt) (drop r f) read e in
-        rw z (names_malformed (x.passed.whole ∙ series_broken comma bracket gap (name_of lower) passed x.here x.led p unread))
+      pub next_unnamed : name_value lower g ≡ None → head_names s ≡ none
+      next_unnamed e = broken (said ∙ name_none lower g e)
 
-    pub next_named : {place : ℕ} {b : Head} → (v ≡ 0 → ⊥) → count ≤ length ks → place ≡ before v (take count ks)
-        → NameBehind h place count b → NamesPassed s ks count b (i + n + 1)
-    next_named {place} q long at behind =
-        let w = name_some lower (lit≤ tt) (lit≤ tt) (drop r f) read q in
-        record {
-          values = x.passed.values ++ drop r f ∷ [];
-          whole = x.passed.whole;
-          passed = series_more comma bracket gap (name_of lower) passed x.here x.led (drop r f) p w.0;
-          held =
-              behind (take count ks) x.passed.values (drop r f) (length-take-le count ks long)
-              (at ∙ ap (λ (k : ℕ). before k (take count ks)) w.1) x.passed.held;
-        }
+      pub next_named : (k : ℕ) {place : Option ℕ} {r : Head} → name_value lower g ≡ Some k → place ≡ position (λ n. eqb n k) keys
+          → NameBehind h place r → NamesPassed s keys r gap then
+      next_named k e at more =
+          let w = name_some lower g k e in
+          record {
+            values = x.values ++ g ∷ [];
+            whole = x.whole;
+            passed = series_more comma bracket gap (name_of lower) s x.passed here g (said ∙ w.0);
+            held = more keys x.values g (at ∙ ap (λ (m : ℕ). position (λ n. eqb n m) keys) w.1) x.held;
+          }
 
-pub all_named : {s ks : List ℕ} {count : ℕ} {h : Head} {i : ℕ} → NamesPassed s ks count h i → length s < i → NamesRead s ks count h
-all_named x l = names_formed (x.whole ∙ series_all comma bracket gap (name_of lower) x.passed l) x.held
+  pub all_named : {h : Head} {now : List ℕ} {it : Pieces ℕ F} → NamesPassed s keys h now it → it.done ≡ true → NamesRead s keys h
+  all_named x e =
+      record { names = x.values; parses = x.whole ∙ series_all comma bracket gap (name_of lower) s x.passed e; held = x.held }
 
 -- ---- the head: its name up to the first bracket
 
-module _ (s : List ℕ) {n v : ℕ} (first : n ≡ before opening s) (read : v ≡ name_value upper (take n s)) where
-  field_read : v ≡ name_value upper (take (before opening s) s)
-  field_read = read ∙ ap (λ (m : ℕ). name_value upper (take m s)) first
+module _ (s : List ℕ) {n : ℕ} (first : n ≡ before opening s) where
+  pub head_unnamed : name_value upper (take n s) ≡ None → Headless s
+  head_unnamed e = inl (rw first at (name_none upper (take n s) e))
 
-  pub head_unnamed : {ks : List ℕ} {count : ℕ} {h : Head} → v ≡ 0 → h ≡ head_value false → HeadRead s ks count h
-  unfolding head_value
-  head_unnamed e z =
-      let unread = name_none upper (lit≤ tt) (lit≤ tt) (take (before opening s) s) field_read e in
-      record { unnamed = λ a. rw z; named = λ x a. absurd (none-ne-some x (sym unread ∙ a)) }
-
-  pub head_named : {ks : List ℕ} {count : ℕ} {h : Head} → (v ≡ 0 → ⊥) → NamesRead (take (length s - n) (drop n s)) ks count h
-      → HeadRead s ks count h
-  head_named {ks} {count} {h} p r =
-      let f = take (before opening s) s in
-      let w = name_some upper (lit≤ tt) (lit≤ tt) f field_read p in
-      record {
-        unnamed = λ a. absurd (none-ne-some f (sym a ∙ w.0));
-        named = λ x a. subst (λ (l : List ℕ). NamesRead l ks count h) (to_end n s ∙ ap (λ (m : ℕ). drop m s) first) r;
-      }
+  pub head_named : (k : ℕ) → name_value upper (take n s) ≡ Some k → (keys : List ℕ) (r : Option Head)
+      → MatchOption r (head_names (take (length s - n) (drop n s)) ≡ none) (NamesRead (take (length s - n) (drop n s)) keys)
+      → MatchOption r (Headless s) (HeadRead s keys)
+  head_named k e keys None z = inr (rw (to_end n s, first) at z)
+  head_named k e keys (Some h) z =
+      record { name = take (before opening s) s; named = rw first at (name_some upper (take n s) k e).0; shows = rw (to_end n s, first) at z }

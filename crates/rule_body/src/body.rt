@@ -1,22 +1,25 @@
 // The body of a rule: its atoms, and the first check that turns them back.
 
-ghost use Rattle.std.specs.Prelude.{◌≡◌, ◌<◌, ◌≤◌, ◌^◌, length};
+ghost use Rattle.std.specs.Prelude.{◌≡◌, false, ◌<◌, ◌≤◌, ◌^◌, length, MatchOption};
+ghost use Rattle.std.proofs.Math.Option.{none};
+ghost use Rattle.text.specs.Lines.{parts};
 ghost use Rattle.model.specs.Limits.{most_lines};
-ghost use Rattle.rule_body.specs.Body.{AtomTabled, AtomChecked, soonest, no_atoms, no_body, AtomsBehind, BodyRead};
+ghost use Rattle.rules.specs.Text.{closing, body_of};
+ghost use Rattle.rules.specs.Checks.{atom_within};
+ghost use Rattle.rule_body.specs.Body.{AtomTabled, AtomChecked, soonest, no_atoms, LineBehind, AtomIs, AtomBehind, BodyRead};
 
 use model::{Line, MOST_LINES, Query, Tables};
-use rule_text::{Atom, behind, read_atom};
+use rule_text::{Atom, Unreadable, read_atom};
 
 // What stands before the first atom, and before each other.
-const ARROW: [u8; 4] = *b" :- ";
+const ARROW: &[u8] = b" :- ";
 
-const COMMA: [u8; 2] = *b", ";
+const COMMA: &[u8] = b", ";
 
-// The atoms as lines of a query, where nothing turns them back; else the number of what does.
+// The number of what turns the atoms back, if anything does; else they are the lines of the query.
 #[derive(Clone, Copy)]
 pub struct Body {
-    pub ok: bool,
-    pub fault: u64,
+    pub fault: Option<u64>,
     pub query: Query,
 }
 
@@ -24,35 +27,8 @@ pub struct Body {
 #[derive(Clone, Copy)]
 struct Atoms {
     count: usize,
-    fault: u64,
+    fault: Option<u64>,
     query: Query,
-}
-
-// What turns back an atom that is well formed: 2, 4, 5, or 0.
-fn atom_fault(tables: Tables, a: Atom) -> u64
-    requires { AtomTabled a }
-    ensures { AtomChecked tables a result }
-{
-    if a.outside {
-        return 2;
-    }
-    model::check_columns(tables, a.table, a.count)
-}
-
-// The check that comes first of two, which run in the order of their numbers; 0 is none.
-fn sooner(f: u64, g: u64) -> u64
-    ensures { result ≡ soonest f g }
-{
-    if f == 0 {
-        return g;
-    }
-    if g == 0 {
-        return f;
-    }
-    if f < g {
-        return f;
-    }
-    g
 }
 
 fn no_atoms() -> Atoms
@@ -60,73 +36,91 @@ fn no_atoms() -> Atoms
 {
     Atoms {
         count: 0,
-        fault: 0,
+        fault: None,
         query: query_text::no_query(),
     }
 }
 
-fn malformed() -> Body
-    ensures { result ≡ no_body }
+// What turns back an atom within the limits: 4 or 5.
+fn atom_fault(tables: Tables, a: Atom) -> Option<u64>
+    requires { AtomTabled a }
+    ensures { AtomChecked tables a result }
 {
-    Body {
-        ok: false,
-        fault: 0,
-        query: query_text::no_query(),
+    let f = model::check_columns(tables, a.table, a.count);
+    if f == 0 { None } else { Some(f) }
+}
+
+// The check that comes first of two, which run in the order of their numbers.
+fn sooner(f: Option<u64>, g: Option<u64>) -> Option<u64>
+    ensures { result ≡ soonest f g }
+{
+    match (f, g) {
+        (Some(m), Some(n)) => Some(m.min(n)),
+        (Some(_), None) => f,
+        (None, _) => g,
     }
+}
+
+// The lines with the atom's behind them, if the query has a place for it.
+fn with_line(b: Atoms, a: Atom) -> Query
+    ensures { LineBehind b a result }
+{
+    let mut q = b.query;
+    if b.count < MOST_LINES {
+        let table = a.table;
+        let terms = a.terms;
+        q.lines[b.count] = Line { table, terms };
+        q.count = b.count + 1;
+    }
+    q
 }
 
 // The atoms with one more behind them.
 fn with_atom(tables: Tables, b: Atoms, a: Atom) -> Atoms
     requires { AtomTabled a × (b.count < 2 ^ 32) }
-    ensures { AtomsBehind tables b a result }
+    ensures { AtomBehind b (AtomIs tables a) result }
 {
-    let f = atom_fault(tables, a);
-    let at = b.count;
-    let mut q = b.query;
-    if at < MOST_LINES {
-        let table = a.table;
-        let terms = a.terms;
-        q.lines[at] = Line { table, terms };
-        q.count = at + 1;
-    }
     Atoms {
-        count: at + 1,
-        fault: sooner(b.fault, f),
-        query: q,
+        count: b.count + 1,
+        fault: sooner(b.fault, atom_fault(tables, a)),
+        query: with_line(b, a),
+    }
+}
+
+// The atoms with one behind them of which a number is past its limit.
+fn with_outside(b: Atoms) -> Atoms
+    requires { b.count < 2 ^ 32 }
+    ensures { AtomBehind b (λ widths x. atom_within x ≡ false) result }
+{
+    Atoms {
+        count: b.count + 1,
+        fault: sooner(b.fault, Some(2)),
+        query: b.query,
     }
 }
 
 // The body of a rule up to the bracket that closes its last atom: ` :- T1(x, y, z), T2(x, 7`.
-pub fn read_body(tables: Tables, s: &[u8]) -> Body
+pub fn read_body(tables: Tables, s: &[u8]) -> Option<Body>
     requires { length s.now < 2 ^ 32 }
-    ensures { BodyRead tables s.now result × (result.query.count ≤ most_lines) }
+    ensures { MatchOption result (body_of (parts closing s.now) ≡ none) (λ b. BodyRead tables s.now b × (b.query.count ≤ most_lines)) }
 {
     let mut b = no_atoms();
-    let mut at = 0;
-    while at <= s.len() {
-        let part = &s[at..];
-        let n = text::first(part, b')');
-        let piece = &part[..n];
-        let from = if at == 0 {
-            behind(piece, &ARROW)
-        } else {
-            behind(piece, &COMMA)
-        };
-        if from == 0 {
-            return malformed();
+    let mut lead = ARROW;
+    for piece in s.split(|c| *c == b')') {
+        match read_atom(piece.strip_prefix(lead)?) {
+            Err(Unreadable::Malformed) => return None,
+            Err(Unreadable::Outside) => b = with_outside(b),
+            Ok(a) => b = with_atom(tables, b, a),
         }
-        let a = read_atom(&piece[from..]);
-        if !a.ok {
-            return malformed();
-        }
-        b = with_atom(tables, b, a);
-        at = at + n + 1;
+        lead = COMMA;
     }
-    let fault = if MOST_LINES < b.count { 7 } else { b.fault };
-    let query = b.query;
-    Body {
-        ok: true,
+    let fault = if MOST_LINES < b.count {
+        Some(7)
+    } else {
+        b.fault
+    };
+    Some(Body {
         fault,
-        query,
-    }
+        query: b.query,
+    })
 }

@@ -1,44 +1,33 @@
 // The head of a rule: which of the body's names it shows.
 
-ghost use Rattle.std.specs.Prelude.{◌≡◌, ◌<◌, ◌≤◌, ◌^◌, length};
+ghost use Rattle.std.specs.Prelude.{◌≡◌, ◌<◌, ◌≤◌, ◌^◌, length, IfSome, MatchOption};
+ghost use Rattle.std.proofs.Math.Option.{none};
+ghost use Rattle.rules.specs.Text.{head_names};
 ghost use Rattle.numbering.specs.Names.{most_names};
-ghost use Rattle.rule_body.specs.Head.{head_value, NameBehind, NamesRead, HeadRead};
+ghost use Rattle.rule_body.specs.Head.{NameBehind, NamesRead, Headless, HeadRead};
 
-use numbering::{Keys, place_of};
-use rule_text::{BRACKET, SPACE, behind, read_name};
+use numbering::place_of;
+use rule_text::{BRACKET, SPACE, read_name};
 
-// Whether the head is well formed, names a variable that the body lacks, and names one twice; the numbers of those that it names, as bits.
+// Whether the head names a variable that the body lacks, and names one twice; the numbers of those that it names, as bits.
 #[derive(Clone, Copy)]
 pub struct Head {
-    pub ok: bool,
     pub missing: bool,
     pub twice: bool,
     pub shown: u64,
 }
 
-// A head without names.
-fn no_names(ok: bool) -> Head
-    ensures { result ≡ head_value ok }
-{
-    Head {
-        ok,
-        missing: false,
-        twice: false,
-        shown: 0,
-    }
-}
-
-// The head with one name more, which has this place among `count` names of the body.
-fn with_name(h: Head, place: usize, count: usize) -> Head
-    requires { (place ≤ count) × (count ≤ most_names) }
-    ensures { NameBehind h place count result }
+// The head with one name more, which has this place among those of the body.
+fn with_name(h: Head, place: Option<usize>) -> Head
+    requires { IfSome place (λ n. n < most_names) }
+    ensures { NameBehind h place result }
 {
     let mut r = h;
-    if place == count {
+    let Some(n) = place else {
         r.missing = true;
         return r;
-    }
-    let bit = place as u64;
+    };
+    let bit = n as u64;
     if words::has_bit(h.shown, bit) {
         r.twice = true;
         return r;
@@ -48,45 +37,33 @@ fn with_name(h: Head, place: usize, count: usize) -> Head
 }
 
 // The names of a head from the bracket before them on: `(x, y`.
-fn read_names(s: &[u8], keys: &Keys, count: usize) -> Head
-    requires { (length s.now < 2 ^ 32) × (count ≤ most_names) × (length keys.now ≡ most_names) }
-    ensures { NamesRead s.now keys.now count result }
+fn read_names(s: &[u8], keys: &[u64]) -> Option<Head>
+    requires { length keys.now ≤ most_names }
+    ensures { MatchOption result (head_names s.now ≡ none) (NamesRead s.now keys.now) }
 {
-    if text::same(s, &BRACKET) {
-        return no_names(true);
+    let mut h = Head {
+        missing: false,
+        twice: false,
+        shown: 0,
+    };
+    if s == BRACKET {
+        return Some(h);
     }
-    let mut h = no_names(true);
-    let mut at = 0;
-    while at <= s.len() {
-        let part = &s[at..];
-        let n = text::first(part, b',');
-        let piece = &part[..n];
-        let from = if at == 0 {
-            behind(piece, &BRACKET)
-        } else {
-            behind(piece, &SPACE)
-        };
-        if from == 0 {
-            return no_names(false);
-        }
-        let key = read_name(&piece[from..], b'a');
-        if key == 0 {
-            return no_names(false);
-        }
-        h = with_name(h, place_of(keys, count, key), count);
-        at = at + n + 1;
+    let mut lead = BRACKET;
+    for piece in s.split(|c| *c == b',') {
+        let key = read_name(piece.strip_prefix(lead)?, b'a')?;
+        h = with_name(h, place_of(keys, key));
+        lead = SPACE;
     }
-    h
+    Some(h)
 }
 
 // The head up to the bracket that closes it: `Q1(x, y`.
-pub fn read_head(piece: &[u8], keys: &Keys, count: usize) -> Head
-    requires { (length piece.now < 2 ^ 32) × (count ≤ most_names) × (length keys.now ≡ most_names) }
-    ensures { HeadRead piece.now keys.now count result }
+pub fn read_head(piece: &[u8], keys: &[u64]) -> Option<Head>
+    requires { length keys.now ≤ most_names }
+    ensures { MatchOption result (Headless piece.now) (HeadRead piece.now keys.now) }
 {
     let n = text::first(piece, b'(');
-    if read_name(&piece[..n], b'A') == 0 {
-        return no_names(false);
-    }
-    read_names(&piece[n..], keys, count)
+    read_name(&piece[..n], b'A')?;
+    read_names(&piece[n..], keys)
 }

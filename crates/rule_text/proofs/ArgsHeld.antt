@@ -15,20 +15,16 @@ use Rattle.rule_text.specs.Atoms.{good_atom, BehindArgs}
 use Rattle.rule_text.specs.declared.args.Atom.{Atom}
 
 abbrev grown : Atom → ℕ → List Term → Atom
-grown a n l = record { ok = a.ok; outside = a.outside; table = a.table; count = n; terms = l }
+grown a n l = record { table = a.table; count = n; terms = l }
 
 -- b holds a's terms with t in the place behind them, if there is one
 pub record Placed (a : Atom) (t : Term) (b : Atom) : Type 0 where
-  pub ok : b.ok ≡ a.ok
-  pub outside : b.outside ≡ a.outside
   pub table : b.table ≡ a.table
   pub terms : length a.terms ≡ most_columns → b.terms ≡ set a.terms a.count t
 
 pub placed_within : {a b : Atom} {t : Term} → b ≡ grown a a.count (set a.terms a.count t) → Placed a t b
 placed_within e =
     record {
-      ok = ap (λ (x : Atom). x.ok) e;
-      outside = ap (λ (x : Atom). x.outside) e;
       table = ap (λ (x : Atom). x.table) e;
       terms = λ h. ap (λ (x : Atom). x.terms) e;
     }
@@ -36,8 +32,6 @@ placed_within e =
 pub placed_past : {a b : Atom} {t : Term} → most_columns ≤ a.count → b ≡ a → Placed a t b
 placed_past {a} {b} {t} h e =
     record {
-      ok = ap (λ (x : Atom). x.ok) e;
-      outside = ap (λ (x : Atom). x.outside) e;
       table = ap (λ (x : Atom). x.table) e;
       terms = λ l. ap (λ (x : Atom). x.terms) e ∙ sym (set_out a.terms a.count t (omega arith));
     }
@@ -53,8 +47,6 @@ module _ (a b : Atom) (t : Term) (r : Placed a t b) where
       let count : a.count + 1 ≡ length (ts ++ u ∷ []) = rw (ea, length-append) in
       λ i.
       record {
-        ok = (r.ok ∙ ap (λ (x : Atom). x.ok) ea) i;
-        outside = (r.outside ∙ ap (λ (x : Atom). x.outside) ea) i;
         table = (r.table ∙ ap (λ (x : Atom). x.table) ea) i;
         count = count i;
         terms = terms i;

@@ -1,57 +1,52 @@
--- What the value of an atom says of it: whether it is well formed, and whether a number of it is past its limit.
-use mathlib.Core.Path.{◌≡◌, refl, sym, ap, ◌∙◌, subst}
-use mathlib.Core.Bool.{Bool, true, false, cond, not, false≢true, true≢false}
+-- What the value of a series of terms, or of an atom, says of it.
+use mathlib.Core.Path.{◌≡◌, refl, subst⁻¹}
+use mathlib.Core.Bool.{Bool, true, false, cond}
+use mathlib.Core.List.{List}
 use mathlib.Core.Option.{Option, none, some}
-use Prim.Native.Nat.{◌≤◌}
-use lib.Dec.{T}
-use borrow.Author.Tests.{not-true, not-false}
-use Rattle.model.specs.Limits.{most_tables}
+use Rattle.std.specs.Prelude.{Result, Ok, Err}
+use Rattle.theory.specs.Executable.Test.{all}
+use Rattle.rules.specs.Rule.{Arg}
 use Rattle.rules.specs.Rule.{Atom as TheAtom}
-use Rattle.rules.specs.Checks.{atom_within}
-use Rattle.rules.proofs.Checked.{atom_within_iff}
-use Rattle.rule_text.specs.Atoms.{blank_atom, good_atom, atom_value}
+use Rattle.rules.specs.Checks.{arg_within, atom_within}
+use Rattle.rule_text.specs.Atoms.{good_atom, args_value, atom_value}
 use Rattle.rule_text.specs.declared.args.Atom.{Atom}
+use Rattle.rule_text.specs.declared.args.Unreadable.{Unreadable}
+use Rattle.rule_text.specs.declared.args.Unreadable.TheVariants.{Malformed, Outside}
 
-module _ (a : Atom) (o : Option TheAtom) (e : a ≡ atom_value o) where
-  pub well_formed : a.ok ≡ true → (x : TheAtom) × (o ≡ some x)
-  unfolding atom_value blank_atom
-  well_formed k = go o (sym (ap (λ (y : Atom). y.ok) e) ∙ k)
-    where
-      go : (o : Option TheAtom) → (atom_value o).ok ≡ true → (x : TheAtom) × (o ≡ some x)
-      go none h = absurd (false≢true h)
-      go (some x) h = (x, refl)
+-- ---- the terms
 
-  pub malformed : a.ok ≡ false → o ≡ none
-  unfolding atom_value blank_atom good_atom
-  malformed k = go o (sym (ap (λ (y : Atom). y.ok) e) ∙ k)
-    where
-      by_limits : (x : TheAtom) (t : Bool) → (cond t (good_atom x.table x.args) (blank_atom true true)).ok ≡ false → ⊥
-      by_limits x true h = true≢false h
-      by_limits x false h = true≢false h
+abbrev pub ArgsSaid : Result Atom Unreadable → Option (List Arg) → Type 0
+ArgsSaid (Ok a) o = (ts : List Arg) × (o ≡ some ts) × (all arg_within ts ≡ true) × (a ≡ good_atom 0 ts)
+ArgsSaid (Err Malformed) o = o ≡ none
+ArgsSaid (Err Outside) o = (ts : List Arg) × (o ≡ some ts) × (all arg_within ts ≡ false)
 
-      go : (o : Option TheAtom) → (atom_value o).ok ≡ false → o ≡ none
-      go none h = refl
-      go (some x) h = absurd (by_limits x (atom_within x) h)
+pub args_said : {r : Result Atom Unreadable} (o : Option (List Arg)) → r ≡ args_value o → ArgsSaid r o
+unfolding args_value
+args_said o e = subst⁻¹ (λ (r : Result Atom Unreadable). ArgsSaid r o) e (say o)
+  where
+    say : (o : Option (List Arg)) → ArgsSaid (args_value o) o
+    say none = refl
+    say (some ts) = go (all arg_within ts) refl
+      where
+        go : (t : Bool) → all arg_within ts ≡ t → ArgsSaid (cond t (Ok (good_atom 0 ts)) (Err Outside)) (some ts)
+        go true e = (ts, refl, e, refl)
+        go false e = (ts, refl, e)
 
-module _ (a : Atom) (x : TheAtom) (e : a ≡ atom_value (some x)) where
-  outside_is : a.outside ≡ not (atom_within x)
-  unfolding atom_value blank_atom good_atom
-  outside_is = ap (λ (y : Atom). y.outside) e ∙ go (atom_within x)
-    where
-      go : (t : Bool) → (cond t (good_atom x.table x.args) (blank_atom true true)).outside ≡ not t
-      go true = refl
-      go false = refl
+-- ---- the atom
 
-  pub is_outside : a.outside ≡ true → atom_within x ≡ false
-  is_outside o = not-true (atom_within x) (sym outside_is ∙ o)
+abbrev pub AtomSaid : Result Atom Unreadable → Option TheAtom → Type 0
+AtomSaid (Ok a) o = (x : TheAtom) × (o ≡ some x) × (atom_within x ≡ true) × (a ≡ good_atom x.table x.args)
+AtomSaid (Err Malformed) o = o ≡ none
+AtomSaid (Err Outside) o = (x : TheAtom) × (o ≡ some x) × (atom_within x ≡ false)
 
-  pub is_within : a.outside ≡ false → atom_within x ≡ true
-  is_within o = not-false (atom_within x) (sym outside_is ∙ o)
-
-  pub is_good : atom_within x ≡ true → a ≡ good_atom x.table x.args
-  unfolding atom_value
-  is_good w = e ∙ rw w
-
-  pub is_tabled : a.outside ≡ false → (1 ≤ a.table) × (a.table ≤ most_tables)
-  unfolding good_atom
-  is_tabled o = rw (is_good (is_within o)) ((atom_within_iff x).0 (subst T (sym (is_within o)) tt)).0
+pub atom_said : {r : Result Atom Unreadable} (o : Option TheAtom) → r ≡ atom_value o → AtomSaid r o
+unfolding atom_value
+atom_said o e = subst⁻¹ (λ (r : Result Atom Unreadable). AtomSaid r o) e (say o)
+  where
+    say : (o : Option TheAtom) → AtomSaid (atom_value o) o
+    say none = refl
+    say (some x) = go (atom_within x) refl
+      where
+        go : (t : Bool) → atom_within x ≡ t → AtomSaid (cond t (Ok (good_atom x.table x.args)) (Err Outside)) (some x)
+        go true e = (x, refl, e, refl)
+        go false e = (x, refl, e)

@@ -1,6 +1,6 @@
 -- Names and their keys: the bytes of a name are from 48 to 122, so its key has no byte that is 0, four at most, and is that of no
 -- other name.
-use mathlib.Core.Path.{◌≡◌, refl, sym, ap₂, subst}
+use mathlib.Core.Path.{◌≡◌, refl, sym, ap, ap₂, subst}
 use mathlib.Core.Logic.{⊎_elim}
 use mathlib.Core.Bool.{Bool, true, false, cond, ◌&&◌}
 use mathlib.Core.List.Memᴰ
@@ -11,6 +11,9 @@ use native.Mathlib.Omega.{arith}
 use lib.Dec.{T, leb, ltb, eqb, leb→le, ltb→lt, eqb→eq, eqb_refl, lit<}
 use lib.ListN.{length}
 use mir.Facts.{and_yes}
+use Rattle.std.specs.Prelude.{Option, Some, None}
+use Rattle.std.specs.Option.{unwrap_or}
+use Rattle.std.proofs.lemmas.Option.{none-some}
 use Rattle.theory.specs.Query.{◌∈◌}
 use Rattle.theory.proofs.Executable.Test.{same_test}
 use Rattle.little_endian.proofs.LittleEndian.{lowest_byte}
@@ -95,11 +98,6 @@ module _ (letters : ℕ) (first : 48 ≤ letters) (last : letters ≤ lower) whe
   name_key_fits [] h = absurd h
   name_key_fits (b ∷ l) h = key_fits (b ∷ l) (name_small (b ∷ l) h) (omega (arith, (name_letter letters b l h).few))
 
-  pub name_key_some : (l : List ℕ) → T (is_name letters l) → 0 < key l
-  unfolding is_name
-  name_key_some [] h = absurd h
-  name_key_some (b ∷ l) h = omega (arith, (name_letter letters b l h).from, first)
-
   pub key_one : (x y : List ℕ) → T (is_name letters x) → T (is_name letters y) → key x ≡ key y → x ≡ y
   key_one x y s t e = one x y (name_small x s) (name_small y t) e
 
@@ -108,20 +106,20 @@ module _ (letters : ℕ) (first : 48 ≤ letters) (last : letters ≤ lower) whe
       same_test (eqb (key x) (key y)) (same_bytes x y) (λ h. (same_bytes_iff x y).1 (key_one x y s t (eqb→eq (key x) (key y) h)))
       (λ h. subst (λ (z : List ℕ). T (eqb (key x) (key z))) ((same_bytes_iff x y).0 h) (eqb_refl (key x)))
 
-  -- ---- whether there is a name, by the value
+-- ---- whether there is a name, by the value
 
-  pub value_none : (l : List ℕ) → name_value letters l ≡ 0 → is_name letters l ≡ false
-  unfolding name_value
-  value_none l e = go (is_name letters l) (λ t. name_key_some l t) e
-    where
-      go : (t : Bool) → (T t → 0 < key l) → cond t (key l) 0 ≡ 0 → t ≡ false
-      go true h e = absurd (omega (arith, h tt, e))
-      go false h e = refl
+pub value_none : (letters : ℕ) (l : List ℕ) → name_value letters l ≡ None → is_name letters l ≡ false
+unfolding name_value
+value_none letters l e = go (is_name letters l) e
+  where
+    go : (t : Bool) → cond t (Some (key l)) None ≡ None → t ≡ false
+    go true e = absurd (none-some (key l) (sym e))
+    go false e = refl
 
-  pub value_some : (l : List ℕ) → (name_value letters l ≡ 0 → ⊥) → (is_name letters l ≡ true) × (name_value letters l ≡ key l)
-  unfolding name_value
-  value_some l f = go (is_name letters l) f
-    where
-      go : (t : Bool) → (cond t (key l) 0 ≡ 0 → ⊥) → (t ≡ true) × (cond t (key l) 0 ≡ key l)
-      go true f = (refl, refl)
-      go false f = absurd (f refl)
+pub value_some : (letters : ℕ) (l : List ℕ) (k : ℕ) → name_value letters l ≡ Some k → (is_name letters l ≡ true) × (k ≡ key l)
+unfolding name_value
+value_some letters l k e = go (is_name letters l) e
+  where
+    go : (t : Bool) → cond t (Some (key l)) None ≡ Some k → (t ≡ true) × (k ≡ key l)
+    go true e = (refl, ap (λ (o : Option ℕ). unwrap_or o 0) (sym e))
+    go false e = absurd (none-some k e)

@@ -6,5 +6,5 @@ pub mod Series
 pub mod ArgFields
 pub mod ArgsHeld
 pub mod ArgsRead
-pub mod AtomRead
 pub mod AtomValues
+pub mod AtomRead

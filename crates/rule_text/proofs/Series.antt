@@ -1,94 +1,114 @@
--- Reading a series of pieces from the left: what those passed say, and what is left. One argument for the terms of an atom, the atoms
--- of a body and the names of a head.
-use mathlib.Core.Path.{◌≡◌, ◌∙◌}
+-- Reading a series of pieces from the left, as `split` gives them: what those passed say, and what is left. One argument for the terms of an
+-- atom, the atoms of a body and the names of a head.
+use mathlib.Core.Path.{◌≡◌, refl, sym, ap, ◌∙◌}
+use mathlib.Core.Logic.{⊎_elim}
 use mathlib.Core.Bool.{Bool, true, false, cond}
+use mathlib.Core.List.Memᴰ
 use mathlib.Core.List.{List, [], ◌∷◌, ◌++◌, append-nil}
 use mathlib.Core.Option.{Option, none, some}
-use Prim.Native.Nat.{ℕ, ◌+◌, ◌≤◌, ◌<◌, zero-le}
+use Prim.Native.Nat.{ℕ, suc, ◌+◌, ◌≤◌, ◌<◌, zero-le, suc-le-suc}
 use native.Mathlib.Omega.{arith}
 use lib.Dec.{eqb}
-use lib.ListN.{length, drop}
-use borrow.Author.Tests.{eq-eqb, ne_eqb}
-use Rattle.text.specs.Lines.{parts, parts_from}
-use Rattle.text.proofs.PartsFrom.{from_first, from_none, PartAt, part_first, others_within}
+use lib.ListN.{length, get_or, length-append, get_or-append}
+use lib.Seq.{get_or-append_seam}
+use borrow.Author.Tests.{eqb-true, eqb-false}
+use Rattle.std.specs.Bool.{MatchBool}
+use Rattle.std.specs.List.{IsFirstMatchOrLen}
+use Rattle.std.specs.declared.slice.Split.{Split as Pieces}
+use Rattle.text.specs.Lines.{Split, parts}
+use Rattle.text.proofs.Lines.{Free, split_clean, split_pieces}
 use Rattle.model.specs.Fields.{both, mapped}
 use Rattle.model.proofs.FieldsRead.{append_none, none_next, some_next}
 use Rattle.rules.specs.Text.{onto, behind, series}
-use Rattle.rule_text.specs.Pieces.{Led}
 
--- ---- what leads a piece
+-- ---- the first piece
 
--- what stands before the piece at a place: before the first, and before each other
-pub lead_at : (lead next : List ℕ) → ℕ → List ℕ
-lead_at lead next i = cond (eqb i 0) lead next
+-- no byte of the piece parts
+free : (sep : ℕ) (p : List ℕ) → ((k : ℕ) → k < length p → eqb (get_or p k 0) sep ≡ false) → Free sep p
+free sep [] h y m = absurd (Memᴰ.not-nil m)
+free sep (x ∷ p) h y m =
+    ⊎_elim (λ q z. eqb-false x sep (h 0 (suc-le-suc zero-le)) (sym q ∙ z)) (λ t. free sep p (λ k l. h (suc k) (suc-le-suc l)) y t)
+    (Memᴰ.cases_cons m)
 
-module _ (lead next : List ℕ) {f : List ℕ} {i r : ℕ} where
-  pub first_led : i ≡ 0 → Led lead f r → Led (lead_at lead next i) f r
-  unfolding lead_at
-  first_led e l = rw (eq-eqb i 0 e) l
+last_piece : (sep : ℕ) (p : List ℕ) → Free sep p → parts sep p ≡ p ∷ []
+unfolding parts
+last_piece sep p n = ap (λ (s : Split). s.ended ++ s.rest ∷ []) (split_clean sep p n)
 
-  pub other_led : (i ≡ 0 → ⊥) → Led next f r → Led (lead_at lead next i) f r
-  unfolding lead_at
-  other_led n l = rw (ne_eqb i 0 n) l
+other_piece : (sep : ℕ) (p r : List ℕ) → Free sep p → parts sep (p ++ sep ∷ r) ≡ p ∷ parts sep r
+unfolding parts
+other_piece sep p r n = ap (λ (s : Split). s.ended ++ s.rest ∷ []) (split_pieces sep p r n)
 
--- the pieces of s before place i are passed, and f is the next one, of n bytes, the first r of which lead it
-pub record NextPiece (Passed : Type 0) (sep : ℕ) (lead next s : List ℕ) (i n : ℕ) (f : List ℕ) (r : ℕ) : Type 0 where
-  pub passed : Passed
-  pub here : PartAt sep s i n f
-  pub led : Led (lead_at lead next i) f r
+-- ---- what `split` has left
+
+module _ {F : Type 0} where
+  -- the pieces
+  abbrev pub left : ℕ → Pieces ℕ F → List (List ℕ)
+  left sep it = cond it.done [] (parts sep it.rest.now)
+
+  -- as many as they can be
+  abbrev pub most_left : Pieces ℕ F → ℕ
+  most_left it = cond it.done 0 (length it.rest.now + 1)
+
+  -- a piece is the next, and `then` is what is left behind it
+  pub record Cut (sep : ℕ) (it : Pieces ℕ F) (piece : List ℕ) (then : Pieces ℕ F) : Type 0 where
+    pub next : left sep it ≡ piece ∷ left sep then
+    pub fewer : most_left then + 1 ≤ most_left it
+
+  pub cut : (sep : ℕ) (it then : Pieces ℕ F) (piece : List ℕ) → it.done ≡ false
+      → MatchBool then.done (it.rest.now ≡ piece) ((y : ℕ) × (it.rest.now ≡ piece ++ y ∷ then.rest.now))
+      → IsFirstMatchOrLen (λ b. eqb b sep) it.rest.now (length piece) → Cut sep it piece then
+  cut sep it then piece e m f = go then.done refl m
+    where
+      xs : List ℕ
+      xs = it.rest.now
+
+      go : (d : Bool) → then.done ≡ d → MatchBool d (xs ≡ piece) ((y : ℕ) × (xs ≡ piece ++ y ∷ then.rest.now)) → Cut sep it piece then
+      go true q z =
+          let none : Free sep piece = free sep piece (λ k l. rw z at f.0 k 0 zero-le l) in
+          record {
+            next = rw (e, q, z) (last_piece sep piece none);
+            fewer = rw (e, q) (omega arith);
+          }
+      go false q (y, z) =
+          let none : Free sep piece
+          = free sep piece (λ k l. sym (ap (λ (b : ℕ). eqb b sep) (ap (λ (m : List ℕ). get_or m k 0) z ∙ get_or-append piece (y ∷ then.rest.now) 0 k l)) ∙ f.0 k 0 zero-le l) in
+          let long : length xs ≡ length piece + suc (length then.rest.now) = ap length z ∙ length-append piece (y ∷ then.rest.now) in
+          let seam : get_or xs (length piece) 0 ≡ y = ap (λ (m : List ℕ). get_or m (length piece) 0) z ∙ get_or-append_seam piece y then.rest.now 0 in
+          let ends : y ≡ sep = sym seam ∙ eqb-true (get_or xs (length piece) 0) sep (f.1 (omega (arith, long)) 0) in
+          record {
+            next = rw (e, q, z, ends) (other_piece sep piece then.rest.now none);
+            fewer = rw (e, q) (omega (arith, long));
+          }
 
 -- ---- the pieces passed
 
 -- what parts the pieces, what stands before the first and before each other, and what a piece says behind that
-module _ {X : Type 0} (sep : ℕ) (lead next : List ℕ) (read : List ℕ → Option X) where
-  -- the pieces before place i were read as these values
-  pub record SeriesRead (s : List ℕ) (values : List X) (i : ℕ) : Type 0 where
-    pub within : i ≤ length s + 1
-    pub ahead : series lead next read (parts sep s) ≡ mapped (λ l. values ++ l) (series (lead_at lead next i) next read (parts_from sep s i))
+module _ {F X : Type 0} (sep : ℕ) (lead next : List ℕ) (read : List ℕ → Option X) (s : List ℕ) where
+  -- the pieces before those that are left were read as these values; the next one stands behind `now`
+  pub record SeriesRead (now : List ℕ) (values : List X) (it : Pieces ℕ F) : Type 0 where
+    pub ahead : series lead next read (parts sep s) ≡ mapped (λ l. values ++ l) (series now next read (left sep it))
 
-  pub series_none : (s : List ℕ) → SeriesRead s [] 0
-  unfolding lead_at
-  series_none s = record { within = zero-le; ahead = rw from_first (append_none (series lead next read (parts sep s))) }
+  pub series_none : (it : Pieces ℕ F) → it.done ≡ false → it.rest.now ≡ s → SeriesRead lead [] it
+  series_none it e z = record { ahead = rw (e, z) (append_none (series lead next read (parts sep s))) }
 
   -- ---- the next piece
 
-  module _ {s f : List ℕ} {values : List X} {i n r : ℕ} (passed : SeriesRead s values i) (here : PartAt sep s i n f)
-      (led : Led (lead_at lead next i) f r) where
-    others : Option (List X)
-    others = series (lead_at lead next (i + n + 1)) next read (parts_from sep s (i + n + 1))
+  module _ {now f : List ℕ} {values : List X} {it then : Pieces ℕ F} (passed : SeriesRead now values it) (here : Cut sep it f then) where
+    ahead : series lead next read (parts sep s)
+        ≡ mapped (λ l. values ++ l) (both ◌∷◌ (onto read (behind now f)) (series next next read (left sep then)))
+    unfolding series
+    ahead = passed.ahead ∙ rw here.next
 
-    ahead : series lead next read (parts sep s) ≡ mapped (λ l. values ++ l) (both ◌∷◌ (onto read (behind (lead_at lead next i) f)) others)
-    unfolding series others lead_at
-    ahead = passed.ahead ∙ rw (part_first here, ne_eqb (i + n + 1) 0 (λ e. omega arith))
+    pub series_broken : onto read (behind now f) ≡ none → series lead next read (parts sep s) ≡ none
+    series_broken e = ahead ∙ none_next values (onto read (behind now f)) (series next next read (left sep then)) e
 
-    -- what the piece says
-    said : (r ≡ 0 → ⊥) → onto read (behind (lead_at lead next i) f) ≡ read (drop r f)
-    unfolding onto
-    said p = rw (led.here (omega (arith, p))).1
-
-    pub series_unled : 0 < length lead → 0 < length next → r ≡ 0 → series lead next read (parts sep s) ≡ none
-    unfolding onto lead_at
-    series_unled p q e =
-        ahead ∙ none_next values (onto read (behind (lead_at lead next i) f)) others (rw (led.missing (some_lead (eqb i 0)) e))
-      where
-        some_lead : (t : Bool) → 0 < length (cond t lead next)
-        some_lead true = p
-        some_lead false = q
-
-    pub series_broken : (r ≡ 0 → ⊥) → read (drop r f) ≡ none → series lead next read (parts sep s) ≡ none
-    series_broken p e = ahead ∙ none_next values (onto read (behind (lead_at lead next i) f)) others (said p ∙ e)
-
-    pub series_more : (u : X) → (r ≡ 0 → ⊥) → read (drop r f) ≡ some u → SeriesRead s (values ++ u ∷ []) (i + n + 1)
-    unfolding others
-    series_more u p e =
-        record {
-          within = others_within here;
-          ahead = ahead ∙ some_next values u (onto read (behind (lead_at lead next i) f)) others (said p ∙ e);
-        }
+    pub series_more : (u : X) → onto read (behind now f) ≡ some u → SeriesRead next (values ++ u ∷ []) then
+    series_more u e =
+        record { ahead = ahead ∙ some_next values u (onto read (behind now f)) (series next next read (left sep then)) e }
 
   -- ---- all pieces
 
-  pub series_all : {s : List ℕ} {values : List X} {i : ℕ} → SeriesRead s values i → length s < i
+  pub series_all : {now : List ℕ} {values : List X} {it : Pieces ℕ F} → SeriesRead now values it → it.done ≡ true
       → series lead next read (parts sep s) ≡ some values
   unfolding series mapped
-  series_all {s} {values} {i} r h = r.ahead ∙ rw (from_none sep s i h, append-nil)
+  series_all {values = values} r e = r.ahead ∙ rw (e, append-nil)

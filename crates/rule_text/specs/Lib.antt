@@ -1,4 +1,3 @@
 -- What reading the pieces of a rule gives, as the code's values.
 pub mod Keys
-pub mod Pieces
 pub mod Atoms

@@ -2,41 +2,32 @@
 
 ghost use Rattle.std.specs.Prelude.{◌≡◌, ◌<◌, ◌^◌, length};
 ghost use Rattle.rules.specs.Text.{arg_of, args_of};
-ghost use Rattle.rule_text.specs.Atoms.{arg_field, blank_atom, args_value, BehindArgs};
+ghost use Rattle.rule_text.specs.Atoms.{arg_field, args_value, BehindArgs};
 
-use crate::names::{BRACKET, SPACE, behind, read_name};
+use crate::names::{BRACKET, SPACE, read_name};
 use model::{CONSTANT, Field, HIDDEN, MOST_COLUMNS, Term};
 use text::Numeral;
 
-// What an atom says. Where it is malformed, or a number of it is past its limit, it says no more.
+// What an atom says.
 #[derive(Clone, Copy)]
 pub struct Atom {
-    pub ok: bool,
-    pub outside: bool,
     pub table: u64,
     // how many terms there are; the first MOST_COLUMNS are kept
     pub count: usize,
     pub terms: [Term; MOST_COLUMNS],
 }
 
-// An atom of which no more is said.
-pub fn blank(ok: bool, outside: bool) -> Atom
-    ensures { result ≡ blank_atom ok outside }
-{
-    Atom {
-        ok,
-        outside,
-        table: 0,
-        count: 0,
-        terms: [Term { mark: 0, number: 0 }; MOST_COLUMNS],
-    }
+// Why no atom is read: it is malformed, or a number of it is past its limit.
+#[derive(Clone, Copy, PartialEq, Eq)]
+pub enum Unreadable {
+    Malformed,
+    Outside,
 }
 
 fn read_arg(field: &[u8]) -> Field
     ensures { result ≡ arg_field (arg_of field.now) }
 {
-    let key = read_name(field, b'a');
-    if key != 0 {
+    if let Some(key) = read_name(field, b'a') {
         return Field::Within(Term {
             mark: HIDDEN,
             number: key,
@@ -58,49 +49,38 @@ fn with_arg(a: Atom, t: Term) -> Atom
     ensures { BehindArgs a t result }
 {
     let mut r = a;
-    let at = a.count;
-    if at < MOST_COLUMNS {
-        r.terms[at] = t;
+    if a.count < MOST_COLUMNS {
+        r.terms[a.count] = t;
     }
-    r.count = at + 1;
+    r.count = a.count + 1;
     r
 }
 
 // The terms of an atom, from the bracket before them on: `(x, y, z`.
-pub fn read_args(s: &[u8]) -> Atom
+pub fn read_args(s: &[u8]) -> Result<Atom, Unreadable>
     requires { length s.now < 2 ^ 32 }
     ensures { result ≡ args_value (args_of s.now) }
 {
-    let mut a = blank(true, false);
+    let mut a = Atom {
+        table: 0,
+        count: 0,
+        terms: [Term { mark: 0, number: 0 }; MOST_COLUMNS],
+    };
     let mut outside = false;
-    let mut at = 0;
-    while at <= s.len() {
-        let part = &s[at..];
-        let n = text::first(part, b',');
-        let piece = &part[..n];
-        let from = if at == 0 {
-            behind(piece, &BRACKET)
-        } else {
-            behind(piece, &SPACE)
+    let mut lead = BRACKET;
+    for piece in s.split(|b| *b == b',') {
+        let Some(field) = piece.strip_prefix(lead) else {
+            return Err(Unreadable::Malformed);
         };
-        if from == 0 {
-            return blank(false, false);
+        match read_arg(field) {
+            Field::Malformed => return Err(Unreadable::Malformed),
+            Field::Outside => outside = true,
+            Field::Within(t) => a = with_arg(a, t),
         }
-        match read_arg(&piece[from..]) {
-            Field::Malformed => {
-                return blank(false, false);
-            }
-            Field::Outside => {
-                outside = true;
-            }
-            Field::Within(t) => {
-                a = with_arg(a, t);
-            }
-        }
-        at = at + n + 1;
+        lead = SPACE;
     }
     if outside {
-        return blank(true, true);
+        return Err(Unreadable::Outside);
     }
-    a
+    Ok(a)
 }

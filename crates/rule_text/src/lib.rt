@@ -6,6 +6,6 @@ mod args;
 mod atoms;
 mod names;
 
-pub use args::Atom;
+pub use args::{Atom, Unreadable};
 pub use atoms::read_atom;
-pub use names::{BRACKET, SPACE, behind, read_name};
+pub use names::{BRACKET, SPACE, read_name};

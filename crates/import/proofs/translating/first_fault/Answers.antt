@@ -1,26 +1,20 @@
--- `first_fault`: each answer is the first that turns the rule back.
+-- `first_fault`: the tests are the definition's.
 use mathlib.Core.Path.{sym, ◌∙◌}
-use borrow.Author.Tests.{not-true, not-false}
-use Rattle.import.proofs.Faults.{first_ill, first_body, first_head}
+use Rattle.import.specs.Translating.{first_of}
+use Rattle.import.proofs.Faults.{first_some, first_none}
 use Rattle.import.proofs.translating.first_fault.Goals as goal
 
-pub returns-then-not-h : goal.returns-then-not-h
-returns-then-not-h c = let a = c.args in sym (first_ill a.b a.h (not-true _ c.if-not-h.true))
-
-pub returns-then-b-ne0 : goal.returns-then-b-ne0
-returns-then-b-ne0 c = let a = c.args in sym (first_body a.b a.h (not-false _ c.if-not-h.false) c.if-b-ne0.true)
+pub returns-then-is_some : goal.returns-then-is_some
+returns-then-is_some c = first_some _ _ (sym c.if-is_some.ensures)
 
 pub returns-then-h : goal.returns-then-h
-returns-then-h c =
-    let a = c.args in
-    sym (first_head a.b a.h (not-false _ c.if-not-h.false) c.if-b-ne0.false ∙ rw c.if-h.true)
+unfolding first_of
+returns-then-h c = sym (first_none c.args.b c.args.h (sym c.if-is_some.ensures) ∙ rw c.if-h.true)
 
 pub returns-then-h-2 : goal.returns-then-h-2
-returns-then-h-2 c =
-    let a = c.args in
-    sym (first_head a.b a.h (not-false _ c.if-not-h.false) c.if-b-ne0.false ∙ rw (c.if-h.false, c.if-h-2.true))
+unfolding first_of
+returns-then-h-2 c = sym (first_none c.args.b c.args.h (sym c.if-is_some.ensures) ∙ rw (c.if-h.false, c.if-h-2.true))
 
 pub returns : goal.returns
-returns c =
-    let a = c.args in
-    sym (first_head a.b a.h (not-false _ c.if-not-h.false) c.if-b-ne0.false ∙ rw (c.if-h.false, c.if-h-2.false))
+unfolding first_of
+returns c = sym (first_none c.args.b c.args.h (sym c.if-is_some.ensures) ∙ rw (c.if-h.false, c.if-h-2.false))

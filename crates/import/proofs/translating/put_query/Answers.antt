@@ -1,53 +1,38 @@
-use mathlib.Core.Path.{◌≡◌}
-use Prim.Native.Nat.{◌≤◌, zero-le}
+use Prim.Native.Nat.{◌≤◌}
 use native.Mathlib.Omega.{arith}
-use borrow.Author.Rules.{rules}
-use lib.ListN.{length}
 use Rattle.text.specs.Names.{bytes, table_terms}
-use Rattle.model.specs.Limits.{most_lines}
-use Rattle.model.proofs.Values.{mapped_long}
 use Rattle.writing.proofs.Wrote.{wrote_byte}
 use Rattle.import.specs.Translating.{text_room}
-use Rattle.import.proofs.Lines.{none_printed, line_placed, more_printed, all_printed}
+use Rattle.import.proofs.Lines.{none_printed, lines_few, line_placed, more_printed, all_printed}
 use Rattle.import.proofs.translating.put_query.Goals as goal
-use Rattle.import.proofs.translating.put_query.Goals.{Start}
 
-lines_long : (c : Start) → length c.args.q.lines ≡ most_lines
-lines_long c = search mapped_long
-
-pub loop-k-init : goal.loop-k-init
+pub loop-line-init : goal.loop-line-init
 unfolding table_terms bytes
-loop-k-init c = (
-  none_printed _ _ _ _ c.put_bytes-names.ensures
+loop-line-init c = (
+  none_printed _ _ _ c.put_bytes-names.ensures
       (wrote_byte (omega (arith, c.put_bytes-names.ensures.next, c.put_bytes-names.ensures.size, c.requires.1)) c.put_byte-at.ensures),
-  zero-le,
-  search rules,
+  omega (arith, c.requires.1),
 )
 
-pub number_line-line-requires : goal.number_line-line-requires
-number_line-line-requires c = (
-  line_placed c.args.q c.args.keys.now c.args.count c.args.shown c.requires.0 (lines_long (goal.at.number_line-line-requires c).Start) c.loop-k.k _
-      c.loop-k-test.true,
-  c.requires.0.most,
-  c.requires.0.long,
-)
+pub number_line-numbered-requires : goal.number_line-numbered-requires
+number_line-numbered-requires c = line_placed c.requires.0 c.loop-line-test.true _
 
-pub loop-k-preserved : goal.loop-k-preserved
-loop-k-preserved c = (
-  more_printed c.args.q c.args.keys.now c.args.count c.args.shown c.requires.0 (lines_long (goal.at.loop-k-preserved c).Start) _ c.loop-k.invariant.0
-      c.loop-k-test.true c.put_line-at.ensures.1 c.number_line-line.ensures c.put_line-at.ensures.0,
-  search rules,
-  search rules,
+pub put_line-at-requires : goal.put_line-at-requires
+put_line-at-requires c =
+    omega (arith, c.loop-line.invariant.0.most, c.loop-line.invariant.1, c.loop-line-test.true, lines_few c.args.q c.requires.0.few)
+
+pub loop-line-preserved : goal.loop-line-preserved
+loop-line-preserved c = (
+  more_printed c.args.q c.args.keys.now c.args.shown _ c.loop-line.invariant.0 c.loop-line-test.true c.put_line-at.ensures.1
+      c.number_line-numbered.ensures c.put_line-at.ensures.0,
+  omega (arith, c.loop-line.invariant.1),
 )
 
 pub returns : goal.returns
 returns c =
-    let few : c.loop-k.at ≤ text_room = omega (arith, c.loop-k.invariant.0.most, c.loop-k.invariant.1, c.requires.0.few) in
+    let inv = c.loop-line.invariant in
+    let few : c.loop-line.at ≤ text_room = omega (arith, inv.0.most, c.loop-line.auto.line-index-end, lines_few c.args.q c.requires.0.few) in
     record {
-      query_put = (
-        all_printed c.args.q c.args.keys.now c.args.count c.args.shown c.loop-k.k c.loop-k.out c.loop-k.at
-            c.loop-k.invariant.0 c.loop-k-test.false (omega (arith, few, c.loop-k.invariant.2)) (omega (arith, c.requires.0.few, lines_long (goal.at.returns c).Start)),
-        few,
-      );
-      out_len = c.loop-k.invariant.2;
+      query_put = (all_printed c.args.q c.args.keys.now c.args.shown inv.0 c.loop-line-test.false (omega (arith, few, inv.1)), few);
+      out_len = inv.1;
     }

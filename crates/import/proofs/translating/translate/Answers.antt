@@ -1,102 +1,59 @@
 -- `translate`: the text without its end, parted at the first bracket that closes.
-use mathlib.Core.Path.{◌≡◌, refl, sym, ap, ◌∙◌}
-use mathlib.Core.Bool.{true≢false}
-use Prim.Native.Nat.{◌+◌, ◌-◌, ◌<◌}
+use mathlib.Core.Path.{refl}
+use Prim.Native.Nat.{◌<◌}
 use native.Mathlib.Omega.{arith}
-use borrow.Author.Rules.{rules}
-use lib.ListN.{length, take, drop, length-drop}
-use lib.Seq.{length-take-le}
-use Rattle.words.proofs.Answers.{true_holds}
+use lib.ListN.{length, length-take, length-drop}
 use Rattle.text.specs.Names.{bytes}
-use Rattle.text.proofs.Names.{same_bytes_iff, same_true}
-use Rattle.text.proofs.Parts.{to_end, first_length, first_inside}
+use Rattle.text.proofs.Parts.{first_length, first_inside}
 use Rattle.rules.specs.Text.{closing}
-use Rattle.import.proofs.Ends.{rule_end, too_short, other_end, one_piece, two_pieces}
+use Rattle.import.proofs.Ends.{other_end, one_piece, two_pieces}
 use Rattle.import.proofs.translating.translate.Goals as goal
-use Rattle.import.proofs.translating.translate.Goals.{Else-h-to, Else-n-lt2, Else-not-same}
+use Rattle.import.proofs.translating.translate.Goals.{Else-h-whole}
 
-pub returns-then-n-lt2 : goal.returns-then-n-lt2
-returns-then-n-lt2 c =
+pub returns-in_default : goal.returns-in_default
+unfolding bytes
+returns-in_default c =
     record {
-      translates = (λ w t n. rw (too_short c.args.rule.now c.if-n-lt2.true) refl);
-      out_len = search rules;
+      translates = λ w t n. rw (other_end c.args.rule.now c.in_default.ensures.cases) refl;
+      out_len = (c.requires.1, tt);
     }
 
--- where the end starts
-end_starts : (c : Else-n-lt2) → let n = length c.args.rule.now in n - 2 + 2 ≡ n
-end_starts c = omega (arith, c.if-n-lt2.false)
-
-pub returns-then-not-same : goal.returns-then-not-same
+pub returns-then-h-whole : goal.returns-then-h-whole
 unfolding bytes
-returns-then-not-same c =
-    let rule = c.args.rule.now in
-    let differs : take (length rule - (length rule - 2)) (drop (length rule - 2) rule) ≡ rule_end → ⊥ =
-    λ q. true≢false (same_true _ rule_end q ∙ sym c.same.ensures ∙ c.if-not-same.true) in
+returns-then-h-whole c =
+    let e = c.in-Some.ensures.cases in
     record {
-      translates = (λ w t n. rw (other_end rule (length rule - 2) (end_starts (goal.at.returns-then-not-same c).Else-n-lt2) differs) refl);
-      out_len = search rules;
-    }
-
--- the text without its end
-whole_long : (c : Else-n-lt2) →
-    let rule = c.args.rule.now in
-    length rule - 2 ≡ length (take (length rule - 2) rule)
-whole_long c = let rule = c.args.rule.now in sym (length-take-le (length rule - 2) rule (omega arith))
-
-pub slice_bounds-whole-end : goal.slice_bounds-whole-end
-slice_bounds-whole-end c = whole_long (goal.at.slice_bounds-whole-end c).Else-n-lt2
-
-ends : (c : Else-not-same) → let rule = c.args.rule.now in
-    take (length rule - (length rule - 2)) (drop (length rule - 2) rule) ≡ rule_end
-unfolding bytes
-ends c = (same_bytes_iff _ rule_end).0 (true_holds (sym c.same.ensures ∙ c.if-not-same.false))
-
-pub returns-then-h-to : goal.returns-then-h-to
-returns-then-h-to c =
-    let rule = c.args.rule.now in
-    record {
-      translates = (λ w t n. rw (one_piece rule (length rule - 2) (end_starts (goal.at.returns-then-h-to c).Else-n-lt2) (ends (goal.at.returns-then-h-to c).Else-not-same) c.first-h.result c.first-h.ensures c.if-h-to.true) refl);
-      out_len = search rules;
+      translates = λ w t n. rw (one_piece c.args.rule.now e.0 e.1 c.first-h.ensures c.if-h-whole.true) refl;
+      out_len = (c.requires.1, tt);
     }
 
 -- the bracket stands before the end
-inside : (c : Else-h-to) → let rule = c.args.rule.now in
-    c.first-h.result < length (take (length rule - 2) rule)
-inside c =
-    first_inside closing c.first-h.result _ c.first-h.ensures (λ e. c.if-h-to.false (e ∙ sym (whole_long (goal.at.Else-h-to c).Else-n-lt2)))
-
-pub overflow_add-from : goal.overflow_add-from
-overflow_add-from c =
-    omega (arith, inside c, whole_long (goal.at.overflow_add-from c).Else-n-lt2, c.requires.0)
+inside : (c : Else-h-whole) → c.first-h.result < length c.in-Some.whole.now
+inside c = first_inside closing _ _ c.first-h.ensures c.if-h-whole.false
 
 pub slice_bounds-translate_parts-end : goal.slice_bounds-translate_parts-end
 slice_bounds-translate_parts-end c = first_length closing _ _ c.first-h.ensures
 
+pub overflow_add-h : goal.overflow_add-h
+overflow_add-h c =
+    omega (arith, inside (goal.at.overflow_add-h c).Else-h-whole, c.in-Some.ensures.cases.2, c.requires.0)
+
 pub slice_bounds-translate_parts-count : goal.slice_bounds-translate_parts-count
-slice_bounds-translate_parts-count c = omega (arith, inside c)
+slice_bounds-translate_parts-count c = omega (arith, inside (goal.at.slice_bounds-translate_parts-count c).Else-h-whole)
 
 pub slice_bounds-translate_parts-start : goal.slice_bounds-translate_parts-start
-slice_bounds-translate_parts-start c =
-    omega (arith, inside c, whole_long (goal.at.slice_bounds-translate_parts-start c).Else-n-lt2)
+slice_bounds-translate_parts-start c = omega (arith, inside (goal.at.slice_bounds-translate_parts-start c).Else-h-whole)
 
 pub translate_parts-requires : goal.translate_parts-requires
 translate_parts-requires c =
-    let rule = c.args.rule.now in
-    let whole = take (length rule - 2) rule in
-    let n = c.first-h.result in
-    let first = first_length closing n whole c.first-h.ensures in
-    let last = ap length (to_end (n + 1) whole) ∙ length-drop (n + 1) whole in
-    let most = c.requires.0 in (
-      omega (arith, inside (goal.at.translate_parts-requires c).Else-h-to, whole_long (goal.at.translate_parts-requires c).Else-n-lt2, first, most),
-      omega (arith, inside (goal.at.translate_parts-requires c).Else-h-to, whole_long (goal.at.translate_parts-requires c).Else-n-lt2, last, most),
-      search rules,
-    )
+    (simp (length-take, length-drop) (omega (arith, c.in-Some.ensures.cases.2, c.requires.0)), c.requires.1)
 
 pub returns : goal.returns
+unfolding bytes
 returns c =
-    let rule = c.args.rule.now in
+    let e = c.in-Some.ensures.cases in
     record {
-      translates = (λ w t n. rw (two_pieces rule (length rule - 2) (end_starts (goal.at.returns c).Else-n-lt2) (ends (goal.at.returns c).Else-not-same) c.first-h.result c.first-h.ensures c.if-h-to.false)
-          (c.translate_parts.ensures.parts_translated w t n));
+      translates = λ w t n.
+          rw (two_pieces c.args.rule.now e.0 e.1 c.first-h.ensures c.if-h-whole.false) (c.translate_parts.ensures.parts_translated w t n);
       out_len = c.translate_parts.ensures.out_len;
     }

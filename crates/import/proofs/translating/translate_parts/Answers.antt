@@ -1,37 +1,39 @@
 -- `translate_parts`: what was read of the head and of the body tells what turns the rule back, and else the lines that are printed.
-use mathlib.Core.Path.{refl, sym, ◌∙◌}
-use borrow.Author.Rules.{rules}
-use borrow.Author.Tests.{not-true, not-false}
-use Rattle.import.proofs.Faults.{parts_ill, parts_refused, parts_written}
+use mathlib.Core.Path.{refl}
+use Rattle.numbering.specs.Names.{held}
+use Rattle.rule_body.specs.Head.{HeadRead}
+use Rattle.import.proofs.Faults.{no_rule, no_head, parts_refused, parts_written}
 use Rattle.import.proofs.Lines.{lines_named}
 use Rattle.import.proofs.translating.translate_parts.Goals as goal
+use Rattle.import.proofs.translating.translate_parts.Goals.{In-Some-read_head}
 
-pub returns-then-not-b : goal.returns-then-not-b
-returns-then-not-b c =
-    record {
-      parts_translated = (λ w t n. parts_ill w n c.args.tables t c.args.head.now c.args.body.now c.read_body-b.result
-          c.read_body-b.ensures.0 (not-true _ c.if-not-b.true) _ _ refl);
-      out_len = search rules;
-    }
+pub returns-in_default-clause-parts_translated : goal.returns-in_default-clause-parts_translated
+returns-in_default-clause-parts_translated c w t n = rw (no_rule _ _ c.in_default.ensures) refl
 
-pub returns-then-fault-ne0 : goal.returns-then-fault-ne0
-returns-then-fault-ne0 c =
-    record {
-      parts_translated = (λ w t k. parts_refused w k c.args.tables t c.args.head.now c.args.body.now c.read_body-b.result
-          c.read_body-b.ensures.0 _ c.names_of-count.result c.names_of-count.ensures c.read_head-h.result c.read_head-h.ensures
-          (not-false _ c.if-not-b.false) _ _ c.first_fault-fault.ensures c.if-fault-ne0.true);
-      out_len = search rules;
-    }
+pub returns-in_default-read_head-clause-parts_translated : goal.returns-in_default-read_head-clause-parts_translated
+returns-in_default-read_head-clause-parts_translated c w t n = rw (no_head _ _ c.in_default-read_head.ensures) refl
 
-pub put_query-bytes-requires : goal.put_query-bytes-requires
-put_query-bytes-requires c =
-    (lines_named _ _ _ c.read_body-b.ensures.1 c.names_of-count.ensures, search rules)
+-- the head beside the keys of the body's names
+head : (c : In-Some-read_head) → HeadRead c.args.head.now (held c.names_of-names.result) c.in-Some-read_head.h
+head c = rw c.keys.ensures at c.in-Some-read_head.ensures
+
+pub returns-in-Some-first_fault-clause-parts_translated : goal.returns-in-Some-first_fault-clause-parts_translated
+returns-in-Some-first_fault-clause-parts_translated c w t n =
+    let e = goal.at.returns-in-Some-first_fault-clause-parts_translated c in
+    parts_refused w n c.args.tables t c.args.head.now c.args.body.now c.in-Some.b c.in-Some.ensures.0 c.names_of-names.result
+    c.names_of-names.ensures c.in-Some-read_head.h (head e.In-Some-read_head) _ _ c.in-Some-first_fault.ensures
+
+pub put_query-requires : goal.put_query-requires
+put_query-requires c =
+    rw c.keys-2.ensures (lines_named _ _ c.in-Some.ensures.1 c.names_of-names.ensures, c.requires.1)
 
 pub returns : goal.returns
 returns c =
+    let e = goal.at.returns c in
     record {
-      parts_translated = (λ w t k. parts_written w k c.args.tables t c.args.head.now c.args.body.now c.read_body-b.result
-          c.read_body-b.ensures.0 _ c.names_of-count.result c.names_of-count.ensures c.read_head-h.result c.read_head-h.ensures
-          (not-false _ c.if-not-b.false) _ _ refl (sym c.first_fault-fault.ensures ∙ c.if-fault-ne0.false) c.put_query-bytes.ensures.query_put.0);
-      out_len = (c.put_query-bytes.ensures.out_len, c.put_query-bytes.ensures.query_put.1);
+      parts_translated = λ w t n.
+          parts_written w n c.args.tables t c.args.head.now c.args.body.now c.in-Some.b c.in-Some.ensures.0 c.names_of-names.result
+          c.names_of-names.ensures c.in-Some-read_head.h (head e.In-Some-read_head) _ _ c.in_default-first_fault.ensures
+          (rw c.keys-2.ensures at c.put_query.ensures.query_put.0);
+      out_len = (c.put_query.ensures.out_len, c.put_query.ensures.query_put.1);
     }

@@ -1,94 +1,66 @@
-use mathlib.Core.Path.{◌≡◌, ap, ◌∙◌}
+use mathlib.Core.Path.{◌≡◌, sym, ap, ◌∙◌}
 use mathlib.Core.Logic.{inl, inr}
-use mathlib.Core.List.{List}
-use Prim.Native.Nat.{ℕ, ◌-◌}
+use mathlib.Core.Option.{some}
 use native.Mathlib.Omega.{arith}
-use borrow.Author.Tests.{not-true, not-false}
-use lib.ListN.{length, take, drop, length-take, length-drop}
-use Rattle.text.proofs.Parts.{first_length, to_end}
-use Rattle.text.proofs.PartsFrom.{part_at, part_room}
-use Rattle.rules.specs.Text.{closing, atom_of}
-use Rattle.rule_text.specs.Atoms.{atom_value}
-use Rattle.rule_text.proofs.Leads.{led_within}
-use Rattle.rule_text.proofs.Series.{first_led, other_led}
-use Rattle.rule_body.proofs.BodyWalk.{NextAtom}
-use Rattle.rule_body.proofs.BodyWalk.{body_refused, walked_none, next_unled, next_malformed, next_tabled, next_more, body_read}
+use borrow.Author.Rules.{rules, of_calls}
+use lib.Dec.{eqb}
+use Rattle.std.specs.Prelude.{Err}
+use Rattle.std.proofs.lemmas.Fn.{always_returns_same}
+use Rattle.rules.specs.Text.{closing, behind}
+use Rattle.rule_text.proofs.Leads.{led_not, led_by}
+use Rattle.rule_text.proofs.Series.{Cut, cut}
+use Rattle.rule_body.proofs.BodyWalk.{walked_none, next_unled, next_malformed, next_outside, next_tabled, next_within, body_read}
 use Rattle.rule_body.proofs.body.read_body.Goals as goal
-use Rattle.rule_body.proofs.body.read_body.Goals.{After-read_atom-a, Joined-at-eq0, else-at-eq0, else-b-gt-MOST_LINES, then-at-eq0, then-b-gt-MOST_LINES}
+use Rattle.rule_body.proofs.body.read_body.Goals.{In-Some, In_ok-strip_prefix, in-Err-Outside, in-Ok, then-b-gt-MOST_LINES, else-b-gt-MOST_LINES}
 
-pub loop-at-init : goal.loop-at-init
-loop-at-init c = walked_none _ _ _ c.no_atoms-b.ensures
+pub loop-piece-init : goal.loop-piece-init
+loop-piece-init c =
+    let items = c.into_iter-piece-iterator.ensures.into_iter_gives in
+    walked_none _ c.no_atoms-b.ensures (rw items c.split-piece-items.ensures.done) (rw items c.split-piece-items.ensures.rest)
 
-pub slice_bounds-piece-end : goal.slice_bounds-piece-end
-slice_bounds-piece-end c = first_length closing _ _ c.first-n.ensures
+-- the piece at hand
+piece : (c : In-Some) → Cut closing c.loop-piece.piece-iterator c.in-Some.piece.now c.next.new.self
+piece c =
+    let next = c.in-Some.ensures.steps in
+    cut closing _ _ _ next.0 next.1 (next.2 (λ b. eqb b closing) (always_returns_same _ _ _ (λ a r f k. search (rules, of_calls)))).1
 
--- ---- the piece at the loop's place
+pub returns-in_err-strip_prefix : goal.returns-in_err-strip_prefix
+returns-in_err-strip_prefix c =
+    rw c.from_residual.ensures
+    (next_unled _ c.loop-piece.invariant (piece (goal.at.returns-in_err-strip_prefix c).In-Some)
+    (led_not c.loop-piece.lead.now c.in-Some.piece.now c.in_err-strip_prefix.ensures.cases))
 
-abbrev text : Joined-at-eq0 → List ℕ
-text c = c.args.s.now
+-- what stands behind its lead
+field : (c : In_ok-strip_prefix) → behind c.loop-piece.lead.now c.in-Some.piece.now ≡ some c.in_ok-strip_prefix.field-0.now
+field c =
+    led_by c.loop-piece.lead.now c.in-Some.piece.now c.in_ok-strip_prefix.ensures.cases.0 c.in_ok-strip_prefix.ensures.cases.1
 
-abbrev piece : Joined-at-eq0 → List ℕ
-piece c = let at = c.loop-at.at in take c.first-n.result (take (length (text c) - at) (drop at (text c)))
-
-next : (c : Joined-at-eq0)
-    → NextAtom c.args.tables (text c) c.loop-at.b c.loop-at.at c.first-n.result (piece c) c.if-at-eq0.from
-next c =
-    record {
-      passed = c.loop-at.invariant;
-      here = part_at (omega (arith, c.loop-at-test.true)) c.first-n.ensures;
-      led =
-          elim c.if-at-eq0.branch [ then-at-eq0 w ↦ simp w.from-is (first_led _ _ w.if-at-eq0.true w.behind-from.ensures) | else-at-eq0 w ↦ simp w.from-is (other_led _ _ w.if-at-eq0.false w.behind-from-else-at-eq0.ensures) ];
-    }
-
--- the piece behind its lead, as `read_atom` takes it
-abbrev of-read : After-read_atom-a → Joined-at-eq0
-of-read c = (goal.at.After-read_atom-a c).Joined-at-eq0
-
-read : (c : After-read_atom-a)
-    → c.read_atom-a.result ≡ atom_value (atom_of (drop (of-read c).if-at-eq0.from (piece (of-read c))))
-read c =
-    c.read_atom-a.ensures ∙ ap (λ (f : List ℕ). atom_value (atom_of f)) (to_end (of-read c).if-at-eq0.from (piece (of-read c)))
-
--- ---- the needs of a turn
-
-pub returns-then-from-eq0 : goal.returns-then-from-eq0
-returns-then-from-eq0 c = body_refused _ _ _ (next_unled (next (goal.at.returns-then-from-eq0 c).Joined-at-eq0) c.if-from-eq0.true) c.malformed.ensures
-
-pub slice_bounds-read_atom-count : goal.slice_bounds-read_atom-count
-slice_bounds-read_atom-count c = omega (arith, led_within (next (goal.at.slice_bounds-read_atom-count c).Joined-at-eq0).led)
-
-pub slice_bounds-read_atom-start : goal.slice_bounds-read_atom-start
-slice_bounds-read_atom-start c = omega (arith, led_within (next (goal.at.slice_bounds-read_atom-start c).Joined-at-eq0).led)
-
-pub read_atom-a-requires : goal.read_atom-a-requires
-read_atom-a-requires c =
-    simp (length-take, length-drop) (omega (arith, c.requires))
-
-pub returns-then-not-a : goal.returns-then-not-a
-returns-then-not-a c =
-    body_refused _ _ _ (next_malformed (next (goal.at.returns-then-not-a c).Joined-at-eq0) c.if-from-eq0.false (read (goal.at.returns-then-not-a c).After-read_atom-a) (not-true _ c.if-not-a.true))
-    c.malformed-then-not-a.ensures
+pub returns-in-Err-Malformed : goal.returns-in-Err-Malformed
+returns-in-Err-Malformed c =
+    let e = goal.at.returns-in-Err-Malformed c in
+    next_malformed _ c.loop-piece.invariant (piece e.In-Some) (field e.In_ok-strip_prefix)
+    (sym (ap Err c.in-Err-Malformed.field-0-is) ∙ c.in-Err-Malformed.ensures)
 
 pub with_atom-b-requires : goal.with_atom-b-requires
-with_atom-b-requires c = (
-  next_tabled (next (goal.at.with_atom-b-requires c).Joined-at-eq0) c.if-from-eq0.false (read (goal.at.with_atom-b-requires c).After-read_atom-a) (not-false _ c.if-not-a.false),
-  omega (arith, c.loop-at.invariant.few, c.requires),
-)
+with_atom-b-requires c =
+    let e = goal.at.with_atom-b-requires c in (
+      next_tabled _ c.loop-piece.invariant (piece e.In-Some) (field e.In_ok-strip_prefix) c.in-Ok.ensures,
+      omega (arith, c.loop-piece.invariant.few, (piece e.In-Some).fewer, c.requires),
+    )
 
-pub overflow_add-at : goal.overflow_add-at
-overflow_add-at c = omega (arith, part_room (next (of-read (goal.at.overflow_add-at c).After-read_atom-a)).here)
-
-pub overflow_add-at-in-loop-at : goal.overflow_add-at-in-loop-at
-overflow_add-at-in-loop-at c = omega (arith, part_room (next (of-read (goal.at.overflow_add-at-in-loop-at c).After-read_atom-a)).here)
-
-pub loop-at-smaller : goal.loop-at-smaller
-loop-at-smaller c = omega (arith, (next (of-read (goal.at.loop-at-smaller c).After-read_atom-a)).here.inside)
-
-pub loop-at-preserved : goal.loop-at-preserved
-loop-at-preserved c =
-    next_more (next (goal.at.loop-at-preserved c).Joined-at-eq0) c.if-from-eq0.false (read (goal.at.loop-at-preserved c).After-read_atom-a) (not-false _ c.if-not-a.false) c.with_atom-b.ensures
+pub loop-piece-preserved : goal.loop-piece-preserved
+loop-piece-preserved c =
+    let e = goal.at.loop-piece-preserved c in
+    let inv = c.loop-piece.invariant in
+    elim c.match-read_atom.branch [
+      | in-Err-Outside w ↦ rw w.b-is (next_outside _ inv (piece e.In-Some) (field e.In_ok-strip_prefix) (sym (ap Err w.in-Err-Outside.field-0-is) ∙ w.in-Err-Outside.ensures) w.with_outside-b.ensures)
+      | in-Ok w ↦ rw w.b-is (next_within _ inv (piece e.In-Some) (field e.In_ok-strip_prefix) w.in-Ok.ensures w.with_atom-b.ensures)
+    ]
 
 pub returns : goal.returns
 returns c =
-    body_read c.loop-at.invariant c.loop-at-test.false
-    (elim c.if-b-gt-MOST_LINES.branch [ then-b-gt-MOST_LINES w ↦ inl (w.if-b-gt-MOST_LINES.true, w.fault-is) | else-b-gt-MOST_LINES w ↦ inr (w.if-b-gt-MOST_LINES.false, w.fault-is) ])
+    body_read c.loop-piece.invariant c.in-None.ensures.steps.0
+    (elim c.if-b-gt-MOST_LINES.branch [
+      | then-b-gt-MOST_LINES w ↦ inl (w.if-b-gt-MOST_LINES.true, w.fault-is)
+      | else-b-gt-MOST_LINES w ↦ inr (w.if-b-gt-MOST_LINES.false, w.fault-is)
+    ])

@@ -1,11 +1,6 @@
--- The loop's invariant: the atoms held are those of the pieces before `at`; each turn passes one piece.
-use Prim.Native.Nat.{suc, ◌-◌}
-use lib.ListN.{length}
+-- `read_body`: the atoms held are those of the pieces passed; each other piece stands behind `lead`.
 use Rattle.rule_body.proofs.BodyWalk.{Walked}
 use Rattle.rule_body.proofs.body.read_body.Given as goal
 
-abbrev pub invariant-loop-at : goal.invariant-loop-at
-invariant-loop-at l = Walked l.tables l.s l.b l.at
-
-abbrev pub decreases-loop-at : goal.decreases-loop-at
-decreases-loop-at l = suc (length l.s) - l.at
+abbrev pub invariant-loop-piece : goal.invariant-loop-piece
+invariant-loop-piece l = Walked l.tables l.fn.s l.b l.lead l.piece-iterator

@@ -1,20 +1,21 @@
--- `sooner`: the tests are the definition's.
-use borrow.Author.Tests.{eq-eqb, ne_eqb, lt-ltb, le-ltb}
+-- `sooner`: the cases are the definition's.
+use mathlib.Core.Path.{◌≡◌, refl, ap}
+use Prim.Native.Nat.{min}
+use borrow.Author.Rules.{rules}
+use Rattle.std.specs.Prelude.{Some}
 use Rattle.rule_body.specs.Body.{soonest}
 use Rattle.rule_body.proofs.body.sooner.Goals as goal
 
-pub returns-then-f-eq0 : goal.returns-then-f-eq0
+pub returns-in-Some-Some : goal.returns-in-Some-Some
 unfolding soonest
-returns-then-f-eq0 c = simp (eq-eqb _ _ c.if-f-eq0.true)
+returns-in-Some-Some c =
+    let least : c.min.result ≡ min c.in-Some-Some.m c.in-Some-Some.n = search rules in
+    rw (c.in-Some-Some.is-0, c.in-Some-Some.is-1) (ap Some least)
 
-pub returns-then-g-eq0 : goal.returns-then-g-eq0
+pub returns-in-Some-None : goal.returns-in-Some-None
 unfolding soonest
-returns-then-g-eq0 c = simp (ne_eqb _ _ c.if-f-eq0.false, eq-eqb _ _ c.if-g-eq0.true)
+returns-in-Some-None c = rw (c.in-Some-None.is-1, c.in-Some-None.is-0) refl
 
-pub returns-then-f-g : goal.returns-then-f-g
+pub returns-in-None-default : goal.returns-in-None-default
 unfolding soonest
-returns-then-f-g c = simp (ne_eqb _ _ c.if-f-eq0.false, ne_eqb _ _ c.if-g-eq0.false, lt-ltb _ _ c.if-f-g.true)
-
-pub returns : goal.returns
-unfolding soonest
-returns c = simp (ne_eqb _ _ c.if-f-eq0.false, ne_eqb _ _ c.if-g-eq0.false, le-ltb _ _ c.if-f-g.false)
+returns-in-None-default c = rw c.in-None-default.is-0 refl

@@ -1,11 +1,6 @@
--- `read_names`: the names held are those of the pieces before `at`; each turn passes one piece.
-use Prim.Native.Nat.{suc, ◌-◌}
-use lib.ListN.{length}
+-- `read_names`: the names held are those of the pieces passed; each other piece stands behind `lead`.
 use Rattle.rule_body.proofs.NamesRead.{NamesPassed}
 use Rattle.rule_body.proofs.head.read_names.Given as goal
 
-abbrev pub invariant-loop-at : goal.invariant-loop-at
-invariant-loop-at l = NamesPassed l.s l.keys l.count l.h l.at
-
-abbrev pub decreases-loop-at : goal.decreases-loop-at
-decreases-loop-at l = suc (length l.s) - l.at
+abbrev pub invariant-loop-piece : goal.invariant-loop-piece
+invariant-loop-piece l = NamesPassed l.fn.s l.keys l.h l.lead l.piece-iterator

@@ -1,22 +1,20 @@
 -- `read_atom`: the first bracket parts the table from the terms.
-use mathlib.Core.Path.{◌∙◌}
 use Prim.Native.Nat.{◌≤◌}
 use native.Mathlib.Omega.{arith}
-use borrow.Author.Tests.{not-true, not-false}
 use lib.ListN.{length}
+use Rattle.std.proofs.lemmas.Result.{err_from_is_err_and}
 use Rattle.text.proofs.Lines.{before_le}
 use Rattle.text.proofs.Parts.{first_length}
 use Rattle.rules.specs.Text.{opening}
-use Rattle.rule_text.proofs.AtomRead.{AtomRead, atom_untabled, atom_read, atom_malformed, atom_table_past, atom_args_past, atom_within_lem}
+use Rattle.rule_text.proofs.AtomRead.{atom_untabled, atom_unread, atom_past, atom_within_lem}
 use Rattle.rule_text.proofs.atoms.read_atom.Goals as goal
-use Rattle.rule_text.proofs.atoms.read_atom.Goals.{After-read_args-a, In_default}
+use Rattle.rule_text.proofs.atoms.read_atom.Goals.{In_default}
 
 pub slice_bounds-read_table-end : goal.slice_bounds-read_table-end
 slice_bounds-read_table-end c = first_length opening _ _ c.first-n.ensures
 
 pub returns-in-Malformed : goal.returns-in-Malformed
-returns-in-Malformed c =
-    c.blank.ensures ∙ atom_untabled _ c.first-n.ensures c.read_table-number.ensures c.in-Malformed.is
+returns-in-Malformed c = atom_untabled _ c.first-n.ensures c.read_table-number.ensures c.in-Malformed.is
 
 -- the terms start inside the piece
 inside : (c : In_default) → c.first-n.result ≤ length c.args.piece.now
@@ -28,26 +26,17 @@ slice_bounds-read_args-count c = inside c
 pub slice_bounds-read_args-start : goal.slice_bounds-read_args-start
 slice_bounds-read_args-start c = omega (arith, inside c)
 
-whole : (c : After-read_args-a) →
-    AtomRead c.args.piece.now c.read_table-number.result c.read_args-a.result
-whole c =
-    atom_read _ c.first-n.ensures c.read_table-number.ensures c.read_args-a.ensures
+pub returns-in_err-a : goal.returns-in_err-a
+returns-in_err-a c =
+    let p = err_from_is_err_and c.from_residual.result c.from_residual.ensures.1 in
+    rw (p.1, p.2) (atom_unread _ c.first-n.ensures c.read_table-number.ensures c.in_default.not-Malformed c.read_args.ensures _ c.in_err-a.was)
 
-pub returns-then-not-a : goal.returns-then-not-a
-returns-then-not-a c = atom_malformed (whole (goal.at.returns-then-not-a c).After-read_args-a) (not-true _ c.if-not-a.true)
-
-pub returns-then-table-eq0 : goal.returns-then-table-eq0
-returns-then-table-eq0 c =
-    c.blank-then-table-eq0.ensures
-    ∙ atom_table_past (whole (goal.at.returns-then-table-eq0 c).After-read_args-a) (not-false _ c.if-not-a.false) c.up_to-table.ensures c.in_default.not-Malformed
-    c.if-table-eq0.true
-
-pub returns-then-a : goal.returns-then-a
-returns-then-a c =
-    atom_args_past (whole (goal.at.returns-then-a c).After-read_args-a) (not-false _ c.if-not-a.false) c.up_to-table.ensures c.if-table-eq0.false
-    c.if-a.true
+pub returns-then-a-eq0 : goal.returns-then-a-eq0
+returns-then-a-eq0 c =
+    atom_past _ c.first-n.ensures c.read_table-number.ensures c.in_default.not-Malformed c.read_args.ensures c.in_ok-a.was c.up_to.ensures
+    c.if-a-eq0.true
 
 pub returns : goal.returns
 returns c =
-    atom_within_lem (whole (goal.at.returns c).After-read_args-a) (not-false _ c.if-not-a.false) c.up_to-table.ensures c.if-table-eq0.false
-    c.if-a.false
+    atom_within_lem _ c.first-n.ensures c.read_table-number.ensures c.in_default.not-Malformed c.read_args.ensures c.in_ok-a.was c.up_to.ensures
+    c.if-a-eq0.false

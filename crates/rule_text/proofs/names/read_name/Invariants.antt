@@ -1,9 +1,7 @@
--- The loop's invariant: the bytes from `i` on are digits, and the key is theirs.
+-- `read_name`: the bytes behind those left are digits, and the key is theirs.
+use lib.ListN.{drop}
 use Rattle.rule_text.proofs.NameRead.{NameRead}
 use Rattle.rule_text.proofs.names.read_name.Given as goal
 
-abbrev pub invariant-loop-i : goal.invariant-loop-i
-invariant-loop-i l = NameRead l.field l.key l.i
-
-abbrev pub decreases-loop-i : goal.decreases-loop-i
-decreases-loop-i l = l.i
+abbrev pub invariant-loop-c : goal.invariant-loop-c
+invariant-loop-c l = NameRead (drop 1 l.field) l.c-iterator.iter.rest.now l.key
