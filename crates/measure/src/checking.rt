@@ -4,12 +4,10 @@ use model::Policy;
 
 fn check_again(p: Policy, times: u64) -> u64 {
     let mut sum = 0u64;
-    let mut i = 0;
-    while i < times {
+    for _ in 0..times {
         if validity::valid(p) {
             sum = sum.wrapping_add(1);
         }
-        i += 1;
     }
     sum
 }

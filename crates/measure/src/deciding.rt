@@ -21,12 +21,10 @@ fn decide_again(tables: Tables, ready: &Prepared, text: &[u8], times: u64) -> u6
 {
     let s = desk::open_loaded(ready);
     let mut sum = 0u64;
-    let mut i = 0;
-    while i < times {
+    for _ in 0..times {
         let d = desk::decide_loaded(tables, ready, s, text);
         let reply = d.reply;
         sum = sum.wrapping_add(number_of(reply));
-        i += 1;
     }
     sum
 }

@@ -13,24 +13,16 @@ fn number_of(r: Granting) -> u64 {
 }
 
 fn sum_of(cells: &[u32; MOST_LINES]) -> u32 {
-    let mut sum = 0u32;
-    let mut i = 0;
-    while i < MOST_LINES {
-        sum = sum.wrapping_add(cells[i]);
-        i += 1;
-    }
-    sum
+    cells.iter().fold(0, |sum, n| sum.wrapping_add(*n))
 }
 
 fn grant_again(p: Policy, n: u64, text: &[u8], times: u64) -> u64 {
     let mut sum = 0u64;
-    let mut i = 0;
-    while i < times {
+    for _ in 0..times {
         let mut cells = [0; MOST_LINES];
         let r = grants::smallest_grant(p, n, text, &mut cells);
         sum = sum.wrapping_add(number_of(r));
         sum = sum.wrapping_add(sum_of(&cells) as u64);
-        i += 1;
     }
     sum
 }

@@ -5,28 +5,20 @@ ghost use Rattle.labelling.specs.Text.{SomePolicy};
 
 use covering::Prepared;
 use labelling::Labels;
-use model::{MOST_LINES, Policy, Query};
+use model::{Policy, Query};
 
 fn sum_of(l: Labels) -> u64 {
     let w = l.words;
-    let mut sum = 0u64;
-    let mut i = 0;
-    while i < MOST_LINES {
-        sum = sum.wrapping_add(w.words[i]);
-        i += 1;
-    }
-    sum
+    w.words.iter().fold(0, |sum, word| sum.wrapping_add(*word))
 }
 
 fn label_again(ready: &Prepared, q: Query, times: u64) -> u64
     requires { SomePosed ready.now q }
 {
     let mut sum = 0u64;
-    let mut i = 0;
-    while i < times {
+    for _ in 0..times {
         let l = labelling::label_query(ready, q);
         sum = sum.wrapping_add(sum_of(l));
-        i += 1;
     }
     sum
 }

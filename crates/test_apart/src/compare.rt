@@ -33,7 +33,7 @@ pub fn apart(n: u64, p: Policy, partition: u64, text: &[u8], count: usize) -> u6
     let mut cells = rows::untouched();
     let got = told(apart::tell_apart(p, partition, text, &mut cells));
     let end = count * 9;
-    let right = test_expect::same(got, test_expect::apart(count as u64))
+    let right = got == test_expect::apart(count as u64)
         && rows::stay(&cells, end)
         && rows::are_rows(p, &cells, count)
         && valuations::tells_apart(p, partition, text, &cells[..end]);
@@ -46,7 +46,7 @@ fn nothing_written(n: u64, p: Policy, partition: u64, text: &[u8], room: usize, 
 {
     let mut cells = rows::untouched();
     let got = told(apart::tell_apart(p, partition, text, &mut cells[..room]));
-    let right = test_expect::same(got, said) && rows::stay(&cells, 0);
+    let right = got == said && rows::stay(&cells, 0);
     counted(n, got, right)
 }
 

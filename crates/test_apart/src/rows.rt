@@ -17,43 +17,26 @@ pub fn untouched() -> [u64; 370]
 
 // Whether every cell from a place on is as it was.
 pub fn stay(cells: &[u64; 370], from: usize) -> bool {
-    let mut i = from;
-    while i < CELLS {
-        if cells[i] != BEFORE {
-            return false;
-        }
-        i += 1;
-    }
-    true
+    cells.iter().skip(from).all(|cell| *cell == BEFORE)
 }
 
 // How many cells of a row are used: the table, and its columns. 0 where there is no such table.
-fn used(t: Tables, table: u64) -> u64 {
-    if table < 1 {
+fn used(t: Tables, table: u64) -> usize {
+    if table < 1 || 16 < table {
         return 0;
     }
-    if 16 < table {
-        return 0;
+    match t.columns[(table - 1) as usize] {
+        columns @ 1..=8 => columns as usize + 1,
+        _ => 0,
     }
-    let columns = t.columns[(table - 1) as usize];
-    if columns < 1 {
-        return 0;
-    }
-    if 8 < columns {
-        return 0;
-    }
-    columns + 1
 }
 
-// "Each row is nine 64-bit numbers: the table, then eight values, unused ones 0": whether cell c can stand there.
-fn is_right(t: Tables, cells: &[u64; 370], c: usize) -> bool {
-    if CELLS <= c {
-        return false;
-    }
-    let row = c / 9 * 9;
-    let used = used(t, cells[row]);
-    let column = (c % 9) as u64;
-    used != 0 && (column < used || cells[c] == 0)
+// "Each row is nine 64-bit numbers: the table, then eight values, unused ones 0".
+fn is_row(t: Tables, row: &[u64]) -> bool
+    requires { length row.now ≡ 9 }
+{
+    let used = used(t, row[0]);
+    used != 0 && row.iter().skip(used).all(|cell| *cell == 0)
 }
 
 // Whether the first rows are rows of the policy's tables.
@@ -61,12 +44,10 @@ pub fn are_rows(p: Policy, cells: &[u64; 370], count: usize) -> bool
     requires { count ≤ 40 }
 {
     let t = p.tables;
-    let mut c = 0;
-    while c < count * 9 {
-        if !is_right(t, cells, c) {
+    for row in cells.chunks_exact(9).take(count) {
+        if !is_row(t, row) {
             return false;
         }
-        c += 1;
     }
     true
 }

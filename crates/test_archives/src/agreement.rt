@@ -1,6 +1,6 @@
 // Which archives agree on the views of a partition, and whether two that agree tell a query apart.
 
-ghost use Rattle.std.specs.Prelude.{◌≡◌, ◌<◌, length};
+ghost use Rattle.std.specs.Prelude.{◌<◌};
 
 use crate::answers;
 use crate::family::as_query;
@@ -9,12 +9,10 @@ use crate::family::as_query;
 fn first_alike(v: &[u16; 512], w: &[u16; 512], archive: usize) -> usize
     requires { archive < 512 }
 {
-    let mut k = 0;
-    while k < archive {
+    for k in 0..archive {
         if v[k] == v[archive] && w[k] == w[archive] {
             return k;
         }
-        k += 1;
     }
     archive
 }
@@ -25,25 +23,16 @@ pub fn fill(first: u64, second: u64, alike: &mut [usize; 512]) {
     let mut w = [0; 512];
     answers::fill(as_query(first), &mut v);
     answers::fill(as_query(second), &mut w);
-    let mut archive = 0;
-    while archive < 512 {
-        alike[archive] = first_alike(&v, &w, archive);
-        archive += 1;
+    for (archive, other) in alike.iter_mut().enumerate() {
+        *other = first_alike(&v, &w, archive);
     }
 }
 
 // Whether some archive gives the query another answer than the first that agrees with it. Its number is below 512 as it is;
 // the remainder says so.
-pub fn told_apart(alike: &[usize; 512], answers: &[u16]) -> bool
-    requires { 512 ≡ length answers.now }
-{
-    let mut archive = 0;
-    while archive < 512 {
-        let other = alike[archive] % 512;
-        if answers[archive] != answers[other] {
-            return true;
-        }
-        archive += 1;
-    }
-    false
+pub fn told_apart(alike: &[usize; 512], answers: &[u16; 512]) -> bool {
+    alike
+        .iter()
+        .zip(answers)
+        .any(|(other, answer)| *answer != answers[*other % 512])
 }

@@ -1,9 +1,12 @@
 // Answers by document 01's definition, over every valuation. Values are 0, 1 and 2, so there are nine rows of two columns, and
 // an archive is a word of nine bits, row (x, y) at bit 3 * x + y: there are 512.
 
-ghost use Rattle.std.specs.Prelude.{◌≡◌, ◌<◌, length};
+ghost use Rattle.std.specs.Prelude.{◌<◌};
 
-use crate::family::{NONE, Query};
+use crate::family::{NONE, QUERIES, Query};
+
+// The answers of each query on archives 0 to 511.
+pub type Table = [[u16; 512]; QUERIES];
 
 // The value of a term, given by its number, under a valuation: a number below 81, whose digits to the base 3 are, from the last
 // one on, the values of variables 1, 2, 3 and 4.
@@ -38,11 +41,9 @@ fn row(line: u64, valuation: u64) -> u64 {
 
 // For each valuation the rows that an archive must hold.
 fn rows_of(q: Query, rows: &mut [u64; 81]) {
-    let mut k = 0;
-    while k < 81 {
+    for (k, needed) in rows.iter_mut().enumerate() {
         let valuation = k as u64;
-        rows[k] = row(q.first, valuation) | row(q.second, valuation) | row(q.third, valuation);
-        k += 1;
+        *needed = row(q.first, valuation) | row(q.second, valuation) | row(q.third, valuation);
     }
 }
 
@@ -50,27 +51,19 @@ fn rows_of(q: Query, rows: &mut [u64; 81]) {
 // shown variable that the query lacks takes every value: two answers are the same exactly when their words are.
 fn answer(rows: &[u64; 81], archive: u64) -> u16 {
     let mut set = 0;
-    let mut k = 0;
-    while k < 81 {
-        let r = rows[k];
-        if archive & r == r {
+    for (k, r) in rows.iter().enumerate() {
+        if archive & *r == *r {
             set = set | (1 << (k % 9));
         }
-        k += 1;
     }
     set
 }
 
 // The answers of a query on archives 0 to 511.
-pub fn fill(q: Query, answers: &mut [u16])
-    requires { 512 ≡ length answers.old }
-    ensures { length answers.new ≡ length answers.old }
-{
+pub fn fill(q: Query, answers: &mut [u16; 512]) {
     let mut rows = [0; 81];
     rows_of(q, &mut rows);
-    let mut archive = 0;
-    while archive < 512 {
-        answers[archive] = answer(&rows, archive as u64);
-        archive += 1;
+    for (archive, given) in answers.iter_mut().enumerate() {
+        *given = answer(&rows, archive as u64);
     }
 }

@@ -1,9 +1,9 @@
 // The small queries that are tried. There is one table, of two columns, and six terms stand in its lines.
 
-ghost use Rattle.std.specs.Prelude.{◌≡◌, ◌+◌, ◌≤◌, length};
+ghost use Rattle.std.specs.Prelude.{◌+◌, ◌≤◌};
 
-// The terms, two bytes each. A line's number is 6 times the number of its first term, plus that of its second.
-pub const TERMS: [u8; 12] = *b"#0!1?3?4#1!2";
+// The terms. A line's number is 6 times the number of its first term, plus that of its second.
+pub const TERMS: [[u8; 2]; 6] = [*b"#0", *b"!1", *b"?3", *b"?4", *b"#1", *b"!2"];
 
 // In place of a line's number: no line.
 pub const NONE: u64 = 36;
@@ -56,15 +56,9 @@ fn is_tried(q: Query) -> bool {
     of_few_terms(q.first) && of_few_terms(q.second) && of_few_terms(q.third)
 }
 
-pub fn no_codes() -> [u64; 1518]
-    ensures { 1518 ≡ length result }
-{
-    [0; 1518]
-}
-
 // How many queries there are, this code looked at too; one that is tried goes to the next place. Where no place is left it is
 // still counted, so that the count shows whether every query has one.
-fn list_query(codes: &mut [u64; 1518], n: usize, code: u64) -> usize
+fn list_query(codes: &mut [u64; QUERIES], n: usize, code: u64) -> usize
     requires { n ≤ 50653 }
     ensures { result ≤ n + 1 }
 {
@@ -78,12 +72,10 @@ fn list_query(codes: &mut [u64; 1518], n: usize, code: u64) -> usize
 }
 
 // The codes of the queries, and how many there are.
-pub fn list_queries(codes: &mut [u64; 1518]) -> usize {
+pub fn list_queries(codes: &mut [u64; QUERIES]) -> usize {
     let mut n = 0;
-    let mut code = 0;
-    while code < 37 * 37 * 37 {
+    for code in 0..37 * 37 * 37 {
         n = list_query(codes, n, code);
-        code += 1;
     }
     n
 }

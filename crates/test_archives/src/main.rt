@@ -14,34 +14,18 @@ mod tally;
 mod texts;
 mod two_tables;
 
-ghost use Rattle.std.specs.Prelude.{◌≡◌, length};
-
+use answers::Table;
 use desk::{Reply, Session};
-use family::{QUERIES, Query};
+use family::{NONE, QUERIES, Query};
 use model::Policy;
 use tally::Tally;
 
 // The most cases that are printed.
 const MOST_PRINTED: u64 = 5;
 
-// Room for the answers of every query on every archive.
-fn answers_room() -> [u16; 777216]
-    ensures { 777216 ≡ length result }
-{
-    [0; 777216]
-}
-
-// The answers of each query, those of query k from place 512 * k on.
-fn fill_answers(codes: &[u64; 1518], table: &mut [u16])
-    requires { 777216 ≡ length table.old }
-    ensures { length table.new ≡ length table.old }
-{
-    let mut k = 0;
-    while k < QUERIES {
-        let from = 512 * k;
-        let to = from + 512;
-        answers::fill(family::query_of(codes[k]), &mut table[from..to]);
-        k += 1;
+fn fill_answers(codes: &[u64; QUERIES], table: &mut Table) {
+    for (code, answers) in codes.iter().zip(table.iter_mut()) {
+        answers::fill(family::query_of(*code), answers);
     }
 }
 
@@ -87,45 +71,39 @@ fn try_query(t: Tally, g: Grant, code: u64, apart: bool) -> Tally {
 }
 
 // Every query under one partition.
-fn try_partition(t: Tally, first: u64, second: u64, codes: &[u64; 1518], table: &[u16]) -> Tally
-    requires { 777216 ≡ length table.now }
-{
+fn try_partition(
+    t: Tally,
+    first: u64,
+    second: u64,
+    codes: &[u64; QUERIES],
+    table: &Table,
+) -> Tally {
     let g = granted(first, second);
     let mut alike = [0; 512];
     agreement::fill(first, second, &mut alike);
     let mut next = tally::count_partition(t);
-    let mut k = 0;
-    while k < QUERIES {
-        let from = 512 * k;
-        let to = from + 512;
-        let apart = agreement::told_apart(&alike, &table[from..to]);
-        next = try_query(next, g, codes[k], apart);
-        k += 1;
+    for (code, answers) in codes.iter().zip(table) {
+        let apart = agreement::told_apart(&alike, answers);
+        next = try_query(next, g, *code, apart);
     }
     next
 }
 
 // Every partition: no view, one view or two, which ascend and may be equal.
-fn try_all(codes: &[u64; 1518], table: &[u16]) -> Tally
-    requires { 777216 ≡ length table.now }
-{
-    let mut t = tally::zero();
-    let mut code = 0;
-    while code < 37 * 37 {
-        let first = code / 37;
-        let second = code % 37;
-        if first <= second {
+fn try_all(codes: &[u64; QUERIES], table: &Table) -> Tally {
+    let mut t = Tally::default();
+    for first in 0..=NONE {
+        for second in first..=NONE {
             t = try_partition(t, first, second, codes, table);
         }
-        code += 1;
     }
     t
 }
 
 fn main() {
-    let mut codes = family::no_codes();
+    let mut codes = [0; QUERIES];
     let queries = family::list_queries(&mut codes);
-    let mut table = answers_room();
+    let mut table = [[0; 512]; QUERIES];
     fill_answers(&codes, &mut table);
     let t = try_all(&codes, &table);
     tally::print(queries as u64, t);

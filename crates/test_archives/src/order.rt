@@ -2,7 +2,7 @@
 // other line determines this one. A view determines a line when no two archives that agree on the view tell the line apart: which do is
 // taken from archives alone. Here are the lines of one table.
 
-ghost use Rattle.std.specs.Prelude.{◌<◌};
+ghost use Rattle.std.specs.Prelude.{◌<◌, ◌≤◌, length};
 
 use crate::family::NONE;
 use crate::{agreement, answers, family, tally, texts};
@@ -13,7 +13,7 @@ pub const LINES: usize = 36;
 
 // Of the ordered pairs of lines under one policy those that are at or below by the archives, and of these those whose second line no view
 // of the policy determines. Those that only the desk puts at or below, or only the archives, count against the desk.
-#[derive(Clone, Copy)]
+#[derive(Clone, Copy, Default)]
 pub struct Compared {
     pub pairs: u64,
     pub below: u64,
@@ -22,15 +22,8 @@ pub struct Compared {
     pub archives_alone: u64,
 }
 
-pub fn zero() -> Compared {
-    Compared {
-        pairs: 0,
-        below: 0,
-        no_view: 0,
-        desk_alone: 0,
-        archives_alone: 0,
-    }
-}
+// Whether each view determines each line, the lines of view v at place v.
+pub type Determined = [[bool; LINES]; LINES];
 
 // Whether no two archives that agree tell a line apart.
 fn never_apart(alike: &[usize; 512], line: u64) -> bool {
@@ -40,34 +33,25 @@ fn never_apart(alike: &[usize; 512], line: u64) -> bool {
 }
 
 // Whether a view determines a line, for each line.
-fn fill_view(determined: &mut [bool; 1296], view: usize)
-    requires { view < 36 }
-{
+fn fill_view(lines: &mut [bool; LINES], view: u64) {
     let mut alike = [0; 512];
-    agreement::fill(view as u64, NONE, &mut alike);
-    let mut line = 0;
-    while line < LINES {
-        determined[LINES * view + line] = never_apart(&alike, line as u64);
-        line += 1;
+    agreement::fill(view, NONE, &mut alike);
+    for (line, determined) in lines.iter_mut().enumerate() {
+        *determined = never_apart(&alike, line as u64);
     }
 }
 
-// The same for each view, view v and line a at place 36 * v + a.
-fn fill_determined(determined: &mut [bool; 1296]) {
-    let mut view = 0;
-    while view < LINES {
-        fill_view(determined, view);
-        view += 1;
+fn fill_determined(determined: &mut Determined) {
+    for (view, lines) in determined.iter_mut().enumerate() {
+        fill_view(lines, view as u64);
     }
 }
 
 // The label of each line by the desk.
-fn fill_labels(p: Policy, labels: &mut [u64; 36]) {
-    let mut line = 0;
-    while line < LINES {
+fn fill_labels(p: Policy, labels: &mut [u64; LINES]) {
+    for (line, label) in labels.iter_mut().enumerate() {
         let l = texts::labels(p, family::as_query(line as u64));
-        labels[line] = l.first;
-        line += 1;
+        *label = l.first;
     }
 }
 
@@ -80,13 +64,13 @@ struct Line {
 }
 
 // Line a, whose label is given, under the policy of two views.
-fn line_under(label: u64, determined: &[bool; 1296], first: usize, second: usize, a: usize) -> Line
+fn line_under(label: u64, determined: &Determined, first: usize, second: usize, a: usize) -> Line
     requires { (first < 36) × (second < 36) × (a < 36) }
 {
     Line {
         label,
-        by_first: determined[LINES * first + a],
-        by_second: determined[LINES * second + a],
+        by_first: determined[first][a],
+        by_second: determined[second][a],
     }
 }
 
@@ -111,54 +95,45 @@ fn count(t: Compared, a: Line, b: Line) -> Compared {
     next
 }
 
-// Every pair of the first `lines` lines, which have these labels under the policy of two views.
+// Every pair of the first lines, which have these labels under the policy of two views.
 pub fn compare(
     t: Compared,
-    determined: &[bool; 1296],
-    labels: &[u64; 36],
-    lines: usize,
+    determined: &Determined,
+    labels: &[u64],
     first: usize,
     second: usize,
 ) -> Compared
-    requires { (first < 36) × (second < 36) }
+    requires { (length labels.now ≤ 36) × (first < 36) × (second < 36) }
 {
     let mut next = t;
-    let mut pair = 0;
-    while pair < LINES * LINES {
-        let i = pair / LINES;
-        let j = pair % LINES;
-        if i < lines && j < lines {
-            let a = line_under(labels[i], determined, first, second, i);
-            let b = line_under(labels[j], determined, first, second, j);
+    for (i, x) in labels.iter().enumerate() {
+        let a = line_under(*x, determined, first, second, i);
+        for (j, y) in labels.iter().enumerate() {
+            let b = line_under(*y, determined, first, second, j);
             next = count(next, a, b);
         }
-        pair += 1;
     }
     next
 }
 
 // Every pair of lines under the policy of two views.
-fn try_policy(t: Compared, determined: &[bool; 1296], first: usize, second: usize) -> Compared
+fn try_policy(t: Compared, determined: &Determined, first: usize, second: usize) -> Compared
     requires { (first < 36) × (second < 36) }
 {
-    let mut labels = [0; 36];
+    let mut labels = [0; LINES];
     fill_labels(texts::policy(first as u64, second as u64), &mut labels);
-    compare(t, determined, &labels, LINES, first, second)
+    compare(t, determined, &labels, first, second)
 }
 
 // Every policy of two views, which ascend and may be equal.
 pub fn try_all() -> Compared {
-    let mut determined = [false; 1296];
+    let mut determined = [[false; LINES]; LINES];
     fill_determined(&mut determined);
-    let mut t = zero();
-    let mut code = 0;
-    while code < LINES * LINES {
-        let first = code / LINES;
-        let second = code % LINES;
-        if first <= second {
+    let mut t = Compared::default();
+    for first in 0..LINES {
+        for second in first..LINES {
             t = try_policy(t, &determined, first, second);
         }
-        code += 1;
     }
     t
 }

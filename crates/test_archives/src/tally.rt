@@ -6,7 +6,7 @@ use desk::Reply;
 
 // Of the settled queries those that two archives tell apart, and of the others those that none do or whose rows do not, count against the
 // desk.
-#[derive(Clone, Copy)]
+#[derive(Clone, Copy, Default)]
 pub struct Tally {
     pub partitions: u64,
     pub settled: u64,
@@ -15,18 +15,6 @@ pub struct Tally {
     pub never_apart: u64,
     pub not_by_rows: u64,
     pub refused: u64,
-}
-
-pub fn zero() -> Tally {
-    Tally {
-        partitions: 0,
-        settled: 0,
-        apart: 0,
-        unsettled: 0,
-        never_apart: 0,
-        not_by_rows: 0,
-        refused: 0,
-    }
 }
 
 // One more where a test passes; no count comes near 2^64.

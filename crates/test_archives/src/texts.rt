@@ -11,8 +11,7 @@ fn put_term(text: &mut [u8], at: usize, term: usize)
     requires { (at + 2 ≤ length text.old) × (term < 6) }
     ensures { length text.new ≡ length text.old }
 {
-    text[at] = TERMS[2 * term];
-    text[at + 1] = TERMS[2 * term + 1];
+    text[at..at + 2].copy_from_slice(&TERMS[term]);
 }
 
 // The two terms of a line; the byte between them stays, and all of them where there is no line.
@@ -84,7 +83,7 @@ pub fn decide(p: Policy, s: Session, q: Query) -> Reply {
 }
 
 // How many labels a query has, and the labels, 0 behind the last; none where the desk turns it back.
-#[derive(Clone, Copy)]
+#[derive(Clone, Copy, PartialEq, Eq)]
 pub struct List {
     pub count: u64,
     pub first: u64,

@@ -4,11 +4,11 @@
 ghost use Rattle.std.specs.Prelude.{◌≡◌, ◌+◌, ◌<◌, ◌≤◌, length};
 
 use crate::order;
-use crate::order::Compared;
+use crate::order::{Compared, Determined};
 use model::Policy;
 
-// The terms, two bytes each. A line's number is that of its term, and 4 more for table 2.
-const TERMS: [u8; 8] = *b"#0#1!1?3";
+// The terms. A line's number is that of its term, and 4 more for table 2.
+const TERMS: [[u8; 2]; 4] = [*b"#0", *b"#1", *b"!1", *b"?3"];
 
 // How many lines there are. A view is a line too.
 const LINES: usize = 8;
@@ -45,24 +45,21 @@ fn told_apart(view: usize, line: usize, archive: usize, other: usize) -> bool {
 
 // Whether a view determines a line.
 fn determines(view: usize, line: usize) -> bool {
-    let mut pair = 0;
-    while pair < ARCHIVES * ARCHIVES {
-        if told_apart(view, line, pair / ARCHIVES, pair % ARCHIVES) {
-            return false;
+    for archive in 0..ARCHIVES {
+        for other in 0..ARCHIVES {
+            if told_apart(view, line, archive, other) {
+                return false;
+            }
         }
-        pair += 1;
     }
     true
 }
 
-// Whether each view determines each line, in the places of `order`.
-fn fill_determined(determined: &mut [bool; 1296]) {
-    let mut pair = 0;
-    while pair < LINES * LINES {
-        let view = pair / LINES;
-        let line = pair % LINES;
-        determined[order::LINES * view + line] = determines(view, line);
-        pair += 1;
+fn fill_determined(determined: &mut Determined) {
+    for view in 0..LINES {
+        for line in 0..LINES {
+            determined[view][line] = determines(view, line);
+        }
     }
 }
 
@@ -72,9 +69,7 @@ fn put_line(text: &mut [u8], at: usize, line: usize)
     ensures { length text.new ≡ length text.old }
 {
     text[at] = if line < 4 { b'1' } else { b'2' };
-    let term = line % 4;
-    text[at + 2] = TERMS[2 * term];
-    text[at + 3] = TERMS[2 * term + 1];
+    text[at + 2..at + 4].copy_from_slice(&TERMS[line % 4]);
 }
 
 // The policy of two views.
@@ -100,32 +95,26 @@ fn label(p: Policy, line: usize) -> u64
 }
 
 // Every pair of lines under the policy of two views.
-fn try_policy(t: Compared, determined: &[bool; 1296], first: usize, second: usize) -> Compared
+fn try_policy(t: Compared, determined: &Determined, first: usize, second: usize) -> Compared
     requires { (first < 8) × (second < 8) }
 {
     let p = policy(first, second);
-    let mut labels = [0; 36];
-    let mut line = 0;
-    while line < LINES {
+    let mut labels = [0; LINES];
+    for line in 0..LINES {
         labels[line] = label(p, line);
-        line += 1;
     }
-    order::compare(t, determined, &labels, LINES, first, second)
+    order::compare(t, determined, &labels, first, second)
 }
 
 // Every policy of two views, which ascend and may be equal.
 pub fn try_all() -> Compared {
-    let mut determined = [false; 1296];
+    let mut determined = [[false; order::LINES]; order::LINES];
     fill_determined(&mut determined);
-    let mut t = order::zero();
-    let mut code = 0;
-    while code < LINES * LINES {
-        let first = code / LINES;
-        let second = code % LINES;
-        if first <= second {
+    let mut t = Compared::default();
+    for first in 0..LINES {
+        for second in first..LINES {
             t = try_policy(t, &determined, first, second);
         }
-        code += 1;
     }
     t
 }

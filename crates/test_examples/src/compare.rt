@@ -6,30 +6,12 @@ ghost use Rattle.std.specs.Prelude.{◌≤◌, length};
 fn agreeing(a: &[u8], b: &[u8]) -> usize
     ensures { result ≤ length a.now }
 {
-    let mut i = 0;
-    while i < a.len() {
-        if b.len() <= i {
-            return i;
-        }
-        if a[i] != b[i] {
-            return i;
-        }
-        i += 1;
-    }
-    i
+    a.iter().zip(b).take_while(|(x, y)| x == y).count()
 }
 
 // The number of the line behind these bytes, the first line 1.
 fn next_line(s: &[u8]) -> u64 {
-    let mut line = 1;
-    let mut i = 0;
-    while i < s.len() {
-        if s[i] == b'\n' {
-            line = test_expect::counted(line);
-        }
-        i += 1;
-    }
-    line
+    s.iter().filter(|b| **b == b'\n').count() as u64 + 1
 }
 
 // Says where an output first differs from the one expected, if it does.

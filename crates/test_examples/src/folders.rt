@@ -36,23 +36,14 @@ fn run(rt: &impl Files, folder: &[u8]) {
     compare::compare(folder, &out[..n], &expected[..expected_bytes]);
 }
 
-// How many bytes of a text stand in its first line.
-fn line_length(s: &[u8]) -> usize
-    ensures { IsPrefixLen result s.now }
-{
-    text::first(s, b'\n')
-}
-
 // Runs every folder named, and counts them.
 pub fn run_all(rt: &impl Files, names: &[u8]) -> u64 {
     let mut n = 0;
-    let mut at = 0;
-    while at < names.len() {
-        let rest = &names[at..];
-        let k = line_length(rest);
-        run(rt, &rest[..k]);
-        n = test_expect::counted(n);
-        at = at + k + 1;
+    for name in names.split(|b| *b == b'\n') {
+        if !name.is_empty() {
+            run(rt, name);
+            n = test_expect::counted(n);
+        }
     }
     n
 }

@@ -14,7 +14,7 @@ fn altered(place: usize, bits: u8, expected: &[u8])
     requires { place < 40 }
 {
     let mut queries = *b"table terms\n1 !1 !2\ntable terms\n1 !1 !2\n";
-    queries[place] = queries[place] ^ bits;
+    queries[place] ^= bits;
     let policy = limits::policy();
     let mut out = run::output_room();
     let n = run::run(&policy, &queries, &mut out);
@@ -26,12 +26,10 @@ fn names_line(start: u64, at: usize, expected: &[u8]) -> u64
     requires { at + 11 ≤ 40 }
 {
     let mut n = start;
-    let mut k = 0;
-    while k < NAMES {
-        altered(at + k, 1, expected);
-        altered(at + k, 128, expected);
+    for place in at..at + NAMES {
+        altered(place, 1, expected);
+        altered(place, 128, expected);
         n = counted(counted(n));
-        k += 1;
     }
     n
 }

@@ -1,7 +1,7 @@
 // Files of cases: one a line, between lines that are empty or start with `#`. A case is a row of fields, numbers and texts, each
 // ended by `|`. In a text `\n` is a line end and `\x` with two digits the byte that these are in hexadecimal.
 
-ghost use Rattle.std.specs.Prelude.{◌≡◌, ◌+◌, ◌<◌, ◌≤◌, length};
+ghost use Rattle.std.specs.Prelude.{◌≡◌, ◌<◌, ◌≤◌, MatchOption, length};
 ghost use Rattle.io.specs.Counts.{IsPrefixLen};
 
 use text::Numeral;
@@ -21,7 +21,7 @@ pub struct Text {
     pub behind: usize,
 }
 
-// A byte of a text, and how many bytes spell it: 0 where they spell none.
+// A byte of a text, and how many bytes spell it.
 #[derive(Clone, Copy)]
 struct Letter {
     byte: u8,
@@ -40,11 +40,20 @@ pub fn print_malformed(line: &[u8]) {
     io::write_all(1, b"\n");
 }
 
-// How many bytes stand before the first like this, all of them where there is none.
-fn before(s: &[u8], b: u8) -> usize
-    ensures { result ≤ length s.now }
+// The cases of a file behind `start` cases, each line that is one in turn; how many there are then.
+pub fn run_all<F: Fn(u64, &[u8]) -> u64>(start: u64, file: &[u8], run_case: F) -> u64
+    requires { F.IsAlwaysCallable run_case }
 {
-    text::first(s, b)
+    let mut n = start;
+    for line in file.split(|b| *b == b'\n') {
+        if is_case(line) {
+            n = run_case(n, line);
+        }
+    }
+    if !file.is_empty() && !file.ends_with(b"\n") {
+        io::write_all(1, b"the last line lacks its end\n");
+    }
+    n
 }
 
 // The place of the first byte like this from a place on, or the end where there is none.
@@ -52,8 +61,10 @@ pub fn place_of(s: &[u8], at: usize, b: u8) -> usize
     requires { at ≤ length s.now }
     ensures { (at ≤ result) × (result ≤ length s.now) }
 {
-    let rest = &s[at..];
-    at + before(rest, b)
+    match s[at..].iter().position(|x| *x == b) {
+        Some(k) => at + k,
+        None => s.len(),
+    }
 }
 
 // The number whose field starts here.
@@ -79,53 +90,37 @@ pub fn number_at(line: &[u8], at: usize) -> Number
     }
 }
 
-// The value of a hexadecimal digit, 16 where it is none.
-fn hex_digit(b: u8) -> u8 {
+// The value of a hexadecimal digit.
+fn hex_digit(b: u8) -> Option<u8>
+    ensures { MatchOption result (Unit {0}) (λ d. d < 16) }
+{
     match b {
-        b'0'..=b'9' => b - b'0',
-        b'a'..=b'f' => b - b'a' + 10,
-        _ => 16,
+        b'0'..=b'9' => Some(b - b'0'),
+        b'a'..=b'f' => Some(b - b'a' + 10),
+        _ => None,
     }
 }
 
-// The byte of two hexadecimal digits, with the `\x` before them.
-fn hex_letter(a: u8, b: u8) -> Letter
-    ensures { result.length ≤ 4 }
+// The first byte that is spelt.
+fn first_letter(s: &[u8]) -> Option<Letter>
+    ensures { MatchOption result (Unit {0}) (λ l. (0 < l.length) × (l.length ≤ length s.now)) }
 {
-    let high = hex_digit(a);
-    let low = hex_digit(b);
-    if 15 < high {
-        return Letter { byte: 0, length: 0 };
-    }
-    if 15 < low {
-        return Letter { byte: 0, length: 0 };
-    }
-    Letter {
-        byte: high * 16 + low,
-        length: 4,
-    }
-}
-
-// The byte that is spelt here.
-fn letter_at(s: &[u8], at: usize) -> Letter
-    requires { at < length s.now }
-    ensures { at + result.length ≤ length s.now }
-{
-    let left = s.len() - at;
-    let b = s[at];
-    if b != b'\\' {
-        return Letter { byte: b, length: 1 };
-    }
-    if 2 <= left && s[at + 1] == b'n' {
-        return Letter {
+    match s {
+        [b'\\', b'n', ..] => Some(Letter {
             byte: b'\n',
             length: 2,
-        };
+        }),
+        [b'\\', b'x', high, low, ..] => Some(Letter {
+            byte: hex_digit(*high)? * 16 + hex_digit(*low)?,
+            length: 4,
+        }),
+        [b'\\', ..] => None,
+        [b, ..] => Some(Letter {
+            byte: *b,
+            length: 1,
+        }),
+        [] => None,
     }
-    if 4 <= left && s[at + 1] == b'x' {
-        return hex_letter(s[at + 2], s[at + 3]);
-    }
-    Letter { byte: 0, length: 0 }
 }
 
 // No text: nothing of it counts but the place behind.
@@ -146,16 +141,15 @@ fn spelt(field: &[u8], behind: usize, out: &mut [u8]) -> Text
     let mut n = 0;
     let mut at = 0;
     while at < field.len() {
-        let b = letter_at(field, at);
-        if b.length == 0 {
+        let Some(letter) = first_letter(&field[at..]) else {
             return no_text(behind);
-        }
+        };
         if n == out.len() {
             return no_text(behind);
         }
-        out[n] = b.byte;
+        out[n] = letter.byte;
         n += 1;
-        at = at + b.length;
+        at += letter.length;
     }
     Text {
         right: true,

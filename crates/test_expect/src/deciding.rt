@@ -2,7 +2,7 @@
 
 ghost use Rattle.sessions.specs.Deciding.{Decided};
 
-use crate::said::{Said, counted, no, print_case, refused, same, yes};
+use crate::said::{Said, counted, no, print_case, refused, yes};
 use desk::{Decision, Reply, Session};
 use model::Policy;
 
@@ -35,7 +35,7 @@ pub fn decided(n: u64, p: Policy, mask: u64, text: &[u8], expected: Said, left: 
     let reply = d.reply;
     let got = told(reply);
     let after = d.session;
-    if !same(got, expected) || after.mask != left {
+    if got != expected || after.mask != left {
         print_case(at, got);
         io::write_all(1, b", open ");
         io::print_decimal(1, after.mask);

@@ -1,35 +1,30 @@
 // What a reply of the desk says.
 
-// The words of a reply.
-const YES: u64 = 1;
-
-const NO: u64 = 2;
-
-const REFUSED: u64 = 3;
-
-const GIVEN: u64 = 4;
-
-const SETTLED: u64 = 5;
-
-const UNSETTLED: u64 = 6;
-
-const APART: u64 = 7;
-
-const WRITTEN: u64 = 8;
-
-const NOTHING: u64 = 9;
+// The word of a reply.
+#[derive(Clone, Copy, PartialEq, Eq)]
+enum Word {
+    Yes,
+    No,
+    Refused,
+    Given,
+    Settled,
+    Unsettled,
+    Apart,
+    Written,
+    Nothing,
+}
 
 // The word, count, number and line of a reply.
-#[derive(Clone, Copy)]
+#[derive(Clone, Copy, PartialEq, Eq)]
 pub struct Said {
-    pub word: u64,
+    word: Word,
     pub count: u64,
     pub number: u64,
     pub line: u64,
 }
 
 // A reply that turns nothing back.
-fn answered(word: u64, count: u64) -> Said {
+fn answered(word: Word, count: u64) -> Said {
     Said {
         word,
         count,
@@ -40,92 +35,79 @@ fn answered(word: u64, count: u64) -> Said {
 
 // Deciding: the count of partitions still open.
 pub fn yes(count: u64) -> Said {
-    answered(YES, count)
+    answered(Word::Yes, count)
 }
 
 pub fn no(count: u64) -> Said {
-    answered(NO, count)
+    answered(Word::No, count)
 }
 
 // Giving labels: the length of the list.
 pub fn given(count: u64) -> Said {
-    answered(GIVEN, count)
+    answered(Word::Given, count)
 }
 
 // Explaining: the length of the list.
 pub fn settled(count: u64) -> Said {
-    answered(SETTLED, count)
+    answered(Word::Settled, count)
 }
 
 pub fn unsettled(count: u64) -> Said {
-    answered(UNSETTLED, count)
+    answered(Word::Unsettled, count)
 }
 
 // Telling a query apart: the number of rows.
 pub fn apart(count: u64) -> Said {
-    answered(APART, count)
+    answered(Word::Apart, count)
 }
 
 // Importing a rule: the number of bytes.
 pub fn written(count: u64) -> Said {
-    answered(WRITTEN, count)
+    answered(Word::Written, count)
 }
 
 // The smallest extra grant: no views will do.
 pub fn nothing() -> Said {
-    answered(NOTHING, 0)
+    answered(Word::Nothing, 0)
 }
 
 // Any operation: "a count in the reply is 0".
 pub fn refused(number: u64, line: u64) -> Said {
     Said {
-        word: REFUSED,
+        word: Word::Refused,
         count: 0,
         number,
         line,
     }
 }
 
-pub fn same(a: Said, b: Said) -> bool {
-    if a.word != b.word {
-        return false;
-    }
-    if a.count != b.count {
-        return false;
-    }
-    if a.number != b.number {
-        return false;
-    }
-    a.line == b.line
-}
-
-fn print_word(word: u64) {
+fn print_word(word: Word) {
     match word {
-        1 => {
+        Word::Yes => {
             io::write_all(1, b"yes");
         }
-        2 => {
+        Word::No => {
             io::write_all(1, b"no");
         }
-        3 => {
+        Word::Refused => {
             io::write_all(1, b"refused");
         }
-        4 => {
+        Word::Given => {
             io::write_all(1, b"given");
         }
-        5 => {
+        Word::Settled => {
             io::write_all(1, b"settled");
         }
-        6 => {
+        Word::Unsettled => {
             io::write_all(1, b"not settled");
         }
-        7 => {
+        Word::Apart => {
             io::write_all(1, b"apart");
         }
-        8 => {
+        Word::Written => {
             io::write_all(1, b"written");
         }
-        _ => {
+        Word::Nothing => {
             io::write_all(1, b"none");
         }
     }

@@ -1,11 +1,12 @@
 // The cases of the file.
 
-use crate::{cells, compare, policies};
+use crate::{compare, policies};
 use model::Policy;
+use test_expect::cells;
 
 // The views are those to be added, or the word `none`.
 fn answered(n: u64, p: Policy, partition: u64, views: &[u8], query: &[u8]) -> u64 {
-    if text::same(views, b"none") {
+    if matches!(views, b"none") {
         return compare::unwritten(n, p, partition, query, test_expect::nothing());
     }
     let l = cells::headed(views);
@@ -43,24 +44,7 @@ fn run_case(n: u64, case: &[u8]) -> u64 {
     )
 }
 
-fn run_line(n: u64, line: &[u8]) -> u64 {
-    if test_expect::is_case(line) {
-        return run_case(n, line);
-    }
-    n
-}
-
 // How many cases there are.
 pub fn run_all(file: &[u8]) -> u64 {
-    let mut n = 0;
-    let mut at = 0;
-    while at < file.len() {
-        let end = test_expect::place_of(file, at, b'\n');
-        n = run_line(n, &file[at..end]);
-        at = end + 1;
-    }
-    if at != file.len() {
-        io::write_all(1, b"the last line lacks its end\n");
-    }
-    n
+    test_expect::run_all(0, file, run_case)
 }

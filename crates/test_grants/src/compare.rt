@@ -3,10 +3,9 @@
 
 ghost use Rattle.std.specs.Prelude.{◌≤◌};
 
-use crate::cells;
 use grants::Granting;
 use model::Policy;
-use test_expect::Said;
+use test_expect::{Said, cells};
 
 fn told(r: Granting) -> Said {
     match r {
@@ -14,20 +13,6 @@ fn told(r: Granting) -> Said {
         Granting::Nothing => test_expect::nothing(),
         Granting::Refused { number, line } => test_expect::refused(number, line),
     }
-}
-
-// One case more, and its number; it is printed where it is not as it should be.
-fn compared(n: u64, text: &[u8], got: Said, after: [u32; 10], said: Said, cells: [u32; 10]) -> u64 {
-    let at = test_expect::counted(n);
-    if !test_expect::same(got, said) || !cells::same(after, cells) {
-        test_expect::print_case(at, got);
-        io::write_all(1, b", cells");
-        cells::print(after);
-        io::write_all(1, b" of ");
-        io::write_all(1, text);
-        io::write_all(1, b"\n");
-    }
-    at
 }
 
 // The reply, and every cell of the buffer after the call, `room` of which are lent.
@@ -38,18 +23,18 @@ pub fn replied(
     text: &[u8],
     room: usize,
     said: Said,
-    cells: [u32; 10],
+    cells: [u64; 10],
 ) -> u64
     requires { room ≤ 10 }
 {
-    let mut buffer = cells::untouched();
+    let mut buffer = cells::untouched_32();
     let r = grants::smallest_grant(p, partition, text, &mut buffer[..room]);
-    compared(n, text, told(r), buffer, said, cells)
+    cells::compared(n, text, told(r), cells::widened(buffer), said, cells)
 }
 
 // The partition wants these views to settle the query. They are written to a buffer with cells to spare and, asked once more, to one of
 // their number; with one cell less the call meets 10. The empty list needs no cell.
-pub fn given(n: u64, p: Policy, partition: u64, text: &[u8], count: usize, cells: [u32; 10]) -> u64
+pub fn given(n: u64, p: Policy, partition: u64, text: &[u8], count: usize, cells: [u64; 10]) -> u64
     requires { count ≤ 10 }
 {
     let said = test_expect::given(count as u64);

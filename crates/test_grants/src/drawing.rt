@@ -47,11 +47,9 @@ pub fn draw(from: u64, density: u64) -> Drawn
     let first = next(from);
     let mut state = first;
     let mut labels = 0;
-    let mut j: u64 = 0;
-    while j < 8 {
+    for j in 0..8u64 {
         state = next(state);
-        labels = labels | (label(state, density) << (8 * j));
-        j += 1;
+        labels |= label(state, density) << (8 * j);
     }
     Drawn {
         labels,

@@ -8,14 +8,7 @@ use crate::drawing::{ALL, Drawn};
 fn settles(views: u64, labels: u64, lines: usize) -> bool
     requires { lines ≤ 8 }
 {
-    let mut j = 0;
-    while j < lines {
-        if labels >> (8 * j) & views == 0 {
-            return false;
-        }
-        j += 1;
-    }
-    true
+    (0..lines).all(|j| labels >> (8 * j) & views != 0)
 }
 
 // Whether some label holds no view.
@@ -42,12 +35,10 @@ pub fn best(d: Drawn) -> u64
     requires { d.lines ≤ 8 }
 {
     let mut best = ALL;
-    let mut added = 0;
-    while added < ALL {
+    for added in 0..ALL {
         if settles(d.granted | added, d.labels, d.lines) && is_better(added, best) {
             best = added;
         }
-        added += 1;
     }
     best
 }

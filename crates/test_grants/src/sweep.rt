@@ -94,10 +94,8 @@ fn print(counts: [u64; 9]) {
     print_count(b", empty list ", counts[0]);
     print_count(b", none ", counts[NOTHING]);
     io::write_all(1, b"\nlists of 1 to 7 views");
-    let mut kind = 1;
-    while kind < NOTHING {
-        print_count(b" ", counts[kind]);
-        kind += 1;
+    for count in &counts[1..NOTHING] {
+        print_count(b" ", *count);
     }
     io::write_all(1, b"\n");
 }
@@ -105,15 +103,13 @@ fn print(counts: [u64; 9]) {
 pub fn run() {
     let mut counts = [0; 9];
     let mut state = START;
-    let mut n = 0;
-    while n < QUERIES {
+    for n in 0..QUERIES {
         let d = drawing::draw(state, n % 4);
         let due = due_of(d);
         try_query(n, d, due);
         let kind = due.kind;
         counts[kind] = test_expect::counted(counts[kind]);
         state = d.state;
-        n += 1;
     }
     print(counts);
 }

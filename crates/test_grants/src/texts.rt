@@ -36,10 +36,8 @@ pub fn query(labels: u64) -> [u8; 266]
 1 !0 !1 !2 !3 !4 !5 !6 #1\n1 !7 !8 !9 !10 !11 !12 !13 #2\n1 !14 !15 !16 !17 !18 !19 !20 #3\n1 !21 !22 !23 !24 !25 !26 !27 #4
 1 !28 !29 !30 !31 !32 !33 !34 #5\n1 !35 !36 !37 !38 !39 !40 !41 #6\n1 !42 !43 !44 !45 !46 !47 !48 #7\n1 !49 !50 !51 !52 !53 !54 !55 #8
 ";
-    let mut k = 0;
-    while k < 56 {
+    for k in 0..56 {
         text[mark_place(k)] = mark(labels, k);
-        k += 1;
     }
     text
 }
@@ -73,11 +71,9 @@ pub fn policy(granted: u64) -> Policy {
 1 1 ?0 !1 !2 !3 !4 !5 !6 !7\n2 1 !0 ?1 !2 !3 !4 !5 !6 !7\n3 1 !0 !1 ?2 !3 !4 !5 !6 !7\n4 1 !0 !1 !2 ?3 !4 !5 !6 !7
 5 1 !0 !1 !2 !3 ?4 !5 !6 !7\n6 1 !0 !1 !2 !3 !4 ?5 !6 !7\n7 1 !0 !1 !2 !3 !4 !5 ?6 !7\npartition views\n1 1 2 3 4 5 6 7\n";
     let mut end = 248;
-    let mut i = 0;
-    while i < 7 {
+    for i in 0..7 {
         text[end + 1] = DIGITS[i];
         end += bytes_of(granted, i);
-        i += 1;
     }
     text[end] = b'\n';
     load::load(&text[..end + 1]).unwrap_or(load::empty_policy())

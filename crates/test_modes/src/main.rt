@@ -50,31 +50,9 @@ fn run_case(n: u64, line: &[u8]) -> u64 {
     )
 }
 
-fn run_line(n: u64, line: &[u8]) -> u64 {
-    if test_expect::is_case(line) {
-        return run_case(n, line);
-    }
-    n
-}
-
-// The cases of a file, and how many there are.
-fn run_all(file: &[u8]) -> u64 {
-    let mut n = 0;
-    let mut at = 0;
-    while at < file.len() {
-        let end = test_expect::place_of(file, at, b'\n');
-        n = run_line(n, &file[at..end]);
-        at = end + 1;
-    }
-    if at != file.len() {
-        io::write_all(1, b"the last line lacks its end\n");
-    }
-    n
-}
-
 fn main(rt: HostRuntime) {
     let mut file = io::large_buffer();
     let bytes = files::read_file(&rt, b"cases.txt", &mut file);
-    io::print_decimal(1, run_all(&file[..bytes]));
+    io::print_decimal(1, test_expect::run_all(0, &file[..bytes], run_case));
     io::write_all(1, b" cases\n");
 }

@@ -26,25 +26,15 @@ fn page_of(
     requires { most_page ≤ length out.old }
     ensures { result ≤ length out.new }
 {
-    if text::same(mode, b"check") {
-        return mode_check::check_page(policy, out);
+    match mode {
+        b"check" => mode_check::check_page(policy, out),
+        b"labels" => mode_labels::labels_page(policy, query, out),
+        b"compare" => mode_compare::compare_page(first, second, out),
+        b"explain" => mode_explain::explain_page(policy, number(first), query, out),
+        b"grant" => mode_grant::grant_page(policy, number(first), query, out),
+        b"apart" => mode_apart::apart_page(policy, number(first), query, out),
+        _ => 0,
     }
-    if text::same(mode, b"labels") {
-        return mode_labels::labels_page(policy, query, out);
-    }
-    if text::same(mode, b"compare") {
-        return mode_compare::compare_page(first, second, out);
-    }
-    if text::same(mode, b"explain") {
-        return mode_explain::explain_page(policy, number(first), query, out);
-    }
-    if text::same(mode, b"grant") {
-        return mode_grant::grant_page(policy, number(first), query, out);
-    }
-    if text::same(mode, b"apart") {
-        return mode_apart::apart_page(policy, number(first), query, out);
-    }
-    0
 }
 
 // Whether the page of a file of rules has these bytes; it has a room of its own.
@@ -53,7 +43,7 @@ fn is_rules_page(policy: &[u8], rules: &[u8], expected: &[u8]) -> bool
 {
     let mut out = mode_rules::rules_room();
     let n = mode_rules::rules_page(policy, rules, &mut out);
-    text::same(&out[..n], expected)
+    &out[..n] == expected
 }
 
 // Whether the page has these bytes.
@@ -67,10 +57,10 @@ pub fn is_page(
 ) -> bool
     requires { length query.now ≤ most_input }
 {
-    if text::same(mode, b"rules") {
+    if matches!(mode, b"rules") {
         return is_rules_page(policy, query, expected);
     }
     let mut out = page::page_room();
     let n = page_of(mode, first, second, policy, query, &mut out);
-    text::same(&out[..n], expected)
+    &out[..n] == expected
 }

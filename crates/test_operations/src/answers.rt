@@ -23,19 +23,13 @@ pub struct Answer {
 }
 
 fn spelt(bytes: &[u8]) -> Word {
-    if text::same(bytes, b"yes") {
-        return Word::Yes;
+    match bytes {
+        b"yes" => Word::Yes,
+        b"no" => Word::No,
+        b"refused" => Word::Refused,
+        [] => Word::Empty,
+        _ => Word::Unknown,
     }
-    if text::same(bytes, b"no") {
-        return Word::No;
-    }
-    if text::same(bytes, b"refused") {
-        return Word::Refused;
-    }
-    if bytes.len() == 0 {
-        return Word::Empty;
-    }
-    Word::Unknown
 }
 
 // The word whose field starts here.
@@ -63,10 +57,9 @@ pub fn answer_at(line: &[u8], at: usize) -> Answer
 
 // A reply with the numbers of its case, so that a case with a number that its reply cannot have is found.
 pub fn numbered(reply: Said, count: u64, number: u64, line: u64) -> Said {
-    Said {
-        word: reply.word,
-        count,
-        number,
-        line,
-    }
+    let mut said = reply;
+    said.count = count;
+    said.number = number;
+    said.line = line;
+    said
 }

@@ -3,24 +3,9 @@
 
 ghost use Rattle.std.specs.Prelude.{◌≤◌};
 
-use crate::cells;
 use desk::{Explaining, Listing};
 use model::Policy;
-use test_expect::Said;
-
-// One case more, and its number; it is printed where it is not as it should be.
-fn compared(n: u64, text: &[u8], got: Said, after: [u64; 10], said: Said, cells: [u64; 10]) -> u64 {
-    let at = test_expect::counted(n);
-    if !test_expect::same(got, said) || !cells::same(after, cells) {
-        test_expect::print_case(at, got);
-        io::write_all(1, b", cells");
-        cells::print(after);
-        io::write_all(1, b" of ");
-        io::write_all(1, text);
-        io::write_all(1, b"\n");
-    }
-    at
-}
+use test_expect::{Said, cells};
 
 // ---- labels
 
@@ -37,7 +22,7 @@ pub fn labels(n: u64, p: Policy, text: &[u8], room: usize, said: Said, cells: [u
 {
     let mut buffer = cells::untouched();
     let r = desk::labels(p, text, &mut buffer[..room]);
-    compared(n, text, told_labels(r), buffer, said, cells)
+    cells::compared(n, text, told_labels(r), buffer, said, cells)
 }
 
 // ---- explanations
@@ -64,5 +49,5 @@ pub fn words(
 {
     let mut buffer = cells::untouched_32();
     let r = desk::explain(p, partition, text, &mut buffer[..room]);
-    compared(n, text, told_words(r), cells::widened(buffer), said, cells)
+    cells::compared(n, text, told_words(r), cells::widened(buffer), said, cells)
 }

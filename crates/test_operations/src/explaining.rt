@@ -3,9 +3,9 @@
 ghost use Rattle.std.specs.Prelude.{◌≤◌};
 
 use crate::answers::Word;
-use crate::{answers, cells, compare, policies};
+use crate::{answers, compare, policies};
 use model::Policy;
-use test_expect::Said;
+use test_expect::{Said, cells};
 
 // What the call says, but for the count of words. A word that is no answer of this operation stands for a reply that is none of its own.
 fn reply(settled: Word, number: u64, line: u64) -> Said {

@@ -2,9 +2,9 @@
 
 ghost use Rattle.std.specs.Prelude.{◌≤◌};
 
-use crate::{answers, cells, compare, policies};
+use crate::{answers, compare, policies};
 use model::Policy;
-use test_expect::Said;
+use test_expect::{Said, cells};
 
 // What the call says, but for the count of labels.
 fn reply(number: u64, line: u64) -> Said {

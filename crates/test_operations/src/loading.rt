@@ -42,7 +42,7 @@ fn case(n: u64, text: &[u8], said: Said, policy: Policy) -> u64 {
     let r = load::load(text);
     let got = told(r);
     let loaded = r.unwrap_or(load::empty_policy());
-    if !test_expect::same(got, said) || !values::same(loaded, policy) {
+    if got != said || !values::same(loaded, policy) {
         test_expect::print_case(at, got);
         io::write_all(1, b", or loaded another policy\n");
     }

@@ -2,9 +2,9 @@
 
 ghost use Rattle.std.specs.Prelude.{◌≤◌};
 
-use crate::{cells, compare};
+use crate::compare;
 use model::Policy;
-use test_expect::{Said, decided, refused};
+use test_expect::{Said, cells, decided, refused};
 
 fn no_labels(n: u64, p: Policy, text: &[u8], room: usize, said: Said) -> u64
     requires { room ≤ 10 }

@@ -6,7 +6,6 @@
 
 mod answers;
 mod cases;
-mod cells;
 mod compare;
 mod comparing;
 mod deciding;

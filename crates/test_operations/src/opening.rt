@@ -21,7 +21,7 @@ fn case(n: u64, p: Policy, expected: Said, mask: u64) -> u64 {
     let o = desk::open_session(p);
     let got = told(o);
     let session = o.unwrap_or(Session { mask: 0 });
-    if !test_expect::same(got, expected) || session.mask != mask {
+    if got != expected || session.mask != mask {
         test_expect::print_case(at, got);
         io::write_all(1, b", open ");
         io::print_decimal(1, session.mask);

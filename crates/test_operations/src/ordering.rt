@@ -1,8 +1,9 @@
 // The order of labels: each row of a file compared with each.
 
-use crate::cells::List;
-use crate::{cells, policies};
+use crate::policies;
 use desk::Listing;
+use test_expect::cells;
+use test_expect::cells::List;
 
 // The labels of a query, none where the call is turned back.
 fn labels(policy: u64, query: &[u8]) -> List {
@@ -25,34 +26,26 @@ fn row_labels(row: &[u8]) -> List {
 }
 
 // Whether a label is at or below each of a list, where the answer is yes, or at or below none of it, where it is no.
-fn compares(x: u64, ys: List, answer: bool) -> bool {
-    let mut i = 0;
-    while i < 10 && i < ys.count {
-        if desk::compare_labels(x, ys.cells[i]) != answer {
-            return false;
-        }
-        i += 1;
-    }
-    true
+fn compares(x: u64, ys: &List, answer: bool) -> bool {
+    ys.cells
+        .iter()
+        .take(ys.count)
+        .all(|y| desk::compare_labels(x, *y) == answer)
 }
 
 // The same of each label of a list.
-fn all_compare(xs: List, ys: List, answer: bool) -> bool {
-    let mut i = 0;
-    while i < 10 && i < xs.count {
-        if !compares(xs.cells[i], ys, answer) {
-            return false;
-        }
-        i += 1;
-    }
-    true
+fn all_compare(xs: &List, ys: &List, answer: bool) -> bool {
+    xs.cells
+        .iter()
+        .take(xs.count)
+        .all(|x| compares(*x, ys, answer))
 }
 
 // One case more: a row's labels compared with another's. Both have some.
-fn compared(n: u64, row: &[u8], xs: List, other: &[u8], answer: bool) -> u64 {
+fn compared(n: u64, row: &[u8], xs: &List, other: &[u8], answer: bool) -> u64 {
     let at = test_expect::counted(n);
     let ys = row_labels(other);
-    if xs.count == 0 || ys.count == 0 || !all_compare(xs, ys, answer) {
+    if xs.count == 0 || ys.count == 0 || !all_compare(xs, &ys, answer) {
         io::write_all(1, b"case ");
         io::print_decimal(1, at);
         io::write_all(1, b" compared ");
@@ -64,12 +57,9 @@ fn compared(n: u64, row: &[u8], xs: List, other: &[u8], answer: bool) -> u64 {
     at
 }
 
-// The row's answer for the row in place j; where there is none, the row is too short.
-fn run_answer(n: u64, row: &[u8], xs: List, answers: &[u8], j: usize, other: &[u8]) -> u64 {
-    if answers.len() <= j {
-        return n;
-    }
-    match answers[j] {
+// The row's answer for another row.
+fn run_answer(n: u64, row: &[u8], xs: &List, answer: u8, other: &[u8]) -> u64 {
+    match answer {
         b'y' => compared(n, row, xs, other, true),
         b'n' => compared(n, row, xs, other, false),
         _ => {
@@ -80,19 +70,19 @@ fn run_answer(n: u64, row: &[u8], xs: List, answers: &[u8], j: usize, other: &[u
 }
 
 // The row's answers, one for each row of the file.
-fn run_answers(start: u64, file: &[u8], row: &[u8], xs: List, answers: &[u8]) -> u64 {
+fn run_answers(start: u64, file: &[u8], row: &[u8], xs: &List, answers: &[u8]) -> u64 {
     let mut n = start;
-    let mut j = 0;
-    let mut at = 0;
-    while at < file.len() {
-        let end = test_expect::place_of(file, at, b'\n');
-        if test_expect::is_case(&file[at..end]) {
-            n = run_answer(n, row, xs, answers, j, &file[at..end]);
-            j += 1;
+    let mut left = answers.iter();
+    let mut too_few = false;
+    for other in file.split(|b| *b == b'\n') {
+        if test_expect::is_case(other) {
+            match left.next() {
+                Some(answer) => n = run_answer(n, row, xs, *answer, other),
+                None => too_few = true,
+            }
         }
-        at = end + 1;
     }
-    if j != answers.len() {
+    if too_few || left.next().is_some() {
         test_expect::print_malformed(row);
     }
     n
@@ -111,5 +101,5 @@ pub fn run_row(n: u64, file: &[u8], row: &[u8]) -> u64 {
     }
     let answers_end = answers.length;
     let xs = row_labels(row);
-    run_answers(n, file, row, xs, &answers_bytes[..answers_end])
+    run_answers(n, file, row, &xs, &answers_bytes[..answers_end])
 }

@@ -25,24 +25,7 @@ fn run_case(n: u64, p: Policy, case: &[u8]) -> u64 {
     )
 }
 
-fn run_line(n: u64, p: Policy, line: &[u8]) -> u64 {
-    if test_expect::is_case(line) {
-        return run_case(n, p, line);
-    }
-    n
-}
-
 // The cases behind n cases, and how many there are then.
-pub fn run_all(start: u64, p: Policy, file: &[u8]) -> u64 {
-    let mut n = start;
-    let mut at = 0;
-    while at < file.len() {
-        let end = test_expect::place_of(file, at, b'\n');
-        n = run_line(n, p, &file[at..end]);
-        at = end + 1;
-    }
-    if at != file.len() {
-        io::write_all(1, b"the last line lacks its end\n");
-    }
-    n
+pub fn run_all(n: u64, p: Policy, file: &[u8]) -> u64 {
+    test_expect::run_all(n, file, |n, case| run_case(n, p, case))
 }

@@ -19,10 +19,8 @@ fn untouched() -> [u8; ROOM]
     ensures { 2000 ≡ length result }
 {
     let mut out = [0; ROOM];
-    let mut i = 0;
-    while i < ROOM {
-        out[i] = untouched_at(i);
-        i += 1;
+    for (i, byte) in out.iter_mut().enumerate() {
+        *byte = untouched_at(i);
     }
     out
 }
@@ -36,17 +34,15 @@ fn told(r: Imported) -> Said {
 
 // Whether the text stands at its place, and the other bytes are as they were.
 fn stands(out: &[u8; ROOM], place: usize, text: &[u8]) -> bool {
-    let mut i = 0;
-    while i < ROOM {
+    for (i, byte) in out.iter().enumerate() {
         let expected = if place <= i && i - place < text.len() {
             text[i - place]
         } else {
             untouched_at(i)
         };
-        if out[i] != expected {
+        if *byte != expected {
             return false;
         }
-        i += 1;
     }
     true
 }
@@ -77,7 +73,7 @@ fn case_at(
 {
     let mut out = untouched();
     let got = told(import::import_rule(p, rule, &mut out[..room], place));
-    let right = test_expect::same(got, said) && stands(&out, place, text);
+    let right = got == said && stands(&out, place, text);
     counted(n, rule, got, right)
 }
 

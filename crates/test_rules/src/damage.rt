@@ -27,16 +27,14 @@ const CONSTANT: usize = 31;
 fn deleted(p: Policy, i: usize, n: u64) -> u64
     requires { i < 34 }
 {
-    let mut bytes = rule();
-    let mut k = i;
-    while k + 1 < LONG {
-        bytes[k] = bytes[k + 1];
-        k += 1;
-    }
+    let whole = rule();
+    let mut bytes = [0; LONG - 1];
+    bytes[..i].copy_from_slice(&whole[..i]);
+    bytes[i..].copy_from_slice(&whole[i + 1..]);
     if i == NAME_DIGIT {
-        return written(n, p, &bytes[..33], b"table terms\n1 !0 !1 ?2\n2 !0 #7\n");
+        return written(n, p, &bytes, b"table terms\n1 !0 !1 ?2\n2 !0 #7\n");
     }
-    refused(n, p, &bytes[..33], 1)
+    refused(n, p, &bytes, 1)
 }
 
 // A byte twice: the digits of `Q11`, `T11`, `T22` and `77`.
@@ -44,12 +42,9 @@ fn doubled(p: Policy, i: usize, n: u64) -> u64
     requires { i < 34 }
 {
     let whole = rule();
-    let mut bytes = [0; 35];
-    let mut k = 0;
-    while k < 35 {
-        bytes[k] = if k <= i { whole[k] } else { whole[k - 1] };
-        k += 1;
-    }
+    let mut bytes = [0; LONG + 1];
+    bytes[..i + 1].copy_from_slice(&whole[..i + 1]);
+    bytes[i + 1..].copy_from_slice(&whole[i..]);
     if i == NAME_DIGIT {
         return written(n, p, &bytes, b"table terms\n1 !0 !1 ?2\n2 !0 #7\n");
     }
@@ -80,14 +75,12 @@ fn replaced(p: Policy, i: usize, by: u8, n: u64) -> u64
 
 pub fn of_example(p: Policy, start: u64) -> u64 {
     let mut n = start;
-    let mut i = 0;
-    while i < LONG {
+    for i in 0..LONG {
         n = deleted(p, i, n);
         n = doubled(p, i, n);
         n = replaced(p, i, b' ', n);
         n = replaced(p, i, 0, n);
         n = replaced(p, i, 128, n);
-        i += 1;
     }
     n
 }

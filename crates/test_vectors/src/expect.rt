@@ -25,11 +25,8 @@ fn told<T: Drop>(reply: Result<T, Refusal>) -> Said {
 
 // Tables of 3, 2, 8 and 1 columns.
 fn tables() -> Tables {
-    let mut columns = [0u64; 16];
-    columns[0] = 3;
-    columns[1] = 2;
-    columns[2] = 8;
-    columns[3] = 1;
+    let mut columns = [0; 16];
+    columns[..4].copy_from_slice(&[3, 2, 8, 1]);
     Tables { count: 4, columns }
 }
 

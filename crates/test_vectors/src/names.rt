@@ -48,10 +48,8 @@ fn exchanged_with(start: u64, kind: Kind, text: &[u8], i: usize, end: usize, lin
     requires text_len_bound { length text.now ≤ 64 }
 {
     let mut n = start;
-    let mut j = i + 1;
-    while j < end {
+    for j in i + 1..end {
         n = exchanged(n, kind, text, i, j, line);
-        j += 1;
     }
     n
 }
@@ -62,12 +60,10 @@ fn names_line(start: u64, kind: Kind, text: &[u8], at: usize, end: usize, line: 
     requires text_len_bound { length text.now ≤ 64 }
 {
     let mut n = start;
-    let mut i = at;
-    while i < end {
+    for i in at..end {
         n = altered(n, kind, text, i, 1, line);
         n = altered(n, kind, text, i, 128, line);
         n = exchanged_with(n, kind, text, i, end, line);
-        i += 1;
     }
     n
 }

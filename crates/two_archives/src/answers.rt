@@ -9,13 +9,11 @@ use valuations::{MOST_ANSWERS, ROW, VARIABLES};
 
 // The shown variables that answers give values to.
 fn print_variables(word: u64) {
-    let mut x = 0;
-    while x < VARIABLES {
-        if words::has_bit(word, x as u64) {
+    for x in 0..VARIABLES as u64 {
+        if words::has_bit(word, x) {
             io::write_all(1, b" !");
-            io::print_decimal(1, x as u64);
+            io::print_decimal(1, x);
         }
-        x += 1;
     }
     io::write_all(1, b"\n");
 }
@@ -28,13 +26,11 @@ fn print_answer(answer: &[u64], word: u64, known: &List, names: &mut List)
     if word == 0 {
         io::write_all(1, b" yes");
     }
-    let mut x = 0;
-    while x < VARIABLES {
+    for (x, value) in answer.iter().enumerate() {
         if words::has_bit(word, x as u64) {
             io::write_all(1, b" ");
-            values::print(answer[x], known, names);
+            values::print(*value, known, names);
         }
-        x += 1;
     }
     io::write_all(1, b"\n");
 }
@@ -50,12 +46,8 @@ fn print_answers(lines: &[u64], archive: &[u64], rows: &[u64], known: &List, nam
     if count == 0 {
         io::write_all(1, b"      none\n");
     }
-    let mut i = 0;
-    while i < count {
-        let from = i * VARIABLES;
-        let to = from + VARIABLES;
-        print_answer(&answers[from..to], word, known, names);
-        i += 1;
+    for answer in answers.chunks_exact(VARIABLES).take(count) {
+        print_answer(answer, word, known, names);
     }
     if count == MOST_ANSWERS {
         io::write_all(1, b"      no more than 64 are printed\n");
@@ -81,12 +73,10 @@ fn of_view(p: Policy, k: usize, rows: &[u64], known: &List, names: &mut List)
 pub fn of_views(p: Policy, n: u64, rows: &[u64], known: &List, names: &mut List)
     requires { 9 ≤ length rows.now }
 {
-    let mut k = 0;
-    while k < MOST_VIEWS {
+    for k in 0..MOST_VIEWS {
         if valuations::grants(p, n, k) {
             of_view(p, k, rows, known, names);
         }
-        k += 1;
     }
 }
 

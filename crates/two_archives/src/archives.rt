@@ -1,22 +1,20 @@
 // Both archives, table by table.
 
-ghost use Rattle.std.specs.Prelude.{◌+◌, ◌*◌, ◌≤◌, length};
+ghost use Rattle.std.specs.Prelude.{◌≡◌, ◌≤◌, length};
 
 use crate::values;
 use crate::values::List;
 use model::{MOST_TABLES, Policy};
 use valuations::ROW;
 
-// The first values of the row at a place.
-fn print_row(archive: &[u64], j: usize, width: usize, known: &List, names: &mut List)
-    requires { (j * 9 + 9 ≤ length archive.now) × (width ≤ 8) }
+// The first values of a row.
+fn print_row(row: &[u64], width: usize, known: &List, names: &mut List)
+    requires { (length row.now ≡ 9) × (width ≤ 8) }
 {
     io::write_all(1, b"     ");
-    let mut p = 0;
-    while p < width {
+    for value in &row[1..1 + width] {
         io::write_all(1, b" ");
-        values::print(archive[j * ROW + 1 + p], known, names);
-        p += 1;
+        values::print(*value, known, names);
     }
     io::write_all(1, b"\n");
 }
@@ -26,18 +24,16 @@ fn print_rows(archive: &[u64], table: u64, width: usize, known: &List, names: &m
     requires { width ≤ 8 }
 {
     let mut found = false;
-    let mut j = 0;
-    while j < archive.len() / ROW {
-        if archive[j * ROW] == table {
+    for row in archive.chunks_exact(ROW) {
+        if row[0] == table {
             if !found {
                 io::write_all(1, b"    table ");
                 io::print_decimal(1, table);
                 io::write_all(1, b"\n");
             }
-            print_row(archive, j, width, known, names);
+            print_row(row, width, known, names);
             found = true;
         }
-        j += 1;
     }
 }
 
@@ -48,21 +44,16 @@ fn width_at(p: Policy, t: usize) -> usize
 {
     let tables = p.tables;
     let columns = tables.columns[t];
-    if 8 < columns {
-        return 8;
-    }
-    columns as usize
+    std::cmp::min(columns, 8) as usize
 }
 
 fn print(p: Policy, archive: &[u64], known: &List, names: &mut List) {
     if archive.len() < ROW {
         io::write_all(1, b"    no row\n");
     }
-    let mut t = 0;
-    while t < MOST_TABLES {
+    for t in 0..MOST_TABLES {
         let width = width_at(p, t);
         print_rows(archive, t as u64 + 1, width, known, names);
-        t += 1;
     }
 }
 

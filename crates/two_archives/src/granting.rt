@@ -5,13 +5,9 @@ use model::{MOST_LINES, Policy};
 
 // The first numbers, each behind a space.
 fn print_numbers(numbers: [u32; MOST_LINES], count: u64) {
-    let mut i = 0;
-    while i < MOST_LINES {
-        if (i as u64) < count {
-            io::write_all(1, b" ");
-            io::print_decimal(1, numbers[i] as u64);
-        }
-        i += 1;
+    for number in numbers.iter().take(count as usize) {
+        io::write_all(1, b" ");
+        io::print_decimal(1, *number as u64);
     }
 }
 

@@ -19,43 +19,33 @@ fn add(list: &mut List, v: u64) {
 
 // The place of a number in a list, counted from 0, or as many as there are.
 fn place_in(list: &List, v: u64) -> u64 {
-    let mut i = 0;
-    while i < 320 {
-        if list[0] <= i as u64 {
-            return list[0];
-        }
-        if list[1 + i] == v {
+    for (i, number) in list[1..].iter().take(list[0] as usize).enumerate() {
+        if *number == v {
             return i as u64;
         }
-        i += 1;
     }
     list[0]
 }
 
-// The constants of the first rows, behind those of a list.
-fn add_constants(rows: &[u64], count: usize, list: &mut List)
-    requires { (count ≤ 32) × (count * 17 ≤ length rows.now) }
-{
-    let mut c = 0;
-    while c < count * MOST_COLUMNS {
-        let t = model::term_at(rows, c / MOST_COLUMNS, c % MOST_COLUMNS);
-        if t.mark == CONSTANT {
-            add(list, t.number);
+// The constants of rows, behind those of a list.
+fn add_constants(rows: &[u64], list: &mut List) {
+    for k in 0..rows.len() / model::ROW {
+        for p in 0..MOST_COLUMNS {
+            let t = model::term_at(rows, k, p);
+            if t.mark == CONSTANT {
+                add(list, t.number);
+            }
         }
-        c += 1;
     }
 }
 
 // The constants of the policy and of a query's lines.
 pub fn constants_of(p: Policy, lines: QueryRows) -> List {
     let mut list = no_names();
-    let mut k = 0;
-    while k < MOST_VIEWS {
-        let line = valuations::view_rows(p, k);
-        add_constants(&line, 1, &mut list);
-        k += 1;
+    for k in 0..MOST_VIEWS {
+        add_constants(&valuations::view_rows(p, k), &mut list);
     }
-    add_constants(&lines, MOST_LINES, &mut list);
+    add_constants(&lines, &mut list);
     list
 }
 

@@ -1,6 +1,6 @@
 // Whether values are an answer of a query on an archive, and all of its answers.
 
-ghost use Rattle.std.specs.Prelude.{◌≡◌, ◌≤◌, ◌<◌, length};
+ghost use Rattle.std.specs.Prelude.{◌≡◌, ◌≤◌, length};
 
 use crate::valuation::{ROW, VARIABLES, Values, line_becomes, take_back};
 use model::SHOWN;
@@ -23,15 +23,13 @@ fn completes(
     if lines.len() / model::ROW <= k {
         return true;
     }
-    let mut j = 0;
-    while j < archive.len() / ROW {
-        if line_becomes(lines, k, archive, j, given, values) {
-            if completes(lines, k + 1, archive, given, values) {
-                return true;
-            }
+    for row in archive.chunks_exact(ROW) {
+        if line_becomes(lines, k, row, given, values)
+            && completes(lines, k + 1, archive, given, values)
+        {
+            return true;
         }
         take_back(k, given);
-        j += 1;
     }
     false
 }
@@ -42,12 +40,10 @@ pub fn is_answer(lines: &[u64], archive: &[u64], word: u64, shown: &[u64]) -> bo
 {
     let mut given = [0; VARIABLES * 2];
     let mut values = [0; VARIABLES * 2];
-    let mut i = 0;
-    while i < VARIABLES {
-        given[i] = words::value_if(ANSWER, words::has_bit(word, i as u64));
-        values[i] = shown[i];
-        i += 1;
+    for x in 0..VARIABLES {
+        given[x] = words::value_if(ANSWER, words::has_bit(word, x as u64));
     }
+    values[..VARIABLES].copy_from_slice(shown);
     completes(lines, 0, archive, &mut given, &mut values)
 }
 
@@ -69,11 +65,11 @@ pub fn shown_word(lines: &[u64]) -> u64
     requires { length lines.now ≤ 136 }
 {
     let mut word = 0;
-    let mut c = 0;
-    while c < lines.len() / model::ROW * 8 {
-        let t = model::term_at(lines, c / 8, c % 8);
-        word = words::set_bit_if(word, t.number % 64, t.mark == SHOWN);
-        c += 1;
+    for k in 0..lines.len() / model::ROW {
+        for p in 0..8 {
+            let t = model::term_at(lines, k, p);
+            word = words::set_bit_if(word, t.number % 64, t.mark == SHOWN);
+        }
     }
     word
 }
@@ -87,26 +83,9 @@ fn keep(answers: &mut Answers, count: usize, shown: &[u64]) -> usize
     if MOST_ANSWERS <= count {
         return MOST_ANSWERS;
     }
-    let mut i = 0;
-    while i < VARIABLES {
-        answers[count * VARIABLES + i] = shown[i];
-        i += 1;
-    }
+    let from = count * VARIABLES;
+    answers[from..from + VARIABLES].copy_from_slice(shown);
     count + 1
-}
-
-// Whether the number at a place of a list stands at an earlier one.
-fn stands_before(list: &[u64], at: usize) -> bool
-    requires { at < length list.now }
-{
-    let mut i = 0;
-    while i < at {
-        if list[i] == list[at] {
-            return true;
-        }
-        i += 1;
-    }
-    false
 }
 
 // The answers that have the values so far for the shown variables of `known`, behind `count` answers; each number of
@@ -136,13 +115,14 @@ fn collect(
     let left = words::drop_least(rest);
     let next = words::set_bit(known, x);
     let mut found = count;
-    let mut at = 0;
-    while at < domain.len() && found < MOST_ANSWERS {
-        if !stands_before(domain, at) {
-            shown[x as usize] = domain[at];
+    for (at, value) in domain.iter().enumerate() {
+        if found == MOST_ANSWERS {
+            break;
+        }
+        if !domain[..at].contains(value) {
+            shown[x as usize] = *value;
             found = collect(lines, archive, domain, left, next, shown, answers, found);
         }
-        at += 1;
     }
     found
 }

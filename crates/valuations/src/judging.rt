@@ -7,41 +7,11 @@ use crate::answers::{answers_of, is_answer, no_answers, shown_word};
 use crate::valuation::{ROW, VARIABLES};
 use model::{MOST_LINES, MOST_VIEWS, Policy, QueryRows};
 
-// Whether the rows at two places are the same.
-fn same_rows(rows: &[u64], i: usize, j: usize) -> bool
-    requires { (i * 9 + 9 ≤ length rows.now) × (j * 9 + 9 ≤ length rows.now) }
-{
-    let mut c = 0;
-    while c < ROW {
-        if rows[i * ROW + c] != rows[j * ROW + c] {
-            return false;
-        }
-        c += 1;
-    }
-    true
-}
-
-// Whether the row at a place stands at an earlier one.
-fn stands_earlier(rows: &[u64], j: usize) -> bool
-    requires { j * 9 + 9 ≤ length rows.now }
-{
-    let mut i = 0;
-    while i < j {
-        if same_rows(rows, i, j) {
-            return true;
-        }
-        i += 1;
-    }
-    false
-}
-
 fn some_row_twice(rows: &[u64]) -> bool {
-    let mut j = 0;
-    while j < rows.len() / ROW {
-        if stands_earlier(rows, j) {
+    for (j, row) in rows.chunks_exact(ROW).enumerate() {
+        if rows.chunks_exact(ROW).take(j).any(|earlier| earlier == row) {
             return true;
         }
-        j += 1;
     }
     false
 }
@@ -54,14 +24,10 @@ fn loses_answer(lines: &[u64], rows: &[u64]) -> bool
     let mut answers = no_answers();
     let count = answers_of(lines, rows, rows, &mut answers);
     let others = &rows[ROW..];
-    let mut i = 0;
-    while i < count {
-        let from = i * VARIABLES;
-        let to = from + VARIABLES;
-        if !is_answer(lines, others, word, &answers[from..to]) {
+    for answer in answers.chunks_exact(VARIABLES).take(count) {
+        if !is_answer(lines, others, word, answer) {
             return true;
         }
-        i += 1;
     }
     false
 }
@@ -109,15 +75,10 @@ pub fn view_rows(p: Policy, k: usize) -> [u64; model::ROW]
 fn some_view_loses(p: Policy, n: u64, rows: &[u64]) -> bool
     requires { 9 ≤ length rows.now }
 {
-    let mut k = 0;
-    while k < MOST_VIEWS {
-        if grants(p, n, k) {
-            let line = view_rows(p, k);
-            if loses_answer(&line, rows) {
-                return true;
-            }
+    for k in 0..MOST_VIEWS {
+        if grants(p, n, k) && loses_answer(&view_rows(p, k), rows) {
+            return true;
         }
-        k += 1;
     }
     false
 }

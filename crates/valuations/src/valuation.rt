@@ -1,7 +1,7 @@
 // A valuation as it is found, line by line. For each variable the number of the line that gave it its value, counted from 1, or 0; and the
 // value. Shown variables come first.
 
-ghost use Rattle.std.specs.Prelude.{◌+◌, ◌*◌, ◌≤◌, ◌<◌, length};
+ghost use Rattle.std.specs.Prelude.{◌≡◌, ◌<◌, length};
 ghost use Rattle.model.specs.Rows.{HasRow};
 
 use model::{CONSTANT, SHOWN, Term, UNUSED};
@@ -42,27 +42,24 @@ fn term_becomes(t: Term, value: u64, line: u64, given: &mut Values, values: &mut
     true
 }
 
-// Whether line k becomes the row at place j.
+// Whether line k becomes the row.
 pub fn line_becomes(
     lines: &[u64],
     k: usize,
-    archive: &[u64],
-    j: usize,
+    row: &[u64],
     given: &mut Values,
     values: &mut Values,
 ) -> bool
-    requires { HasRow lines.now k × (k < 8) × (j * 9 + 9 ≤ length archive.now) }
+    requires { HasRow lines.now k × (k < 8) × (length row.now ≡ 9) }
 {
-    if model::table_at(lines, k) != archive[j * ROW] {
+    if model::table_at(lines, k) != row[0] {
         return false;
     }
-    let mut p = 0;
-    while p < 8 {
+    for p in 0..8 {
         let t = model::term_at(lines, k, p);
-        if !term_becomes(t, archive[j * ROW + 1 + p], k as u64 + 1, given, values) {
+        if !term_becomes(t, row[1 + p], k as u64 + 1, given, values) {
             return false;
         }
-        p += 1;
     }
     true
 }
@@ -72,11 +69,9 @@ pub fn take_back(k: usize, given: &mut Values)
     requires { k < 8 }
 {
     let line = k as u64 + 1;
-    let mut i = 0;
-    while i < 128 {
-        if given[i] == line {
-            given[i] = 0;
+    for by in given.iter_mut() {
+        if *by == line {
+            *by = 0;
         }
-        i += 1;
     }
 }

@@ -1,4 +1,4 @@
--- `queries_at`: 65,536 bytes are handed over, and the output stands within its room.
+-- `queries_at`: 65,536 bytes are handed over.
 use native.Mathlib.Omega.{arith}
 use lib.ListN.{length-take}
 use borrow.Author.Rules.{rules}
@@ -9,6 +9,3 @@ slice_bounds-run-end-2 c = simp length-take (omega arith)
 
 pub run-n-requires : goal.run-n-requires
 run-n-requires c = (simp length-take (omega arith), search rules)
-
-pub slice_bounds-compare-end : goal.slice_bounds-compare-end
-slice_bounds-compare-end c = simp length-take (omega arith)

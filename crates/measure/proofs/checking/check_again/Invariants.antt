@@ -1,9 +1,0 @@
--- `check_again` ends: `i` comes nearer to `times`.
-use Rattle.std.proofs.Common.{◌-◌, ◌≤◌}
-use Rattle.measure.proofs.checking.check_again.Given as goal
-
-abbrev pub invariant-loop-i : goal.invariant-loop-i
-invariant-loop-i l = l.i ≤ l.times
-
-abbrev pub decreases-loop-i : goal.decreases-loop-i
-decreases-loop-i l = l.times - l.i

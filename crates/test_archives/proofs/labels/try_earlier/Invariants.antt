@@ -1,9 +1,0 @@
--- `try_earlier` ends: `k` comes nearer to `i`.
-use Rattle.std.proofs.Common.{◌-◌, ◌≤◌}
-use Rattle.test_archives.proofs.labels.try_earlier.Given as goal
-
-abbrev pub invariant-loop-k : goal.invariant-loop-k
-invariant-loop-k l = l.k ≤ l.i
-
-abbrev pub decreases-loop-k : goal.decreases-loop-k
-decreases-loop-k l = l.i - l.k

@@ -1,9 +1,0 @@
--- `print` reads the ten cells.
-use Prim.Native.Nat.{◌-◌, ◌≤◌}
-use Rattle.test_operations.proofs.cells.print.Given as goal
-
-abbrev pub invariant-loop-i : goal.invariant-loop-i
-invariant-loop-i l = l.i ≤ 10
-
-abbrev pub decreases-loop-i : goal.decreases-loop-i
-decreases-loop-i l = 10 - l.i

@@ -1,9 +1,0 @@
--- `is_answer` ends: `i` comes nearer to 64.
-use Prim.Native.Nat.{◌-◌, ◌≤◌}
-use Rattle.valuations.proofs.answers.is_answer.Given as goal
-
-abbrev pub invariant-loop-i : goal.invariant-loop-i
-invariant-loop-i l = l.i ≤ 64
-
-abbrev pub decreases-loop-i : goal.decreases-loop-i
-decreases-loop-i l = 64 - l.i
