@@ -11,6 +11,7 @@ use native.Mathlib.Decide.{ℕ_discrete}
 use native.Mathlib.Omega.{arith}
 use lib.ListN.{length, get_elem?, get_or, drop, get_or-append}
 use lib.Pow.{shr-shr}
+use Rattle.std.specs.Prelude.{Result}
 use Rattle.words.specs.Bits.{bit, half_bits}
 use Rattle.words.proofs.Bits.{bit_zero, below_power}
 use Rattle.words.proofs.Lowest.{trailing_least}
@@ -24,6 +25,7 @@ use Rattle.theory.proofs.Tuples.{get_d_mem}
 use Rattle.theory.proofs.Reduce.{reduced_fits}
 use Rattle.theory.proofs.Determine.{view_determines_line, covers_iff_rewrites}
 use Rattle.theory.proofs.Executable.Show.{shown_fits}
+use Rattle.model.specs.declared.Refusal.{Refusal}
 use Rattle.query_text.specs.Text.{Reading, refused, accepted, read}
 use Rattle.query_text.proofs.Accepted.{accepted_well_read}
 use Rattle.policy_text.specs.Declared.{Declared}
@@ -32,7 +34,6 @@ use Rattle.label_order.specs.Order.{at_or_below}
 use Rattle.label_order.proofs.Halves.{Includes, below_iff}
 use Rattle.labelling.proofs.Loaded.{loaded_to}
 use Rattle.label_lists.specs.Buffer.{too_short}
-use Rattle.label_lists.specs.declared.Listing.{Listing}
 use Rattle.label_lists.specs.Listing.{SaidListing, not_listed, given, listed, list_reading, Lists}
 use Rattle.desk.specs.Rewriting.{LabelOf}
 use Rattle.desk.specs.Comparing.{Gave, DeterminedWith, LabelledLine, OverArchives}
@@ -98,7 +99,7 @@ module _ (d : Declared) (good : WellFormed d) (A B : Line) (A_fits : Fits d.widt
 -- ---- words that calls gave
 
 -- a word that was given is one of the list
-gave_listed : (short : Bool) (before ws : List ℕ) {r : Listing} {after : List ℕ} {x : ℕ}
+gave_listed : (short : Bool) (before ws : List ℕ) {r : Result ℕ Refusal} {after : List ℕ} {x : ℕ}
     → Lists r after (cond short (not_listed before 10 0) (given ws before)) → Gave r after x → x ∈ ws
 unfolding not_listed given
 gave_listed true before ws o (k, below, is) = absurd (omega (arith, below, ap (λ (s : SaidListing). s.count) o.reply))
@@ -115,7 +116,7 @@ line_fits d text {A} l =
 
 module _ (d : Declared) (good : WellFormed d) (text : List ℕ) where
   -- a word that was given is the label of a line of the text's query
-  gave_label : (v : Reading) → read d.widths text ≡ v → (before : List ℕ) {r : Listing} {after : List ℕ} {x : ℕ}
+  gave_label : (v : Reading) → read d.widths text ≡ v → (before : List ℕ) {r : Result ℕ Refusal} {after : List ℕ} {x : ℕ}
       → Lists r after (list_reading d before v) → Gave r after x → (A : Line) × LabelledLine d text A x
   unfolding list_reading not_listed listed
   gave_label (refused n k) e before o (_, below, _) = absurd (omega (arith, below, ap (λ (s : SaidListing). s.count) o.reply))

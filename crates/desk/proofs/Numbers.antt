@@ -1,6 +1,6 @@
 -- Each operation turns back by one of its listed numbers.
 use mathlib.Core.Path.{◌≡◌, refl, sym, ap, subst, ◌∙◌}
-use mathlib.Core.Bool.{true, false, false≢true}
+use mathlib.Core.Bool.{false, false≢true}
 use mathlib.Core.List.Memᴰ
 use mathlib.Core.List.{List, [], ◌∷◌}
 use Prim.Native.Nat.{ℕ, ◌-◌}
@@ -16,7 +16,7 @@ use Rattle.theory.proofs.Pigeonhole.{member}
 use Rattle.words.proofs.Answers.{either}
 use Rattle.model.specs.Limits.{up_to}
 use Rattle.model.specs.declared.Policy.{Policy}
-use Rattle.std.specs.Prelude.{Ok, Err}
+use Rattle.std.specs.Prelude.{Result, Ok, Err}
 use Rattle.model.specs.declared.Refusal.{Refusal}
 use Rattle.model.proofs.FirstFault.{found_in}
 use Rattle.query_text.specs.Text.{Reading, refused, accepted, read}
@@ -35,7 +35,6 @@ use Rattle.sessions.specs.Reply.{Said, said}
 use Rattle.sessions.specs.Reply.{refused as turned}
 use Rattle.sessions.specs.Opening.{Opened}
 use Rattle.sessions.specs.Deciding.{unfit, still_open, Verdict, turned_back, answered, decide_query, decide_under, Decided}
-use Rattle.label_lists.specs.declared.Listing.{Listing}
 use Rattle.label_lists.specs.Buffer.{too_short}
 use Rattle.label_lists.specs.Listing.{SaidListing, said_listing, Listed, not_listed, given, listed, list_reading, LabelsGiven}
 use Rattle.explanations.specs.declared.Explaining.{Explaining}
@@ -98,7 +97,7 @@ reading_labels d text before (accepted Q) q =
     either (λ (o : Listed). LabelsNumber o.says) (too_short before (ascending (labels d.views Q))) (λ e. found_in labels_numbers 10 tt)
     (λ e. absurd (false≢true (sym e)))
 
-pub labels_numbers_lem : (p : Policy) (text before : List ℕ) (r : Listing) (after : List ℕ) → LabelsGiven p text before r after
+pub labels_numbers_lem : (p : Policy) (text before : List ℕ) (r : Result ℕ Refusal) (after : List ℕ) → LabelsGiven p text before r after
     → (said_listing r).given ≡ false → (said_listing r).number ∈ labels_numbers
 unfolding not_listed
 labels_numbers_lem p text before r after g e =
@@ -125,7 +124,7 @@ under_explaining d n text before =
         either (λ (o : Explained). ExplainingNumber o.says) (too_short before (explained granted (labels d.views Q)))
         (λ e. found_in explaining_numbers 10 tt) (λ e. absurd (false≢true (sym e)))
 
-pub explaining_numbers_lem : (p : Policy) (n : ℕ) (text before : List ℕ) (r : Explaining) (after : List ℕ)
+pub explaining_numbers_lem : (p : Policy) (n : ℕ) (text before : List ℕ) (r : Result Explaining Refusal) (after : List ℕ)
     → ExplanationGiven p n text before r after → (said_explaining r).given ≡ false → (said_explaining r).number ∈ explaining_numbers
 unfolding not_explained
 explaining_numbers_lem p n text before r after g e =

@@ -1,18 +1,20 @@
 -- Refusals leave the session and every lent buffer as they were; a fit session and a well-formed query get a yes or a no.
 use mathlib.Core.Path.{◌≡◌, refl, sym, ap, subst, ◌∙◌}
 use mathlib.Core.Logic.{◌⊎◌, inl, inr}
-use mathlib.Core.Bool.{true, false, false≢true}
+use mathlib.Core.Bool.{false, false≢true}
 use mathlib.Core.List.{List, [], List-discrete}
 use Prim.Native.Nat.{ℕ, ◌-◌}
 use native.Mathlib.Decide.{ℕ_discrete}
 use lib.Dec.{eqb}
 use lib.ListN.{length, get_or}
+use Rattle.std.specs.Prelude.{Result}
 use Rattle.theory.specs.Query.{Query}
 use Rattle.theory.specs.Executable.Label.{labels}
 use Rattle.word_list.specs.Order.{ascending}
 use Rattle.words.proofs.Answers.{either}
 use Rattle.model.specs.Limits.{up_to}
 use Rattle.model.specs.declared.Policy.{Policy}
+use Rattle.model.specs.declared.Refusal.{Refusal}
 use Rattle.query_text.specs.Text.{Reading, refused, accepted, read}
 use Rattle.policy_text.specs.Declared.{Declared}
 use Rattle.policy_text.specs.Policy.{views_word}
@@ -23,7 +25,6 @@ use Rattle.sessions.specs.declared.replies.Decision.{Decision}
 use Rattle.sessions.specs.Reply.{Said, said}
 use Rattle.sessions.specs.Reply.{yes as affirmed, no as denied, refused as turned}
 use Rattle.sessions.specs.Deciding.{unfit, still_open, Verdict, turned_back, answered, decide_query, decide_under, Decided}
-use Rattle.label_lists.specs.declared.Listing.{Listing}
 use Rattle.label_lists.specs.Buffer.{too_short}
 use Rattle.label_lists.specs.Listing.{SaidListing, said_listing, Listed, not_listed, given, listed, list_reading, LabelsGiven}
 use Rattle.explanations.specs.declared.Explaining.{Explaining}
@@ -76,7 +77,7 @@ reading_kept d before (refused n k) = λ e. refl
 reading_kept d before (accepted Q) =
     either (Kept before) (too_short before (ascending (labels d.views Q))) (λ e. refl) (λ e. absurd (false≢true (sym e)))
 
-pub labels_buffer_stays : (p : Policy) (text before : List ℕ) (r : Listing) (after : List ℕ) → LabelsGiven p text before r after
+pub labels_buffer_stays : (p : Policy) (text before : List ℕ) (r : Result ℕ Refusal) (after : List ℕ) → LabelsGiven p text before r after
     → (said_listing r).given ≡ false → after ≡ before
 unfolding not_listed
 labels_buffer_stays p text before r after g e =
@@ -101,7 +102,7 @@ under_left d n text before = either (Left before) (up_to (length d.partitions) n
         let granted = views_word (get_or d.partitions (n - 1) []) in
         either (Left before) (too_short before (explained granted (labels d.views Q))) (λ e. refl) (λ e. absurd (false≢true (sym e)))
 
-pub explaining_buffer_stays : (p : Policy) (n : ℕ) (text before : List ℕ) (r : Explaining) (after : List ℕ)
+pub explaining_buffer_stays : (p : Policy) (n : ℕ) (text before : List ℕ) (r : Result Explaining Refusal) (after : List ℕ)
     → ExplanationGiven p n text before r after → (said_explaining r).given ≡ false → after ≡ before
 unfolding not_explained
 explaining_buffer_stays p n text before r after g e =

@@ -1,13 +1,13 @@
 -- What is said of a call determines its outcome, the reply, the session and every cell of a lent buffer, whether or not some text
 -- loads to the policy value.
 use mathlib.Core.Path.{◌≡◌, refl, sym, ap, ◌∙◌}
-use mathlib.Core.Bool.{cond}
+use mathlib.Core.Bool.{Bool, true, false, cond}
 use mathlib.Core.List.{List, [], ◌∷◌, head-eq_of_cons-eq, tail-eq_of_cons-eq, List-discrete}
 use Prim.Native.Nat.{ℕ}
 use native.Mathlib.Decide.{ℕ_discrete, map_dec}
 use native.Mathlib.Omega.{arith}
-use Rattle.model.specs.declared.Policy.{Policy}
 use Rattle.std.specs.Prelude.{Result, Ok, Err}
+use Rattle.model.specs.declared.Policy.{Policy}
 use Rattle.model.specs.declared.Refusal.{Refusal}
 use Rattle.validity.specs.Loadable.{Loadable}
 use Rattle.sessions.specs.declared.opening.Session.{Session}
@@ -18,11 +18,8 @@ use Rattle.sessions.specs.Reply.{Word, Said, said}
 use Rattle.sessions.specs.Reply.{yes as affirmed, no as denied, refused as turned}
 use Rattle.sessions.specs.Opening.{Opened}
 use Rattle.sessions.specs.Deciding.{Decided}
-use Rattle.label_lists.specs.declared.Listing.{Listing}
-use Rattle.label_lists.specs.declared.Listing.TheVariants.{Given, Refused as NotListed}
 use Rattle.label_lists.specs.Listing.{SaidListing, said_listing, LabelsGiven}
 use Rattle.explanations.specs.declared.Explaining.{Explaining}
-use Rattle.explanations.specs.declared.Explaining.TheVariants.{Settled, Unsettled, Refused as NotExplained}
 use Rattle.explanations.specs.Explaining.{SaidExplaining, said_explaining, ExplanationGiven}
 
 -- ---- values that a list of numbers tells apart
@@ -43,6 +40,10 @@ pub both? : {A B : Type 0} → Dec A → Dec B → Dec (A × B)
 both? (yes a) (yes b) = yes (a, b)
 both? (yes a) (no n) = no (λ x. n x.1)
 both? (no n) b = no (λ x. n x.0)
+
+-- a refusal is what its fields hold
+pub one_refusal : {c d : Refusal} → c.number ≡ d.number → c.line ≡ d.line → c ≡ d
+one_refusal n k i = record { number = n i; line = k i }
 
 -- ---- what a reply says tells it from every other
 
@@ -72,43 +73,48 @@ replies = record { code = λ a. said_code (said a); apart = go }
 listing_code : SaidListing → List ℕ
 listing_code s = cond s.given 1 0 ∷ s.count ∷ s.number ∷ s.line ∷ []
 
-listings : Code Listing
+listings : Code (Result ℕ Refusal)
 unfolding said_listing listing_code
 listings = record { code = λ a. listing_code (said_listing a); apart = go }
   where
-    go : (a b : Listing) → listing_code (said_listing a) ≡ listing_code (said_listing b) → a ≡ b
-    go (Given n) (Given m) e = cc
-    go (Given n) (NotListed m k) e = absurd (let z : ◌≡◌ {A = ℕ} 1 0 = cc in omega arith)
-    go (NotListed n j) (Given m) e = absurd (let z : ◌≡◌ {A = ℕ} 0 1 = cc in omega arith)
-    go (NotListed n j) (NotListed m k) e = cc
+    go : (a b : Result ℕ Refusal) → listing_code (said_listing a) ≡ listing_code (said_listing b) → a ≡ b
+    go (Ok n) (Ok m) e = cc
+    go (Ok n) (Err d) e = absurd (let z : ◌≡◌ {A = ℕ} 1 0 = cc in omega arith)
+    go (Err d) (Ok n) e = absurd (let z : ◌≡◌ {A = ℕ} 0 1 = cc in omega arith)
+    go (Err c) (Err d) e = ap Err (one_refusal (cc) (cc))
 
 explaining_code : SaidExplaining → List ℕ
 explaining_code s = cond s.given 1 0 ∷ cond s.settles 1 0 ∷ s.count ∷ s.number ∷ s.line ∷ []
 
-explanations : Code Explaining
+-- an explanation is what its fields hold
+one_explanation : {x y : Explaining} → x.is_settled ≡ y.is_settled → x.count ≡ y.count → x ≡ y
+one_explanation b n i = record { is_settled = b i; count = n i }
+
+one_bit : (a b : Bool) → cond {A = ℕ} a 1 0 ≡ cond b 1 0 → a ≡ b
+one_bit true true e = refl
+one_bit true false e = absurd (omega (arith, e))
+one_bit false true e = absurd (omega (arith, e))
+one_bit false false e = refl
+
+explanations : Code (Result Explaining Refusal)
 unfolding said_explaining explaining_code
 explanations = record { code = λ a. explaining_code (said_explaining a); apart = go }
   where
-    go : (a b : Explaining) → explaining_code (said_explaining a) ≡ explaining_code (said_explaining b) → a ≡ b
-    go (Settled n) (Settled m) e = cc
-    go (Settled n) (Unsettled m) e = absurd (let z : ◌≡◌ {A = ℕ} 1 0 = cc in omega arith)
-    go (Settled n) (NotExplained m k) e = absurd (let z : ◌≡◌ {A = ℕ} 1 0 = cc in omega arith)
-    go (Unsettled n) (Settled m) e = absurd (let z : ◌≡◌ {A = ℕ} 0 1 = cc in omega arith)
-    go (Unsettled n) (Unsettled m) e = cc
-    go (Unsettled n) (NotExplained m k) e = absurd (let z : ◌≡◌ {A = ℕ} 1 0 = cc in omega arith)
-    go (NotExplained n j) (Settled m) e = absurd (let z : ◌≡◌ {A = ℕ} 0 1 = cc in omega arith)
-    go (NotExplained n j) (Unsettled m) e = absurd (let z : ◌≡◌ {A = ℕ} 0 1 = cc in omega arith)
-    go (NotExplained n j) (NotExplained m k) e = cc
+    go : (a b : Result Explaining Refusal) → explaining_code (said_explaining a) ≡ explaining_code (said_explaining b) → a ≡ b
+    go (Ok x) (Ok y) e = ap Ok (one_explanation (one_bit x.is_settled y.is_settled (cc)) (cc))
+    go (Ok x) (Err d) e = absurd (let z : ◌≡◌ {A = ℕ} 1 0 = cc in omega arith)
+    go (Err d) (Ok x) e = absurd (let z : ◌≡◌ {A = ℕ} 0 1 = cc in omega arith)
+    go (Err c) (Err d) e = ap Err (one_refusal (cc) (cc))
 
 pub said_apart : (a b : Reply) → said a ≡ said b → a ≡ b
 unfolding replies said_code
 said_apart a b e = replies.apart a b (ap said_code e)
 
-pub said_listing_apart : (a b : Listing) → said_listing a ≡ said_listing b → a ≡ b
+pub said_listing_apart : (a b : Result ℕ Refusal) → said_listing a ≡ said_listing b → a ≡ b
 unfolding listings listing_code
 said_listing_apart a b e = listings.apart a b (ap listing_code e)
 
-pub said_explaining_apart : (a b : Explaining) → said_explaining a ≡ said_explaining b → a ≡ b
+pub said_explaining_apart : (a b : Result Explaining Refusal) → said_explaining a ≡ said_explaining b → a ≡ b
 unfolding explanations explaining_code
 said_explaining_apart a b e = explanations.apart a b (ap explaining_code e)
 
@@ -154,7 +160,7 @@ decided_unique p s text r t x y =
     (λ f. (x.unloaded f).session ∙ sym (y.unloaded f).session) in
     λ i. record { reply = reply i; session = session i }
 
-pub labels_unique : (p : Policy) (text before : List ℕ) (r t : Listing) (after then : List ℕ)
+pub labels_unique : (p : Policy) (text before : List ℕ) (r t : Result ℕ Refusal) (after then : List ℕ)
     → LabelsGiven p text before r after → LabelsGiven p text before t then → (r ≡ t) × (after ≡ then)
 labels_unique p text before r t after then x y = (
   either_way {L = Loadable p} (same? listings r t) (λ l. said_listing_apart r t ((x.loaded l).reply ∙ sym (y.loaded l).reply))
@@ -163,7 +169,7 @@ labels_unique p text before r t after then x y = (
       (λ f. (x.unloaded f).buffer ∙ sym (y.unloaded f).buffer),
 )
 
-pub explanation_unique : (p : Policy) (n : ℕ) (text before : List ℕ) (r t : Explaining) (after then : List ℕ)
+pub explanation_unique : (p : Policy) (n : ℕ) (text before : List ℕ) (r t : Result Explaining Refusal) (after then : List ℕ)
     → ExplanationGiven p n text before r after → ExplanationGiven p n text before t then → (r ≡ t) × (after ≡ then)
 explanation_unique p n text before r t after then x y = (
   either_way {L = Loadable p} (same? explanations r t) (λ l. said_explaining_apart r t ((x.loaded l).reply ∙ sym (y.loaded l).reply))

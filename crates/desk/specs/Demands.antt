@@ -1,10 +1,11 @@
 -- The customer's demands as types. Their hypotheses are the contracts of the desk's operations, word for word; their proofs are
 -- `demand_1 : Demand1` and so on, in `proofs/Demands.antt`.
-use Rattle.std.specs.Prelude.{◌≡◌, Ok, ◌↔◌, List, ◌∷◌, ◌++◌, map, ℕ, ◌-◌, ◌^◌, ◌<◌, length}
+use Rattle.std.specs.Prelude.{◌≡◌, Ok, ◌↔◌, List, ◌∷◌, ◌++◌, map, ℕ, ◌^◌, ◌<◌, length, Result}
 use Rattle.theory.specs.Query.{Query}
 use Rattle.theory.specs.Count.{Counts}
 use Rattle.words.specs.Bits.{bit}
 use Rattle.model.specs.declared.Policy.{Policy}
+use Rattle.model.specs.declared.Refusal.{Refusal}
 use Rattle.query_text.specs.Text.{read}
 use Rattle.query_text.specs.Text.{accepted as read_as}
 use Rattle.policy_text.specs.Text.{load, accepted}
@@ -17,7 +18,6 @@ use Rattle.sessions.specs.Reply.{said, yes, no}
 use Rattle.sessions.specs.Session.{open_count}
 use Rattle.sessions.specs.Opening.{Opened}
 use Rattle.sessions.specs.Deciding.{Decided}
-use Rattle.label_lists.specs.declared.Listing.{Listing}
 use Rattle.label_lists.specs.Listing.{listed, Lists, LabelsGiven}
 use Rattle.desk.specs.Outcomes.{Outcomes}
 use Rattle.desk.specs.Calls.{Call, Calls, Says, Asks, DeterminesAll, Answerable}
@@ -39,7 +39,7 @@ Demand1 = Outcomes
 -- buffer. There are words that are the labels of the query, and the call gives them, or 10 where the buffer is too short.
 abbrev pub Demand2 : Type 0
 Demand2 =
-    (p : Policy) (l : Loadable p) (text before : List ℕ) (r : Listing) (after : List ℕ) → LabelsGiven p text before r after
+    (p : Policy) (l : Loadable p) (text before : List ℕ) (r : Result ℕ Refusal) (after : List ℕ) → LabelsGiven p text before r after
     → (Q : Query) → read l.declared.widths text ≡ read_as Q
     → (ws : List ℕ) × LabelsOf l.declared Q ws × Lists r after (listed before ws)
 

@@ -19,7 +19,6 @@ use Rattle.sessions.specs.declared.replies.Decision.{Decision}
 use Rattle.sessions.specs.Reply.{said, yes, no, refused}
 use Rattle.sessions.specs.Deciding.{unfit, Decided}
 use Rattle.sessions.specs.Opening.{Opened}
-use Rattle.label_lists.specs.declared.Listing.{Listing}
 use Rattle.label_lists.specs.Listing.{said_listing, LabelsGiven}
 use Rattle.explanations.specs.declared.Explaining.{Explaining}
 use Rattle.explanations.specs.Explaining.{said_explaining, ExplanationGiven}
@@ -44,9 +43,9 @@ pub record Outcomes : Type 0 where
   pub one_loading : (text : List ℕ) (r t : Result Policy Refusal) → r ≡ loading_value (load text) → t ≡ loading_value (load text) → r ≡ t
   pub one_opening : (p : Policy) (r t : Result Session Refusal) → Opened p r → Opened p t → r ≡ t
   pub one_decision : (p : Policy) (s : Session) (text : List ℕ) (r t : Decision) → Decided p s text r → Decided p s text t → r ≡ t
-  pub one_listing : (p : Policy) (text before : List ℕ) (r t : Listing) (after then : List ℕ)
+  pub one_listing : (p : Policy) (text before : List ℕ) (r t : Result ℕ Refusal) (after then : List ℕ)
       → LabelsGiven p text before r after → LabelsGiven p text before t then → (r ≡ t) × (after ≡ then)
-  pub one_explanation : (p : Policy) (n : ℕ) (text before : List ℕ) (r t : Explaining) (after then : List ℕ)
+  pub one_explanation : (p : Policy) (n : ℕ) (text before : List ℕ) (r t : Result Explaining Refusal) (after then : List ℕ)
       → ExplanationGiven p n text before r after → ExplanationGiven p n text before t then → (r ≡ t) × (after ≡ then)
   -- a well-formed policy, session and query
   pub yes_or_no : (p : Policy) (l : Loadable p) (s : Session) (text : List ℕ) (r : Decision) → Decided p s text r
@@ -57,22 +56,22 @@ pub record Outcomes : Type 0 where
   pub opening_numbers : (p : Policy) (r : Refusal) → Opened p (Err r) → (r.number ≡ 8) × (r.line ≡ 0)
   pub deciding_numbers_lem : (p : Policy) (s : Session) (text : List ℕ) (r : Decision) → Decided p s text r
       → (said r.reply).word ≡ refused → (said r.reply).number ∈ deciding_numbers
-  pub labels_numbers_lem : (p : Policy) (text before : List ℕ) (r : Listing) (after : List ℕ) → LabelsGiven p text before r after
+  pub labels_numbers_lem : (p : Policy) (text before : List ℕ) (r : Result ℕ Refusal) (after : List ℕ) → LabelsGiven p text before r after
       → (said_listing r).given ≡ false → (said_listing r).number ∈ labels_numbers
-  pub explaining_numbers_lem : (p : Policy) (n : ℕ) (text before : List ℕ) (r : Explaining) (after : List ℕ)
+  pub explaining_numbers_lem : (p : Policy) (n : ℕ) (text before : List ℕ) (r : Result Explaining Refusal) (after : List ℕ)
       → ExplanationGiven p n text before r after → (said_explaining r).given ≡ false → (said_explaining r).number ∈ explaining_numbers
   -- a refusal
   pub session_stays : (p : Policy) (s : Session) (text : List ℕ) (r : Decision) → Decided p s text r
       → (said r.reply).word ≡ refused → r.session ≡ s
-  pub labels_buffer_stays : (p : Policy) (text before : List ℕ) (r : Listing) (after : List ℕ) → LabelsGiven p text before r after
+  pub labels_buffer_stays : (p : Policy) (text before : List ℕ) (r : Result ℕ Refusal) (after : List ℕ) → LabelsGiven p text before r after
       → (said_listing r).given ≡ false → after ≡ before
-  pub explaining_buffer_stays : (p : Policy) (n : ℕ) (text before : List ℕ) (r : Explaining) (after : List ℕ)
+  pub explaining_buffer_stays : (p : Policy) (n : ℕ) (text before : List ℕ) (r : Result Explaining Refusal) (after : List ℕ)
       → ExplanationGiven p n text before r after → (said_explaining r).given ≡ false → after ≡ before
 
 -- Where `explain` gives an explanation, it says settled exactly where the partition, counted from 1, determines the query.
 abbrev pub SettledExactly : Type 0
 SettledExactly =
-    (p : Policy) (l : Loadable p) (n : ℕ) (text before : List ℕ) (r : Explaining) (after : List ℕ)
+    (p : Policy) (l : Loadable p) (n : ℕ) (text before : List ℕ) (r : Result Explaining Refusal) (after : List ℕ)
     → ExplanationGiven p n text before r after → (said_explaining r).given ≡ true
     → (Q : Query) → read l.declared.widths text ≡ read_as Q
     → ((said_explaining r).settles ≡ true) ↔ PartitionDetermines l.declared (n - 1) Q

@@ -8,5 +8,5 @@ mod comparing;
 pub use comparing::compare_labels;
 pub use decisions::{decide, decide_checked, decide_loaded, decide_rows};
 pub use explanations::{Explaining, explain, granted_views, write_words};
-pub use label_lists::{Listing, labels};
+pub use label_lists::labels;
 pub use sessions::{Decision, Reply, Session, open_loaded, open_session};

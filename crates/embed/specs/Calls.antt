@@ -1,6 +1,6 @@
 -- What each exported function says: some reply that meets the contract of the desk's own operation, in numbers. The buffer and the session
 -- are that operation's too.
-use Rattle.std.specs.Prelude.{◌≡◌, Result, Ok, Err, List, ℕ}
+use Rattle.std.specs.Prelude.{◌≡◌, Result, Ok, Err, Option, List, ℕ}
 use Rattle.model.specs.declared.Refusal.{Refusal}
 use Rattle.model.specs.declared.Policy.{Policy}
 use Rattle.policy_text.specs.Text.{load, nothing}
@@ -10,15 +10,12 @@ use Rattle.sessions.specs.declared.opening.Session.{Session}
 use Rattle.sessions.specs.declared.replies.Decision.{Decision}
 use Rattle.sessions.specs.Opening.{none_open, Opened}
 use Rattle.sessions.specs.Deciding.{Decided}
-use Rattle.label_lists.specs.declared.Listing.{Listing}
 use Rattle.label_lists.specs.Listing.{LabelsGiven}
 use Rattle.explanations.specs.declared.Explaining.{Explaining}
 use Rattle.explanations.specs.Explaining.{ExplanationGiven}
 use Rattle.apart.specs.declared.telling.Telling.{Telling}
 use Rattle.apart.specs.Archives.{ArchivesGiven}
-use Rattle.grants.specs.declared.granting.Granting.{Granting}
 use Rattle.grants.specs.Granting.{GrantGiven}
-use Rattle.import.specs.declared.importing.Imported.{Imported}
 use Rattle.import.specs.Import.{ImportGiven}
 use Rattle.plain_replies.specs.Replies.{plain_outcome, plain_reply, plain_listing, plain_explaining}
 use Rattle.plain_replies.specs.Replies.{plain_telling, plain_granting, plain_imported}
@@ -53,16 +50,16 @@ abbrev pub DecideCall : Policy → Session → List ℕ → PlainDecision → Ty
 DecideCall p s text r = (d : Decision) × Decided p s text d × (r ≡ plain_decision d)
 
 abbrev pub LabelsCall : Policy → (text before : List ℕ) → PlainReply → List ℕ → Type 0
-LabelsCall p text before r after = (l : Listing) × LabelsGiven p text before l after × (r ≡ plain_listing l)
+LabelsCall p text before r after = (l : Result ℕ Refusal) × LabelsGiven p text before l after × (r ≡ plain_listing l)
 
 abbrev pub ExplainCall : Policy → ℕ → (text before : List ℕ) → PlainReply → List ℕ → Type 0
-ExplainCall p n text before r after = (e : Explaining) × ExplanationGiven p n text before e after × (r ≡ plain_explaining e)
+ExplainCall p n text before r after = (e : Result Explaining Refusal) × ExplanationGiven p n text before e after × (r ≡ plain_explaining e)
 
 abbrev pub ApartCall : Policy → ℕ → (text before : List ℕ) → PlainReply → List ℕ → Type 0
 ApartCall p n text before r after = (t : Telling) × ArchivesGiven p n text before t after × (r ≡ plain_telling t)
 
 abbrev pub GrantCall : Policy → ℕ → (text before : List ℕ) → PlainReply → List ℕ → Type 0
-GrantCall p n text before r after = (g : Granting) × GrantGiven p n text before g after × (r ≡ plain_granting g)
+GrantCall p n text before r after = (g : Result (Option ℕ) Refusal) × GrantGiven p n text before g after × (r ≡ plain_granting g)
 
 abbrev pub ImportCall : Policy → (rule : List ℕ) → ℕ → (before : List ℕ) → PlainReply → List ℕ → Type 0
-ImportCall p rule place before r after = (i : Imported) × ImportGiven p rule place before i after × (r ≡ plain_imported i)
+ImportCall p rule place before r after = (i : Result ℕ Refusal) × ImportGiven p rule place before i after × (r ≡ plain_imported i)

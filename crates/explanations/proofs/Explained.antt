@@ -6,6 +6,7 @@ use Prim.Native.Nat.{ℕ, ◌-◌, ◌^◌, ◌≤◌, ◌<◌}
 use native.Mathlib.Omega.{arith}
 use borrow.Author.Tests.{lt-ltb, le-ltb}
 use lib.ListN.{length, get_or, drop}
+use Rattle.std.specs.Prelude.{Result, Err}
 use Rattle.theory.specs.Query.{Query}
 use Rattle.theory.specs.Executable.Label.{labels, settles}
 use Rattle.theory.proofs.Lists.{at_place, below_place, there}
@@ -15,6 +16,7 @@ use Rattle.words.proofs.TestBits.{tests_say}
 use Rattle.words.proofs.Answers.{true_holds}
 use Rattle.model.specs.Limits.{most_views, most_partitions, most_lines, up_to}
 use Rattle.model.specs.declared.Policy.{Policy}
+use Rattle.model.specs.declared.Refusal.{Refusal}
 use Rattle.query_text.specs.Text.{refused, accepted, read}
 use Rattle.query_text.proofs.Accepted.{accepted_well_read}
 use Rattle.policy_text.specs.Declared.{Declared}
@@ -35,10 +37,9 @@ use Rattle.label_lists.proofs.Asked.{Labelled}
 use Rattle.label_lists.proofs.Copied.{Copied}
 use Rattle.explanations.specs.Explaining.{said_explaining, not_explained, explained_by, explain_reading, explain_under, Explains, ExplanationGiven}
 use Rattle.explanations.specs.declared.Explaining.{Explaining}
-use Rattle.explanations.specs.declared.Explaining.TheVariants.{Refused}
 use Rattle.explanations.proofs.Narrow.{AtMost, Narrow, each_most, most_length, most_get, explained_most}
 
-not_explains : (before : List ℕ) (n k : ℕ) → Explains (Refused n k) before (not_explained before n k)
+not_explains : (before : List ℕ) (n k : ℕ) → Explains (Err (record { number = n; line = k })) before (not_explained before n k)
 unfolding said_explaining not_explained
 not_explains before n k = record { reply = refl; buffer = refl }
 
@@ -59,12 +60,12 @@ module _ {l : Words} (granted : ℕ) (ws : List ℕ) (h : HoldsLabels l ws) {w :
       subst (λ (x : ℕ). x < 2 ^ half_bits) (sym (word_is w (explained granted ws) value i)) (most_get few_words i)
 
   pub explains_short : {before : List ℕ} → length before < w.count
-      → Explains (Refused 10 0) before (explained_by before (settled granted ws) (explained granted ws))
+      → Explains (Err (record { number = 10; line = 0 })) before (explained_by before (settled granted ws) (explained granted ws))
   unfolding explained_by
   explains_short {before} g =
       rw (lt-ltb (length before) (length (explained granted ws)) (omega (arith, as_many))) (not_explains before 10 0)
 
-  pub explains_given : (before : List ℕ) {after : List ℕ} {r : Explaining} {b : Bool}
+  pub explains_given : (before : List ℕ) {after : List ℕ} {r : Result Explaining Refusal} {b : Bool}
       → said_explaining r ≡ record { given = true; settles = b; count = w.count; number = 0; line = 0 } → b ≡ settled granted ws
       → w.count ≤ length before → after ≡ Copied w.words w.count before
       → Explains r after (explained_by before (settled granted ws) (explained granted ws))
@@ -132,22 +133,22 @@ module _ {p : Policy} {n : ℕ} {text : List ℕ} {v : Labels} {granted : ℕ} {
 -- ---- the policy value, the partition and the text
 
 module _ {p : Policy} {n : ℕ} {text before : List ℕ} where
-  pub unexplained : (Loadable p → ⊥) → ExplanationGiven p n text before (Refused 8 0) before
+  pub unexplained : (Loadable p → ⊥) → ExplanationGiven p n text before (Err (record { number = 8; line = 0 })) before
   unexplained m = record { unloaded = λ k. not_explains before 8 0; loaded = λ l. absurd (m l) }
 
-  pub no_partition : Loadable p → up_to p.partition_count n ≡ false → ExplanationGiven p n text before (Refused 4 0) before
+  pub no_partition : Loadable p → up_to p.partition_count n ≡ false → ExplanationGiven p n text before (Err (record { number = 4; line = 0 })) before
   unfolding explain_under
   no_partition is e = record { unloaded = λ m. absurd (m is); loaded = λ l. rw (declared_place l n false e) (not_explains before 4 0) }
 
   pub text_refused : {m k : ℕ} → Loadable p → up_to p.partition_count n ≡ true
-      → ((l : Loadable p) → read l.declared.widths text ≡ refused m k) → ExplanationGiven p n text before (Refused m k) before
+      → ((l : Loadable p) → read l.declared.widths text ≡ refused m k) → ExplanationGiven p n text before (Err (record { number = m; line = k })) before
   unfolding explain_under explain_reading
   text_refused {m} {k} is e h = record {
     unloaded = λ f. absurd (f is);
     loaded = λ l. rw (declared_place l n true e, h l) (not_explains before m k);
   }
 
-  pub text_explained : {r : Explaining} {after : List ℕ} {v : Labels} {granted : ℕ} {b : Bool} → Loadable p → Gathered p n v granted b
+  pub text_explained : {r : Result Explaining Refusal} {after : List ℕ} {v : Labels} {granted : ℕ} {b : Bool} → Loadable p → Gathered p n v granted b
       → ((l : Loadable p) → Labelled l.declared text v)
       → ((ws : List ℕ) → HoldsLabels v.words ws → b ≡ settled granted ws
       → Explains r after (explained_by before (settled granted ws) (explained granted ws)))

@@ -1,8 +1,9 @@
 -- Document 01, "Explaining".
-use Rattle.std.specs.Prelude.{◌≡◌, Bool, true, false, cond, List, [], ℕ, ◌-◌, length, get_or}
+use Rattle.std.specs.Prelude.{◌≡◌, Bool, true, false, cond, List, [], ℕ, ◌-◌, length, get_or, Result, Ok, Err}
 use Rattle.theory.specs.Executable.Label.{labels}
 use Rattle.model.specs.Limits.{up_to}
 use Rattle.model.specs.declared.Policy.{Policy}
+use Rattle.model.specs.declared.Refusal.{Refusal}
 use Rattle.query_text.specs.Text.{Reading, refused, accepted, read}
 use Rattle.policy_text.specs.Declared.{Declared}
 use Rattle.policy_text.specs.Policy.{views_word}
@@ -11,7 +12,6 @@ use Rattle.labelling.specs.Settled.{settled}
 use Rattle.explain.specs.Explanation.{explained}
 use Rattle.label_lists.specs.Buffer.{too_short, headed}
 use Rattle.explanations.specs.declared.Explaining.{Explaining}
-use Rattle.explanations.specs.declared.Explaining.TheVariants.{Settled, Unsettled, Refused}
 
 -- what the reply says: whether an explanation is given, whether the partition settles the query, the list's length, the
 -- refusal's number and its line
@@ -22,10 +22,9 @@ pub record SaidExplaining : Type 0 where
   pub number : ℕ
   pub line : ℕ
 
-unfoldable pub said_explaining : Explaining → SaidExplaining
-said_explaining (Settled n) = record { given = true; settles = true; count = n; number = 0; line = 0 }
-said_explaining (Unsettled n) = record { given = true; settles = false; count = n; number = 0; line = 0 }
-said_explaining (Refused n k) = record { given = false; settles = false; count = 0; number = n; line = k }
+unfoldable pub said_explaining : Result Explaining Refusal → SaidExplaining
+said_explaining (Ok x) = record { given = true; settles = x.is_settled; count = x.count; number = 0; line = 0 }
+said_explaining (Err e) = record { given = false; settles = false; count = 0; number = e.number; line = e.line }
 
 -- what is said, and what the lent buffer then holds
 pub record Explained : Type 0 where
@@ -58,11 +57,11 @@ explain_under d n text buffer =
     cond (up_to (length d.partitions) n) (explain_reading d n buffer (read d.widths text)) (not_explained buffer 4 0)
 
 -- a reply and the buffer after the call
-pub record Explains (r : Explaining) (after : List ℕ) (o : Explained) : Type 0 where
+pub record Explains (r : Result Explaining Refusal) (after : List ℕ) (o : Explained) : Type 0 where
   pub reply : said_explaining r ≡ o.says
   pub buffer : after ≡ o.holds
 
 -- "Explaining. 8. Then 4 …"
-pub record ExplanationGiven (p : Policy) (n : ℕ) (text before : List ℕ) (r : Explaining) (after : List ℕ) : Type 0 where
+pub record ExplanationGiven (p : Policy) (n : ℕ) (text before : List ℕ) (r : Result Explaining Refusal) (after : List ℕ) : Type 0 where
   pub unloaded : (Loadable p → ⊥) → Explains r after (not_explained before 8 0)
   pub loaded : (l : Loadable p) → Explains r after (explain_under l.declared n text before)

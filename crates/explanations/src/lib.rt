@@ -10,26 +10,25 @@ ghost use Rattle.policy_text.specs.Abstract.{granted_at};
 ghost use Rattle.explanations.specs.Explaining.{ExplanationGiven};
 ghost use Rattle.explanations.specs.WordsGiven.{SomeExplained, WordsGiven};
 
-use model::{MOST_LINES, MOST_VIEWS, Policy};
+use model::{MOST_LINES, MOST_VIEWS, Policy, Refusal};
 use word_list::Words;
 
-// Whether the partition settles the query and how many words explain it, or what turns the call back.
+// Whether the partition settles the query, and how many words explain it.
 #[derive(Clone, Copy)]
-pub enum Explaining {
-    Settled { count: u64 },
-    Unsettled { count: u64 },
-    Refused { number: u64, line: u64 },
+pub struct Explaining {
+    pub is_settled: bool,
+    pub count: usize,
 }
 
 // The explanation of a query text for partition n; numbers past it stay.
-pub fn explain(p: Policy, n: u64, text: &[u8], out: &mut [u32]) -> Explaining
+pub fn explain(p: Policy, n: u64, text: &[u8], out: &mut [u32]) -> Result<Explaining, Refusal>
     ensures { ExplanationGiven p n text.now out.old result out.new }
 {
     if !validity::valid(p) {
-        return Explaining::Refused { number: 8, line: 0 };
+        return Err(Refusal { number: 8, line: 0 });
     }
     if !model::is_among(n, p.partition_count as u64) {
-        return Explaining::Refused { number: 4, line: 0 };
+        return Err(Refusal { number: 4, line: 0 });
     }
     match labelling::ask(p, text) {
         Ok(l) => {
@@ -39,10 +38,7 @@ pub fn explain(p: Policy, n: u64, text: &[u8], out: &mut [u32]) -> Explaining
             let is_settled = words::has_bit(l.settling, n - 1);
             give_words(w, granted, is_settled, out)
         }
-        Err(r) => Explaining::Refused {
-            number: r.number,
-            line: r.line,
-        },
+        Err(r) => Err(r),
     }
 }
 
@@ -60,28 +56,26 @@ pub fn granted_views(grants: [u64; MOST_VIEWS], i: u64) -> u64
 }
 
 // The words for a partition with these granted views, which settles the query or not, at the head of the buffer, or 10.
-fn give_words(l: Words, granted: u64, is_settled: bool, out: &mut [u32]) -> Explaining
+fn give_words(
+    l: Words,
+    granted: u64,
+    is_settled: bool,
+    out: &mut [u32],
+) -> Result<Explaining, Refusal>
     requires { SomeExplained l granted is_settled }
     ensures { WordsGiven l granted is_settled out.old result out.new }
 {
     let w = explain::words_of(l, granted, is_settled);
     let count = w.count;
     if out.len() < count {
-        return Explaining::Refused {
+        return Err(Refusal {
             number: 10,
             line: 0,
-        };
+        });
     }
     let words = w.words;
     write_words(words, count, out);
-    if is_settled {
-        return Explaining::Settled {
-            count: count as u64,
-        };
-    }
-    Explaining::Unsettled {
-        count: count as u64,
-    }
+    Ok(Explaining { is_settled, count })
 }
 
 // The first words, each of 32 bits, at the head of the buffer; numbers past them stay.

@@ -9,6 +9,7 @@ use native.Mathlib.Decide.{ℕ_discrete, dec_lt}
 use native.Mathlib.Omega.{arith}
 use lib.Dec.{T}
 use lib.ListN.{length}
+use Rattle.std.specs.Prelude.{Option, Some, None, Result, Ok, Err}
 use Rattle.theory.specs.Query.{Query, ◌∈◌}
 use Rattle.theory.specs.Executable.Label.{labels}
 use Rattle.theory.specs.Executable.Test.{any}
@@ -17,6 +18,7 @@ use Rattle.theory.proofs.Pigeonhole.{member}
 use Rattle.words.proofs.Answers.{holds_true, either}
 use Rattle.model.specs.Limits.{up_to}
 use Rattle.model.specs.declared.Policy.{Policy}
+use Rattle.model.specs.declared.Refusal.{Refusal}
 use Rattle.model.proofs.Limits.{up_to_iff}
 use Rattle.model.proofs.FirstFault.{found_in}
 use Rattle.query_text.specs.Text.{Reading, refused, accepted, read}
@@ -24,9 +26,7 @@ use Rattle.query_text.proofs.Numbers.{read_refuses}
 use Rattle.policy_text.specs.Declared.{Declared, PartitionDetermines}
 use Rattle.validity.specs.Loadable.{Loadable}
 use Rattle.desk.specs.Outcomes.{explaining_numbers}
-use Rattle.desk.proofs.Unique.{Code, same?, either_way, both?}
-use Rattle.grants.specs.declared.granting.Granting.{Granting}
-use Rattle.grants.specs.declared.granting.Granting.TheVariants.{Given, Nothing, Refused}
+use Rattle.desk.proofs.Unique.{Code, same?, either_way, both?, one_refusal}
 use Rattle.grants.specs.Smallest.{Smallest, Hopeless}
 use Rattle.grants.specs.Granting.{Word, says_list, says_none, says_refused, SaidGranting, said_list, said_none, said_refused, said_granting}
 use Rattle.grants.specs.Granting.{Owed, refusal, nothing, list, some_bare, owed_for, owed, Replies, Written, Gives, GrantGiven}
@@ -44,28 +44,28 @@ word_code says_refused = 2
 said_code : SaidGranting → List ℕ
 said_code s = word_code s.word ∷ s.count ∷ s.number ∷ s.line ∷ []
 
-grantings : Code Granting
+grantings : Code (Result (Option ℕ) Refusal)
 unfolding said_granting said_code word_code
 grantings = record { code = λ a. said_code (said_granting a); apart = go }
   where
-    go : (a b : Granting) → said_code (said_granting a) ≡ said_code (said_granting b) → a ≡ b
-    go (Given n) (Given m) e = cc
-    go (Given n) Nothing e = absurd (let z : ◌≡◌ {A = ℕ} 0 1 = cc in omega arith)
-    go (Given n) (Refused m k) e = absurd (let z : ◌≡◌ {A = ℕ} 0 2 = cc in omega arith)
-    go Nothing (Given m) e = absurd (let z : ◌≡◌ {A = ℕ} 1 0 = cc in omega arith)
-    go Nothing Nothing e = refl
-    go Nothing (Refused m k) e = absurd (let z : ◌≡◌ {A = ℕ} 1 2 = cc in omega arith)
-    go (Refused n j) (Given m) e = absurd (let z : ◌≡◌ {A = ℕ} 2 0 = cc in omega arith)
-    go (Refused n j) Nothing e = absurd (let z : ◌≡◌ {A = ℕ} 2 1 = cc in omega arith)
-    go (Refused n j) (Refused m k) e = cc
+    go : (a b : Result (Option ℕ) Refusal) → said_code (said_granting a) ≡ said_code (said_granting b) → a ≡ b
+    go (Ok (Some n)) (Ok (Some m)) e = cc
+    go (Ok (Some n)) (Ok None) e = absurd (let z : ◌≡◌ {A = ℕ} 0 1 = cc in omega arith)
+    go (Ok (Some n)) (Err d) e = absurd (let z : ◌≡◌ {A = ℕ} 0 2 = cc in omega arith)
+    go (Ok None) (Ok (Some m)) e = absurd (let z : ◌≡◌ {A = ℕ} 1 0 = cc in omega arith)
+    go (Ok None) (Ok None) e = refl
+    go (Ok None) (Err d) e = absurd (let z : ◌≡◌ {A = ℕ} 1 2 = cc in omega arith)
+    go (Err d) (Ok (Some m)) e = absurd (let z : ◌≡◌ {A = ℕ} 2 0 = cc in omega arith)
+    go (Err d) (Ok None) e = absurd (let z : ◌≡◌ {A = ℕ} 2 1 = cc in omega arith)
+    go (Err c) (Err d) e = ap Err (one_refusal (cc) (cc))
 
-said_apart : (a b : Granting) → said_granting a ≡ said_granting b → a ≡ b
+said_apart : (a b : Result (Option ℕ) Refusal) → said_granting a ≡ said_granting b → a ≡ b
 unfolding grantings said_code
 said_apart a b e = grantings.apart a b (ap said_code e)
 
 -- ---- one reply
 
-module _ (r t : Granting) (before after then : List ℕ) where
+module _ (r t : Result (Option ℕ) Refusal) (before after then : List ℕ) where
   same_reply : {s : SaidGranting} {held : List ℕ} → Replies r after s held → Replies t then s held → (r ≡ t) × (after ≡ then)
   same_reply g h = (said_apart r t (g.reply ∙ sym h.reply), g.buffer ∙ sym h.buffer)
 
@@ -99,7 +99,7 @@ refused≢list : {n k m : ℕ} → said_refused n k ≡ said_list m → ⊥
 unfolding word_code
 refused≢list e = omega (arith, said_number e)
 
-module _ (r : Granting) (before after added : List ℕ) (w : Written r before after added) where
+module _ (r : Result (Option ℕ) Refusal) (before after added : List ℕ) (w : Written r before after added) where
   -- a list or 10, and never `none`
   written_some : said_granting r ≡ said_none → ⊥
   written_some e = go (dec_lt (length before) (length added))
@@ -135,7 +135,7 @@ module _ {p : Policy} {l : Loadable p} {n : ℕ} {text : List ℕ} {Q : Query} (
       let among = holds_true (up_to (length d.partitions) n) ((up_to_iff (length d.partitions) n).1 (a.from_one, a.among)) in
       rw (← among, a.reads) refl
 
-  module _ (r : Granting) (before after : List ℕ) where
+  module _ (r : Result (Option ℕ) Refusal) (before after : List ℕ) where
     none_iff : (b : Bool) → Gives d (n - 1) r before after (cond b (nothing Q) (list Q)) → (said_granting r ≡ said_none) ↔ T b
     none_iff true g = (λ e. tt, λ t. g.0.reply)
     none_iff false (added, small, w) = (λ e. written_some r before after added w e, λ t. absurd t)
@@ -158,13 +158,13 @@ module _ {p : Policy} {l : Loadable p} {n : ℕ} {text : List ℕ} {Q : Query} (
           λ p. k.1 (smallest_settled d (n - 1) Q added small p),
         )
 
-  given : {r : Granting} {before after : List ℕ} → GrantGiven p n text before r after
+  given : {r : Result (Option ℕ) Refusal} {before after : List ℕ} → GrantGiven p n text before r after
       → Gives d (n - 1) r before after (cond bare (nothing Q) (list Q))
   given {r} {before} {after} g = subst (Gives d (n - 1) r before after) owed_is (g.loaded l)
 
 -- ---- numbers and the buffer
 
-module _ (d : Declared) (n : ℕ) (text : List ℕ) (r : Granting) (before after : List ℕ) where
+module _ (d : Declared) (n : ℕ) (text : List ℕ) (r : Result (Option ℕ) Refusal) (before after : List ℕ) where
   -- a refusal's number is one of the operation's
   abbrev Numbered : Owed → Type 0
   Numbered o = Gives d (n - 1) r before after o → (said_granting r).word ≡ says_refused → (said_granting r).number ∈ explaining_numbers
@@ -194,7 +194,7 @@ module _ (d : Declared) (n : ℕ) (text : List ℕ) (r : Granting) (before after
       either Numbered (up_to (length d.partitions) n) (reading_numbered (read d.widths text) refl)
       (λ g e. refused_by (found_in explaining_numbers 4 tt) g)
 
-module _ (d : Declared) (i : ℕ) (r : Granting) (before after : List ℕ) (ne : (said_granting r).word ≢ says_list) where
+module _ (d : Declared) (i : ℕ) (r : Result (Option ℕ) Refusal) (before after : List ℕ) (ne : (said_granting r).word ≢ says_list) where
   abbrev Stays : Type 0
   Stays = ((said_granting r).count ≡ 0) × (after ≡ before)
 

@@ -2,12 +2,13 @@
 use mathlib.Core.Path.{◌≡◌, refl, sym, ap, subst, ◌∙◌}
 use mathlib.Core.Bool.{Bool, true, false}
 use mathlib.Core.List.{List, [], ◌++◌}
-use Prim.Native.Nat.{ℕ, ◌+◌, ◌-◌, ◌^◌, ◌≤◌, ◌<◌}
+use Prim.Native.Nat.{ℕ, ◌^◌, ◌≤◌, ◌<◌}
 use native.Mathlib.Decide.{ℕ_discrete, dec_lt}
 use native.Mathlib.Omega.{arith}
 use borrow.Author.Tests.{eq-eqb}
 use lib.Dec.{T, eqb}
 use lib.ListN.{length, get_or, drop, get_or-eq_default}
+use Rattle.std.specs.Prelude.{Option, Some, None, Result, Ok, Err}
 use Rattle.theory.proofs.Lists.{at_place, below_place, there, none_long}
 use Rattle.words.specs.Bits.{half_bits}
 use Rattle.model.specs.Limits.{most_lines, most_views}
@@ -18,18 +19,17 @@ use Rattle.theory.specs.Query.{◌∈◌}
 use Rattle.theory.specs.Executable.Test.{any}
 use Rattle.theory.proofs.Executable.Test.{any_iff}
 use Rattle.words.proofs.Answers.{true_holds}
+use Rattle.model.specs.declared.Refusal.{Refusal}
 use Rattle.explain.specs.Explanation.{views_of, lacking}
 use Rattle.hitting.specs.Best.{Numbered}
 use Rattle.label_lists.specs.HoldsLabels.{HoldsLabels}
 use Rattle.label_lists.proofs.Copied.{Copied}
-use Rattle.grants.specs.declared.granting.Granting.{Granting}
-use Rattle.grants.specs.declared.granting.Granting.TheVariants.{Given, Nothing, Refused}
 use Rattle.grants.specs.Searching.{hits_of, no_costs, BestFor, LabelsGranted, Lacking}
 use Rattle.grants.specs.Granting.{some_bare, says_list, said_granting, said_refused, Replies, Written}
 use Rattle.hitting.proofs.Compared.{best_nothing}
 use Rattle.grants.proofs.Lacking.{lacking_iff, bare_lacking, lacking_few}
 
-pub turned_back : (before : List ℕ) (n k : ℕ) → Replies (Refused n k) before (said_refused n k) before
+pub turned_back : (before : List ℕ) (n k : ℕ) → Replies (Err (record { number = n; line = k })) before (said_refused n k) before
 unfolding said_granting
 turned_back before n k = record { reply = refl; buffer = refl }
 
@@ -52,11 +52,11 @@ module _ {l : Words} (ns : List ℕ) (is : l ≡ words_value ns) where
   pub numbers_narrow : Numbered ns → (i : ℕ) → get_or l.words i 0 < 2 ^ half_bits
   numbers_narrow n i = subst (λ (x : ℕ). x < 2 ^ half_bits) (sym (word_is l ns is i)) (numbered_get ns n i)
 
-  pub written_short : {before : List ℕ} → length before < l.count → Written (Refused 10 0) before before ns
+  pub written_short : {before : List ℕ} → length before < l.count → Written (Err (record { number = 10; line = 0 })) before before ns
   written_short {before} h = record { short = λ g. turned_back before 10 0; room = λ g. absurd (omega (arith, h, g, as_many)) }
 
   pub written_given : {before after : List ℕ} → l.count ≤ length before → after ≡ Copied l.words l.count before
-      → Written (Given l.count) before after ns
+      → Written (Ok (Some l.count)) before after ns
   unfolding said_granting
   written_given {before} h copied = record {
     short = λ g. absurd (omega (arith, h, g, as_many));
@@ -68,7 +68,7 @@ module _ {l : Words} (ns : List ℕ) (is : l ≡ words_value ns) where
   }
 
 -- nothing to write, whatever the buffer
-pub written_nothing : (before : List ℕ) → Written (Given 0) before before []
+pub written_nothing : (before : List ℕ) → Written (Ok (Some 0)) before before []
 unfolding said_granting
 written_nothing before = record { short = λ g. absurd (omega (arith, g)); room = λ g. record { reply = refl; buffer = refl } }
 
@@ -117,14 +117,14 @@ module _ {l : Words} (granted : ℕ) (ws : List ℕ) (h : HoldsLabels l ws) {r :
 -- ---- the grant for labels
 
 module _ {granted : ℕ} {ws before : List ℕ} where
-  pub granted_none : true ≡ some_bare ws → LabelsGranted granted ws before Nothing before
+  pub granted_none : true ≡ some_bare ws → LabelsGranted granted ws before (Ok None) before
   unfolding said_granting
   granted_none b = record {
     bare = λ t. record { reply = refl; buffer = refl };
     held = λ n. absurd (n (subst T b tt));
   }
 
-  pub granted_list : {r : Granting} {after added : List ℕ} → false ≡ some_bare ws → BestFor (lacking granted ws) added
+  pub granted_list : {r : Result (Option ℕ) Refusal} {after added : List ℕ} → false ≡ some_bare ws → BestFor (lacking granted ws) added
       → Written r before after added → LabelsGranted granted ws before r after
   granted_list {added = added} b best written = record {
     bare = λ t. absurd (subst T (sym b) t);

@@ -1,18 +1,17 @@
 -- Request 5, "The smallest extra grant": the contract of `smallest_grant`.
-use Rattle.std.specs.Prelude.{◌≡◌, Bool, cond, List, ℕ, ◌-◌, ◌≤◌, ◌<◌, eqb, length}
+use Rattle.std.specs.Prelude.{◌≡◌, Bool, cond, List, ℕ, ◌-◌, ◌≤◌, ◌<◌, eqb, length, Option, Some, None, Result, Ok, Err}
 use Rattle.theory.specs.Query.{Query}
 use Rattle.theory.specs.Executable.Test.{any}
 use Rattle.theory.specs.Executable.Label.{labels}
 use Rattle.model.specs.Limits.{up_to}
 use Rattle.model.specs.declared.Policy.{Policy}
+use Rattle.model.specs.declared.Refusal.{Refusal}
 use Rattle.query_text.specs.Text.{Reading, refused, accepted, read}
 use Rattle.policy_text.specs.Declared.{Declared}
 use Rattle.validity.specs.Loadable.{Loadable}
 use Rattle.explain.specs.Explanation.{views_of}
 use Rattle.label_lists.specs.Buffer.{headed}
 use Rattle.grants.specs.Smallest.{Smallest, Hopeless}
-use Rattle.grants.specs.declared.granting.Granting.{Granting}
-use Rattle.grants.specs.declared.granting.Granting.TheVariants.{Given, Nothing, Refused}
 
 -- ---- the reply
 
@@ -42,10 +41,10 @@ abbrev pub said_refused : (number line : ℕ) → SaidGranting
 said_refused n k = record { word = says_refused; count = 0; number = n; line = k }
 
 -- of each case of the reply
-unfoldable pub said_granting : Granting → SaidGranting
-said_granting (Given n) = said_list n
-said_granting Nothing = said_none
-said_granting (Refused n k) = said_refused n k
+unfoldable pub said_granting : Result (Option ℕ) Refusal → SaidGranting
+said_granting (Ok (Some n)) = said_list n
+said_granting (Ok None) = said_none
+said_granting (Err e) = said_refused e.number e.line
 
 -- ---- what a call owes
 
@@ -74,22 +73,22 @@ owed d n text = cond (up_to (length d.partitions) n) (owed_for d (read d.widths 
 -- ---- what the reply says and the buffer holds then
 
 -- what is said, and what the lent buffer holds after the call
-pub record Replies (r : Granting) (after : List ℕ) (said : SaidGranting) (holds : List ℕ) : Type 0 where
+pub record Replies (r : Result (Option ℕ) Refusal) (after : List ℕ) (said : SaidGranting) (holds : List ℕ) : Type 0 where
   pub reply : said_granting r ≡ said
   pub buffer : after ≡ holds
 
 -- "10: the lent buffer is shorter than the list", or the list at its head, "Numbers past the list stay"
-pub record Written (r : Granting) (before after added : List ℕ) : Type 0 where
+pub record Written (r : Result (Option ℕ) Refusal) (before after added : List ℕ) : Type 0 where
   pub short : length before < length added → Replies r after (said_refused 10 0) before
   pub room : length added ≤ length before → Replies r after (said_list (length added)) (headed added before)
 
 -- for each of the three, and the partition at place i, counted from 0
-abbrev pub Gives : Declared → ℕ → Granting → (before after : List ℕ) → Owed → Type 0
+abbrev pub Gives : Declared → ℕ → Result (Option ℕ) Refusal → (before after : List ℕ) → Owed → Type 0
 Gives d i r before after (refusal number line) = Replies r after (said_refused number line) before
 Gives d i r before after (nothing Q) = Replies r after said_none before × Hopeless d i Q
 Gives d i r before after (list Q) = (added : List ℕ) × Smallest d i Q added × Written r before after added
 
 -- a call for partition n, counted from 1, with a buffer as it was before and is after
-pub record GrantGiven (p : Policy) (n : ℕ) (text before : List ℕ) (r : Granting) (after : List ℕ) : Type 0 where
+pub record GrantGiven (p : Policy) (n : ℕ) (text before : List ℕ) (r : Result (Option ℕ) Refusal) (after : List ℕ) : Type 0 where
   pub unloaded : (Loadable p → ⊥) → Replies r after (said_refused 8 0) before
   pub loaded : (l : Loadable p) → Gives l.declared (n - 1) r before after (owed l.declared n text)

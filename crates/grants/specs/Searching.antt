@@ -1,15 +1,15 @@
 -- The labels that hold no granted view, and the views that hit them, as the code holds them.
-use Rattle.std.specs.Prelude.{◌≡◌, List, map, ℕ, ◌-◌, ◌^◌, ◌≤◌, ◌<◌, T, length, replicate}
+use Rattle.std.specs.Prelude.{◌≡◌, List, map, ℕ, ◌-◌, ◌^◌, ◌≤◌, ◌<◌, T, length, replicate, Option, Result}
 use Rattle.theory.specs.Query.{◌∈◌}
 use Rattle.words.specs.Bits.{is_set}
 use Rattle.words.specs.TestBits.{test_bits, up_from}
 use Rattle.model.specs.Limits.{most_lines, most_views}
+use Rattle.model.specs.declared.Refusal.{Refusal}
 use Rattle.word_list.specs.Value.{words_value}
 use Rattle.word_list.specs.declared.Words.{Words}
 use Rattle.explain.specs.Explanation.{lacking}
 use Rattle.hitting.specs.Best.{Numbered, Best, HoldsBest}
 use Rattle.label_lists.specs.HoldsLabels.{HoldsLabels}
-use Rattle.grants.specs.declared.granting.Granting.{Granting}
 use Rattle.grants.specs.Granting.{said_none, some_bare, Replies, Written}
 
 -- which of some words of views, the first at bit 0, hold view v + 1
@@ -39,7 +39,7 @@ abbrev pub SomeLabels : Words → Type 0
 SomeLabels l = (ws : List ℕ) × HoldsLabels l ws
 
 -- the grant for labels and the granted views of a partition, given in a buffer
-pub record LabelsGranted (granted : ℕ) (ws before : List ℕ) (r : Granting) (after : List ℕ) : Type 0 where
+pub record LabelsGranted (granted : ℕ) (ws before : List ℕ) (r : Result (Option ℕ) Refusal) (after : List ℕ) : Type 0 where
   pub bare : T (some_bare ws) → Replies r after said_none before
   pub held : (T (some_bare ws) → ⊥) → (added : List ℕ) × BestFor (lacking granted ws) added × Written r before after added
 

@@ -5,4 +5,4 @@
 mod granting;
 mod searching;
 
-pub use granting::{Granting, smallest_grant};
+pub use granting::smallest_grant;

@@ -1,5 +1,5 @@
 -- What a call of importing owes, told apart: a refusal, or the text of a rule without fault; and what follows over archives.
-use mathlib.Core.Path.{◌≡◌, refl, sym, ap, ap₂, subst, ◌∙◌}
+use mathlib.Core.Path.{◌≡◌, refl, sym, ap, subst, ◌∙◌}
 use mathlib.Core.Bool.{Bool, true, false, cond}
 use mathlib.Core.Logic.{◌⊎◌, inl, inr, ⊎_elim}
 use mathlib.Core.List.{List, [], ◌∷◌, ◌++◌, List-discrete}
@@ -10,10 +10,12 @@ use native.Mathlib.Omega.{arith}
 use lib.Dec.{ltb}
 use lib.ListN.{length, get_or, take, drop}
 use borrow.Author.Tests.{ltb-false}
+use Rattle.std.specs.Prelude.{Result, Ok, Err}
 use Rattle.theory.specs.Query.{◌∈◌}
 use Rattle.theory.specs.Executable.Test.{all, any}
 use Rattle.theory.proofs.Pigeonhole.{member}
 use Rattle.model.specs.declared.Policy.{Policy}
+use Rattle.model.specs.declared.Refusal.{Refusal}
 use Rattle.model.proofs.FirstFault.{found_in, first_fault_lem, a_fault}
 use Rattle.query_text.specs.Text.{most_query_bytes}
 use Rattle.query_text.specs.Print.{query_text}
@@ -27,9 +29,7 @@ use Rattle.rules.proofs.Answers.{imported_answers}
 use Rattle.rules.proofs.Printed.{rule_reads_exactly}
 use Rattle.rules.proofs.Shown.{numbers_apart, head_shown}
 use Rattle.rules.proofs.WellRead.{rule_well_read, rule_text_reads}
-use Rattle.desk.proofs.Unique.{either_way, both?}
-use Rattle.import.specs.declared.importing.Imported.{Imported}
-use Rattle.import.specs.declared.importing.Imported.TheVariants.{Written, Refused}
+use Rattle.desk.proofs.Unique.{either_way, both?, one_refusal}
 use Rattle.import.specs.Translating.{Narrow}
 use Rattle.import.specs.Import.{Word, says_written, says_refused, SaidImport, said_written, said_refused, said_import}
 use Rattle.import.specs.Import.{Owed, refusal, text, most_rule_bytes, owed_text, owed_for, owed_rule, owed, placed, Gives, ImportGiven}
@@ -39,7 +39,7 @@ use Rattle.import.proofs.Placed.{placed_bytes, placed_front, placed_rest, placed
 -- ---- the two cases
 
 -- turned back by one of the numbers, and the buffer stays
-record Turned (r : Imported) (before after : List ℕ) : Type 0 where
+record Turned (r : Result ℕ Refusal) (before after : List ℕ) : Type 0 where
   number : ℕ
   line : ℕ
   listed : number ∈ import_numbers
@@ -47,7 +47,7 @@ record Turned (r : Imported) (before after : List ℕ) : Type 0 where
   stays : after ≡ before
 
 -- the text of a rule without fault is written
-record Done (widths rule : List ℕ) (place : ℕ) (r : Imported) (before after : List ℕ) : Type 0 where
+record Done (widths rule : List ℕ) (place : ℕ) (r : Result ℕ Refusal) (before after : List ℕ) : Type 0 where
   is : Rule
   parses : rule_of rule ≡ some is
   clear : rule_fault widths is ≡ 0
@@ -63,7 +63,7 @@ fault_listed widths x n e =
     (subst (λ (k : ℕ). k ∈ 0 ∷ import_numbers) e
     (first_fault_lem import_numbers (body_checks widths x.body (query_of x) ++ head_checks x) tt))
 
-module _ (widths rule : List ℕ) (place : ℕ) (r : Imported) (before after : List ℕ) where
+module _ (widths rule : List ℕ) (place : ℕ) (r : Result ℕ Refusal) (before after : List ℕ) where
   abbrev Told : Type 0
   Told = Turned r before after ⊎ Done widths rule place r before after
 
@@ -105,36 +105,36 @@ written≢refused : says_written ≡ says_refused → ⊥
 unfolding word_number
 written≢refused e = omega (arith, ap word_number e)
 
-said_one : (r t : Imported) → said_import r ≡ said_import t → r ≡ t
-unfolding said_import
-said_one (Written n) (Written m) e = ap Written (ap (λ (s : SaidImport). s.bytes) e)
-said_one (Written n) (Refused m j) e = absurd (written≢refused (ap (λ (s : SaidImport). s.word) e))
-said_one (Refused m j) (Written n) e = absurd (written≢refused (sym (ap (λ (s : SaidImport). s.word) e)))
-said_one (Refused n k) (Refused m j) e = ap₂ Refused (ap (λ (s : SaidImport). s.number) e) (ap (λ (s : SaidImport). s.line) e)
-
 -- a reply as a list of numbers, which tells replies apart
-code : Imported → List ℕ
-code (Written n) = 0 ∷ n ∷ []
-code (Refused n k) = 1 ∷ n ∷ k ∷ []
+code : Result ℕ Refusal → List ℕ
+code (Ok n) = 0 ∷ n ∷ []
+code (Err d) = 1 ∷ d.number ∷ d.line ∷ []
 
-code_one : (r t : Imported) → code r ≡ code t → r ≡ t
+code_one : (r t : Result ℕ Refusal) → code r ≡ code t → r ≡ t
 unfolding code
-code_one (Written n) (Written m) e = ap Written (ap (λ (l : List ℕ). get_or l 1 0) e)
-code_one (Written n) (Refused m j) e = absurd (omega (arith, ap (λ (l : List ℕ). get_or l 0 0) e))
-code_one (Refused m j) (Written n) e = absurd (omega (arith, ap (λ (l : List ℕ). get_or l 0 0) e))
-code_one (Refused n k) (Refused m j) e = ap₂ Refused (ap (λ (l : List ℕ). get_or l 1 0) e) (ap (λ (l : List ℕ). get_or l 2 0) e)
+code_one (Ok n) (Ok m) e = cc
+code_one (Ok n) (Err d) e = absurd (omega (arith, ap (λ (l : List ℕ). get_or l 0 0) e))
+code_one (Err d) (Ok n) e = absurd (omega (arith, ap (λ (l : List ℕ). get_or l 0 0) e))
+code_one (Err c) (Err d) e = ap Err (one_refusal (ap (λ (l : List ℕ). get_or l 1 0) e) (ap (λ (l : List ℕ). get_or l 2 0) e))
 
-same? : (r t : Imported) → Dec (r ≡ t)
+said_one : (r t : Result ℕ Refusal) → said_import r ≡ said_import t → r ≡ t
+unfolding said_import
+said_one (Ok n) (Ok m) e = ap Ok (ap (λ (s : SaidImport). s.bytes) e)
+said_one (Ok n) (Err d) e = absurd (written≢refused (ap (λ (s : SaidImport). s.word) e))
+said_one (Err d) (Ok n) e = absurd (written≢refused (sym (ap (λ (s : SaidImport). s.word) e)))
+said_one (Err c) (Err d) e = ap Err (one_refusal (ap (λ (s : SaidImport). s.number) e) (ap (λ (s : SaidImport). s.line) e))
+
+same? : (r t : Result ℕ Refusal) → Dec (r ≡ t)
 same? r t = map_dec (code_one r t) (ap code) (List-discrete ℕ_discrete (code r) (code t))
 
-module _ (place : ℕ) (before : List ℕ) (r t : Imported) {after then : List ℕ} where
+module _ (place : ℕ) (before : List ℕ) (r t : Result ℕ Refusal) {after then : List ℕ} where
   one_given : (o : Owed) → Gives place r before after o → Gives place t before then o → (r ≡ t) × (after ≡ then)
   one_given (refusal n k) g h = (said_one r t (g.0 ∙ sym h.0), g.1 ∙ sym h.1)
   one_given (text l) g h = (said_one r t (g.0 ∙ sym h.0), g.1 ∙ sym h.1)
 
 -- ---- what holds of a call
 
-module _ (p : Policy) (rule : List ℕ) (place : ℕ) (before : List ℕ) (r : Imported) (after : List ℕ) where
+module _ (p : Policy) (rule : List ℕ) (place : ℕ) (before : List ℕ) (r : Result ℕ Refusal) (after : List ℕ) where
   narrow : (l : Loadable p) → Narrow l.declared.widths
   narrow l = (loaded_well_formed l.text l.declared l.loads).tables.each
 

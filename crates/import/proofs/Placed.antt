@@ -7,26 +7,26 @@ use native.Mathlib.Omega.{arith}
 use lib.ListN.{length, take, drop, length-append, length-drop, drop_of_length-le, take-append-drop}
 use lib.Seq.{take_at, drop_at, length-take-le, drop-drop}
 use borrow.Author.Tests.{lt-ltb, le-ltb}
+use Rattle.std.specs.Prelude.{Ok, Err}
 use Rattle.text.proofs.Parts.{to_end}
 use Rattle.writing.specs.Wrote.{Wrote}
-use Rattle.import.specs.declared.importing.Imported.TheVariants.{Written, Refused}
 use Rattle.import.specs.Import.{owed_text, said_import, placed, TextGiven}
 use Rattle.import.specs.Outcomes.{bytes_at}
 
 -- ---- how many bytes are said
 
-pub none_said : {n : ℕ} (number line : ℕ) → (said_import (Refused number line)).bytes ≤ n
+pub none_said : {n : ℕ} (number line : ℕ) → (said_import (Err (record { number = number; line = line }))).bytes ≤ n
 unfolding said_import
 none_said number line = zero-le
 
-pub written_said : {n m : ℕ} → n ≤ m → (said_import (Written n)).bytes ≤ m
+pub written_said : {n m : ℕ} → n ≤ m → (said_import (Ok n)).bytes ≤ m
 unfolding said_import
 written_said h = h
 
 -- ---- the reply
 
 module _ (t : List ℕ) (place : ℕ) (buffer : List ℕ) where
-  pub no_room : length buffer < place + length t → TextGiven t place buffer (Refused 10 0) buffer
+  pub no_room : length buffer < place + length t → TextGiven t place buffer (Err (record { number = 10; line = 0 })) buffer
   unfolding owed_text said_import
   no_room h = rw (lt-ltb (length buffer) (place + length t) h) (refl, refl)
 
@@ -50,7 +50,7 @@ module _ (t : List ℕ) (place : ℕ) (buffer : List ℕ) where
       ap (λ (l : List ℕ). is ++ l) (drop_of_length-le (drop place buffer) all) ∙ append-nil is ∙ part_written w
 
   pub text_placed : {is : List ℕ} {r : ℕ} → place + length t ≤ length buffer → Wrote part 0 t is r
-      → TextGiven t place buffer (Written (length t)) (take place buffer ++ (is ++ drop (length buffer - place) (drop place buffer)))
+      → TextGiven t place buffer (Ok (length t)) (take place buffer ++ (is ++ drop (length buffer - place) (drop place buffer)))
   unfolding owed_text said_import
   text_placed h w =
       rw (le-ltb (length buffer) (place + length t) h) (

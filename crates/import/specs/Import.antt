@@ -1,9 +1,10 @@
 -- Request 3, "Turn such a rule into a query text": the contract of `import_rule`.
-use Rattle.std.specs.Prelude.{◌≡◌, cond, List, ◌++◌, ℕ, zero, suc, ◌+◌, ltb, length, take, drop}
+use Rattle.std.specs.Prelude.{◌≡◌, cond, List, ◌++◌, ℕ, zero, suc, ◌+◌, ltb, length, take, drop, Result, Ok, Err}
 use Rattle.std.proofs.Math.Option.{Option, none, some}
 use Rattle.model.specs.Value.{tables_value}
 use Rattle.model.specs.declared.Tables.{Tables}
 use Rattle.model.specs.declared.Policy.{Policy}
+use Rattle.model.specs.declared.Refusal.{Refusal}
 use Rattle.query_text.specs.Print.{query_text}
 use Rattle.validity.specs.Loadable.{Loadable}
 use Rattle.rules.specs.Rule.{Rule}
@@ -11,8 +12,6 @@ use Rattle.rules.specs.Text.{rule_of}
 use Rattle.rules.specs.Numbering.{query_of}
 use Rattle.rules.specs.Checks.{rule_fault}
 use Rattle.import.specs.Translating.{Narrow}
-use Rattle.import.specs.declared.importing.Imported.{Imported}
-use Rattle.import.specs.declared.importing.Imported.TheVariants.{Written, Refused}
 
 -- ---- the reply
 
@@ -36,9 +35,9 @@ abbrev pub said_refused : (number line : ℕ) → SaidImport
 said_refused n k = record { word = says_refused; bytes = 0; number = n; line = k }
 
 -- of each case of the reply
-unfoldable pub said_import : Imported → SaidImport
-said_import (Written n) = said_written n
-said_import (Refused n k) = said_refused n k
+unfoldable pub said_import : Result ℕ Refusal → SaidImport
+said_import (Ok n) = said_written n
+said_import (Err e) = said_refused e.number e.line
 
 -- ---- what a call owes
 
@@ -77,20 +76,20 @@ abbrev pub placed : ℕ → List ℕ → List ℕ → List ℕ
 placed place t buffer = take place buffer ++ t ++ drop (place + length t) buffer
 
 -- for both: what the reply says, and the buffer before and after the call
-abbrev pub Gives : ℕ → Imported → (before after : List ℕ) → Owed → Type 0
+abbrev pub Gives : ℕ → Result ℕ Refusal → (before after : List ℕ) → Owed → Type 0
 Gives place r before after (refusal number line) = (said_import r ≡ said_refused number line) × (after ≡ before)
 Gives place r before after (text t) = (said_import r ≡ said_written (length t)) × (after ≡ placed place t before)
 
 -- a text that is to be written
-abbrev pub TextGiven : List ℕ → ℕ → List ℕ → Imported → List ℕ → Type 0
+abbrev pub TextGiven : List ℕ → ℕ → List ℕ → Result ℕ Refusal → List ℕ → Type 0
 TextGiven t place before r after = Gives place r before after (owed_text place (length before) t)
 
 -- a rule under tables that were checked: each has 1 to the most columns
-abbrev pub RuleGiven : Tables → List ℕ → ℕ → List ℕ → Imported → List ℕ → Type 0
+abbrev pub RuleGiven : Tables → List ℕ → ℕ → List ℕ → Result ℕ Refusal → List ℕ → Type 0
 RuleGiven tables rule place before r after =
     (widths : List ℕ) → tables ≡ tables_value widths → Narrow widths → Gives place r before after (owed widths rule place (length before))
 
 -- "A policy no loading gives meets 8 first"
-pub record ImportGiven (p : Policy) (rule : List ℕ) (place : ℕ) (before : List ℕ) (r : Imported) (after : List ℕ) : Type 0 where
+pub record ImportGiven (p : Policy) (rule : List ℕ) (place : ℕ) (before : List ℕ) (r : Result ℕ Refusal) (after : List ℕ) : Type 0 where
   pub unloaded : (Loadable p → ⊥) → Gives place r before after (refusal 8 0)
   pub loaded : (l : Loadable p) → Gives place r before after (owed l.declared.widths rule place (length before))

@@ -5,4 +5,4 @@
 mod importing;
 mod translating;
 
-pub use importing::{Imported, import_checked, import_rule};
+pub use importing::{import_checked, import_rule};

@@ -1,14 +1,13 @@
 -- Document 01, "Labels".
-use Rattle.std.specs.Prelude.{◌≡◌, Bool, true, false, cond, List, ℕ, length}
+use Rattle.std.specs.Prelude.{◌≡◌, Bool, true, false, cond, List, ℕ, length, Result, Ok, Err}
 use Rattle.theory.specs.Executable.Label.{labels}
 use Rattle.word_list.specs.Order.{ascending}
 use Rattle.model.specs.declared.Policy.{Policy}
+use Rattle.model.specs.declared.Refusal.{Refusal}
 use Rattle.query_text.specs.Text.{Reading, refused, accepted, read}
 use Rattle.policy_text.specs.Declared.{Declared}
 use Rattle.validity.specs.Loadable.{Loadable}
 use Rattle.label_lists.specs.Buffer.{too_short, headed}
-use Rattle.label_lists.specs.declared.Listing.{Listing}
-use Rattle.label_lists.specs.declared.Listing.TheVariants.{Given, Refused}
 
 -- what the reply says: whether labels are given, "the list's length", the refusal's number and its line
 pub record SaidListing : Type 0 where
@@ -17,9 +16,9 @@ pub record SaidListing : Type 0 where
   pub number : ℕ
   pub line : ℕ
 
-unfoldable pub said_listing : Listing → SaidListing
-said_listing (Given n) = record { given = true; count = n; number = 0; line = 0 }
-said_listing (Refused n k) = record { given = false; count = 0; number = n; line = k }
+unfoldable pub said_listing : Result ℕ Refusal → SaidListing
+said_listing (Ok n) = record { given = true; count = n; number = 0; line = 0 }
+said_listing (Err e) = record { given = false; count = 0; number = e.number; line = e.line }
 
 -- what is said, and what the lent buffer then holds
 pub record Listed : Type 0 where
@@ -47,11 +46,11 @@ list_reading d buffer (refused n k) = not_listed buffer n k
 list_reading d buffer (accepted Q) = listed buffer (ascending (labels d.views Q))
 
 -- a reply and the buffer after the call
-pub record Lists (r : Listing) (after : List ℕ) (o : Listed) : Type 0 where
+pub record Lists (r : Result ℕ Refusal) (after : List ℕ) (o : Listed) : Type 0 where
   pub reply : said_listing r ≡ o.says
   pub buffer : after ≡ o.holds
 
 -- "Labels. 8, the text as above, then 10"
-pub record LabelsGiven (p : Policy) (text before : List ℕ) (r : Listing) (after : List ℕ) : Type 0 where
+pub record LabelsGiven (p : Policy) (text before : List ℕ) (r : Result ℕ Refusal) (after : List ℕ) : Type 0 where
   pub unloaded : (Loadable p → ⊥) → Lists r after (not_listed before 8 0)
   pub loaded : (l : Loadable p) → Lists r after (list_reading l.declared before (read l.declared.widths text))

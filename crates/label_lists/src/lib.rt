@@ -7,52 +7,40 @@ ghost use Rattle.model.specs.Limits.{most_lines};
 ghost use Rattle.word_list.specs.Value.{words_value};
 ghost use Rattle.label_lists.specs.Listing.{LabelsGiven, Lists, listed};
 
-use model::{MOST_LINES, Policy};
+use model::{MOST_LINES, Policy, Refusal};
 use word_list::Words;
 
-// How many labels there are, or what turns the call back.
-#[derive(Clone, Copy)]
-pub enum Listing {
-    Given { count: u64 },
-    Refused { number: u64, line: u64 },
-}
-
-// The labels of a query text, ascending; numbers past them stay.
-pub fn labels(p: Policy, text: &[u8], out: &mut [u64]) -> Listing
+// The labels of a query text, ascending, and how many there are; numbers past them stay.
+pub fn labels(p: Policy, text: &[u8], out: &mut [u64]) -> Result<usize, Refusal>
     ensures { LabelsGiven p text.now out.old result out.new }
 {
     if !validity::valid(p) {
-        return Listing::Refused { number: 8, line: 0 };
+        return Err(Refusal { number: 8, line: 0 });
     }
     match labelling::ask(p, text) {
         Ok(l) => {
             let w = word_list::ascending(l.words);
             give_labels(w, out)
         }
-        Err(r) => Listing::Refused {
-            number: r.number,
-            line: r.line,
-        },
+        Err(r) => Err(r),
     }
 }
 
-// The labels at the head of the buffer, or 10.
-fn give_labels(l: Words, out: &mut [u64]) -> Listing
+// The labels at the head of the buffer, and how many there are, or 10.
+fn give_labels(l: Words, out: &mut [u64]) -> Result<usize, Refusal>
     requires { l.count ≤ most_lines }
     ensures { (ws : List ℕ) → l ≡ words_value ws → Lists result out.new (listed out.old ws) }
 {
     let count = l.count;
     if out.len() < count {
-        return Listing::Refused {
+        return Err(Refusal {
             number: 10,
             line: 0,
-        };
+        });
     }
     let words = l.words;
     copy_words(words, count, out);
-    Listing::Given {
-        count: count as u64,
-    }
+    Ok(count)
 }
 
 // The first words at the head of the buffer; numbers past them stay.

@@ -1,14 +1,13 @@
 // The smallest extra grant asked for again and again.
 
-use grants::Granting;
-use model::{MOST_LINES, Policy};
+use model::{MOST_LINES, Policy, Refusal};
 
 // A number for each reply: 1 and its count for a list, 100 for `none`, and for a refusal 1,000 and its number.
-fn number_of(r: Granting) -> u64 {
+fn number_of(r: Result<Option<usize>, Refusal>) -> u64 {
     match r {
-        Granting::Given { count } => 1u64.wrapping_add(count),
-        Granting::Nothing => 100,
-        Granting::Refused { number, .. } => 1000u64.wrapping_add(number),
+        Ok(Some(count)) => 1u64.wrapping_add(count as u64),
+        Ok(None) => 100,
+        Err(Refusal { number, .. }) => 1000u64.wrapping_add(number),
     }
 }
 

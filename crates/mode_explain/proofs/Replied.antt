@@ -10,10 +10,12 @@ use borrow.Author.Tests.{le-ltb}
 use lib.ListN.{length, take, drop, get_or, length-append}
 use lib.Pow.{pow_mono}
 use lib.Seq.{take_at}
+use Rattle.std.specs.Prelude.{Result, Ok, Err}
 use Rattle.theory.specs.Query.{Query}
 use Rattle.theory.specs.Executable.Label.{labels}
 use Rattle.model.specs.Limits.{most_lines, up_to}
 use Rattle.model.specs.declared.Policy.{Policy}
+use Rattle.model.specs.declared.Refusal.{Refusal}
 use Rattle.query_text.specs.Text.{Reading, refused, accepted, read}
 use Rattle.query_text.proofs.Accepted.{accepted_well_read}
 use Rattle.policy_text.specs.Declared.{Declared}
@@ -29,7 +31,6 @@ use Rattle.explain.specs.Explanation.{explained}
 use Rattle.explanations.specs.Explaining.{said_explaining, Explained, not_explained, explained_by, explain_reading, ExplanationGiven}
 use Rattle.explanations.specs.Explaining.{explain_under as explains_under}
 use Rattle.explanations.specs.declared.Explaining.{Explaining}
-use Rattle.explanations.specs.declared.Explaining.TheVariants.{Settled, Unsettled, Refused}
 use Rattle.labelling.proofs.Loaded.{loaded_to}
 use Rattle.explanations.proofs.Narrow.{each_most, most_length, explained_most}
 use Rattle.page.specs.Sizes.{Shown}
@@ -94,7 +95,7 @@ module _ (d : Declared) (good : WellFormed d) (n : ℕ) (text before : List ℕ)
 
 -- ---- of a call with a buffer that has room for every explanation
 
-module _ {p : Policy} {n : ℕ} {text before after : List ℕ} {r : Explaining} (g : ExplanationGiven p n text before r after)
+module _ {p : Policy} {n : ℕ} {text before after : List ℕ} {r : Result Explaining Refusal} (g : ExplanationGiven p n text before r after)
     (room : length before ≡ most_lines) (l : Loadable p) where
   abbrev d : Declared
   d = l.declared
@@ -108,22 +109,18 @@ module _ {p : Policy} {n : ℕ} {text before after : List ℕ} {r : Explaining} 
       subst (Fine d good n text before room (explain_under d n text)) (λ i. record { says = sym e.reply i; holds = sym e.buffer i })
       (under_fine d good n text before room)
 
-  told_as : {t : Explaining} → r ≡ t → Fine d good n text before room (explain_under d n text) (record { says = said_explaining t; holds = after })
-  told_as e = subst (λ (t : Explaining). Fine d good n text before room (explain_under d n text) (record { says = said_explaining t; holds = after })) e reply_fine
+  told_as : {t : Result Explaining Refusal} → r ≡ t → Fine d good n text before room (explain_under d n text) (record { says = said_explaining t; holds = after })
+  told_as e = subst (λ (t : Result Explaining Refusal). Fine d good n text before room (explain_under d n text) (record { says = said_explaining t; holds = after })) e reply_fine
 
   abbrev pub Told : Bool → ℕ → Type 0
   Told settles count =
       (count ≤ most_lines) × (count ≤ length after) × (explanation d.views settles (take count after) ≡ explain_under d n text)
 
-  pub settled_told : {count : ℕ} → r ≡ Settled count → Told true count
+  pub told : {x : Explaining} → r ≡ Ok x → Told x.is_settled x.count
   unfolding said_explaining shows
-  settled_told e = let f = told_as e in (f.few, f.inside, f.says_page)
+  told e = let f = told_as e in (f.few, f.inside, f.says_page)
 
-  pub unsettled_told : {count : ℕ} → r ≡ Unsettled count → Told false count
-  unfolding said_explaining shows
-  unsettled_told e = let f = told_as e in (f.few, f.inside, f.says_page)
-
-  pub not_told : {k line : ℕ} → r ≡ Refused k line → Shown text line × (query_refused text k line ≡ explain_under d n text)
+  pub not_told : {k line : ℕ} → r ≡ Err (record { number = k; line = line }) → Shown text line × (query_refused text k line ≡ explain_under d n text)
   unfolding said_explaining shows
   not_told e = let f = told_as e in (f.shown, f.says_page)
 

@@ -9,8 +9,7 @@ ghost use Rattle.writing.specs.Wrote.{Wrote};
 ghost use Rattle.page.specs.Sizes.{most_page};
 ghost use Rattle.mode_explain.specs.ExplainPage.{most_word, most_first, WordPut, WordsPut, explanation, explain_under, explain_page};
 
-use desk::Explaining;
-use model::{MOST_LINES, Policy};
+use model::{MOST_LINES, Policy, Refusal};
 
 // A word of an explanation: its views, and their text below.
 fn put_word(out: &mut [u8], at: usize, p: Policy, word: u32) -> usize
@@ -58,21 +57,8 @@ fn explain_under(p: Policy, n: u64, query: &[u8], out: &mut [u8]) -> usize
 {
     let mut cells = [0; MOST_LINES];
     match desk::explain(p, n, query, &mut cells) {
-        Explaining::Settled { count } => {
-            let end = count as usize;
-            put_explanation(out, true, p, &cells[..end])
-        }
-        Explaining::Unsettled { count } => {
-            let end = count as usize;
-            put_explanation(out, false, p, &cells[..end])
-        }
-        Explaining::Refused { number, line } => page::refusal_page(
-            b"refused ",
-            query,
-            number,
-            line,
-            out,
-        ),
+        Ok(e) => put_explanation(out, e.is_settled, p, &cells[..e.count]),
+        Err(Refusal { number, line }) => page::refusal_page(b"refused ", query, number, line, out),
     }
 }
 

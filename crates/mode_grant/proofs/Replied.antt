@@ -7,12 +7,14 @@ use Prim.Native.Nat.{ℕ, ◌-◌, ◌≤◌}
 use native.Mathlib.Omega.{arith}
 use lib.ListN.{length, take, drop, length-append}
 use lib.Seq.{take_at}
+use Rattle.std.specs.Prelude.{Option, Some, None, Result, Ok, Err}
 use Rattle.theory.specs.Query.{Line, Query}
 use Rattle.theory.specs.Executable.Label.{labels}
 use Rattle.text.specs.Lines.{newline}
 use Rattle.text.specs.Names.{bytes}
 use Rattle.model.specs.Limits.{most_views, up_to}
 use Rattle.model.specs.declared.Policy.{Policy}
+use Rattle.model.specs.declared.Refusal.{Refusal}
 use Rattle.model.proofs.Limits.{up_to_iff}
 use Rattle.query_text.specs.Text.{Reading, refused, accepted, read}
 use Rattle.policy_text.specs.Declared.{Declared as Declares}
@@ -24,8 +26,6 @@ use Rattle.labelling.proofs.Loaded.{loaded_to}
 use Rattle.grants.specs.Smallest.{Smallest}
 use Rattle.grants.specs.Granting.{SaidGranting, said_granting, said_list, said_none, said_refused, says_list, says_none, says_refused}
 use Rattle.grants.specs.Granting.{Owed, refusal, nothing, list, owed, owed_for, some_bare, Gives, GrantGiven}
-use Rattle.grants.specs.declared.granting.Granting.{Granting}
-use Rattle.grants.specs.declared.granting.Granting.TheVariants.{Given, Nothing, Refused}
 use Rattle.page.specs.Sizes.{Shown}
 use Rattle.page.specs.Refusal.{policy_refused, query_refused}
 use Rattle.page.proofs.Texts.{query_shown}
@@ -79,7 +79,7 @@ module _ (d : Declares) (n : ℕ) (text : List ℕ) where
 
 -- ---- of a call with a buffer that has room for every list
 
-module _ {p : Policy} {n : ℕ} {text before after : List ℕ} {r : Granting} (g : GrantGiven p n text before r after)
+module _ {p : Policy} {n : ℕ} {text before after : List ℕ} {r : Result (Option ℕ) Refusal} (g : GrantGiven p n text before r after)
     (room : length before ≡ most_views) (l : Loadable p) where
   abbrev d : Declares
   d = l.declared
@@ -103,7 +103,7 @@ module _ {p : Policy} {n : ℕ} {text before after : List ℕ} {r : Granting} (g
     pub ranged : InRange (take count after)
     pub page : PageOf d (n - 1) text (grant_lines d.views (take count after)) o
 
-  pub grant_given : {count : ℕ} → r ≡ Given count → Adds count (owed d n text)
+  pub grant_given : {count : ℕ} → r ≡ Ok (Some count) → Adds count (owed d n text)
   unfolding said_granting
   grant_given {count} e = go (owed d n text) (g.loaded l)
     where
@@ -127,7 +127,7 @@ module _ {p : Policy} {n : ℕ} {text before after : List ℕ} {r : Granting} (g
             page = (added, s, ap (grant_lines d.views) a);
           }
 
-  pub grant_none : r ≡ Nothing → GrantUnder d n text none_line
+  pub grant_none : r ≡ Ok None → GrantUnder d n text none_line
   unfolding said_granting
   grant_none e = go (owed d n text) (g.loaded l)
     where
@@ -141,7 +141,7 @@ module _ {p : Policy} {n : ℕ} {text before after : List ℕ} {r : Granting} (g
           let t : said_none ≡ said_list (length added) = rw e at h.reply in
           absurd (list≢none (sym (ap (λ (x : SaidGranting). x.word) t)))
 
-  pub grant_refused : {k line : ℕ} → r ≡ Refused k line → Shown text line × GrantUnder d n text (query_refused text k line)
+  pub grant_refused : {k line : ℕ} → r ≡ Err (record { number = k; line = line }) → Shown text line × GrantUnder d n text (query_refused text k line)
   unfolding said_granting
   grant_refused {k} {line} e = go (owed d n text) refl (g.loaded l)
     where

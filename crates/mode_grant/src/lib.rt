@@ -10,8 +10,7 @@ ghost use Rattle.page.specs.Sizes.{most_page};
 ghost use Rattle.view_texts.specs.ViewTexts.{InRange};
 ghost use Rattle.mode_grant.specs.GrantPage.{grant_lines, GrantUnder, GrantPage, Writes};
 
-use grants::Granting;
-use model::{MOST_VIEWS, Policy};
+use model::{MOST_VIEWS, Policy, Refusal};
 
 // The views to add, and their text; none where the partition settles the query.
 fn put_grant(out: &mut [u8], p: Policy, numbers: &[u32]) -> usize
@@ -33,18 +32,9 @@ fn grant_under(p: Policy, n: u64, query: &[u8], out: &mut [u8]) -> usize
 {
     let mut cells = [0; MOST_VIEWS];
     match grants::smallest_grant(p, n, query, &mut cells) {
-        Granting::Given { count } => {
-            let end = count as usize;
-            put_grant(out, p, &cells[..end])
-        }
-        Granting::Nothing => writing::put_bytes(out, 0, b"none\n"),
-        Granting::Refused { number, line } => page::refusal_page(
-            b"refused ",
-            query,
-            number,
-            line,
-            out,
-        ),
+        Ok(Some(count)) => put_grant(out, p, &cells[..count]),
+        Ok(None) => writing::put_bytes(out, 0, b"none\n"),
+        Err(Refusal { number, line }) => page::refusal_page(b"refused ", query, number, line, out),
     }
 }
 

@@ -8,10 +8,12 @@ use borrow.Author.Tests.{le-ltb}
 use lib.Dec.{ltb}
 use lib.ListN.{length, take, drop, length-append}
 use lib.Seq.{take_at}
+use Rattle.std.specs.Prelude.{Result, Ok, Err}
 use Rattle.theory.specs.Query.{Query}
 use Rattle.theory.specs.Executable.Label.{labels}
 use Rattle.model.specs.Limits.{most_lines}
 use Rattle.model.specs.declared.Policy.{Policy}
+use Rattle.model.specs.declared.Refusal.{Refusal}
 use Rattle.query_text.specs.Text.{Reading, refused, accepted, read}
 use Rattle.policy_text.specs.Declared.{Declared}
 use Rattle.policy_text.specs.Text.{load}
@@ -20,8 +22,6 @@ use Rattle.validity.specs.Loadable.{Loadable}
 use Rattle.word_list.specs.Order.{insert, ascending}
 use Rattle.labelling.proofs.Posing.{few_labels}
 use Rattle.label_lists.specs.Listing.{SaidListing, said_listing, not_listed, given, listed, list_reading, Lists, LabelsGiven}
-use Rattle.label_lists.specs.declared.Listing.{Listing}
-use Rattle.label_lists.specs.declared.Listing.TheVariants.{Given, Refused}
 use Rattle.page.specs.Sizes.{Shown}
 use Rattle.page.proofs.Texts.{query_shown}
 use Rattle.page.specs.Refusal.{policy_refused, query_refused}
@@ -53,17 +53,17 @@ module _ (d : Declared) (text buffer : List ℕ) (room : length buffer ≡ most_
   few Q e = omega (arith, ascending_length (labels d.views Q), few_labels d.views d.widths text Q e)
 
   -- the buffer has room for every list
-  fits : (Q : Query) → read d.widths text ≡ accepted Q → {r : Listing} {after : List ℕ}
+  fits : (Q : Query) → read d.widths text ≡ accepted Q → {r : Result ℕ Refusal} {after : List ℕ}
       → Lists r after (list_reading d buffer (accepted Q)) → Lists r after (given (list Q) buffer)
   unfolding list_reading listed
   fits Q e {r} {after} g = rw (le-ltb (length buffer) (length (list Q)) (omega (arith, room, few Q e))) at g
 
-  reply_refused : {n k : ℕ} {after : List ℕ} → Lists (Refused n k) after (list_reading d buffer (read d.widths text))
+  reply_refused : {n k : ℕ} {after : List ℕ} → Lists (Err (record { number = n; line = k })) after (list_reading d buffer (read d.widths text))
       → read d.widths text ≡ refused n k
   unfolding list_reading not_listed said_listing given
   reply_refused {n} {k} {after} g = go (read d.widths text) refl g
     where
-      go : (v : Reading) → read d.widths text ≡ v → Lists (Refused n k) after (list_reading d buffer v) → read d.widths text ≡ refused n k
+      go : (v : Reading) → read d.widths text ≡ v → Lists (Err (record { number = n; line = k })) after (list_reading d buffer v) → read d.widths text ≡ refused n k
       go (refused m j) e h =
           let a : n ≡ m = ap (λ (s : SaidListing). s.number) h.reply in
           let b : k ≡ j = ap (λ (s : SaidListing). s.line) h.reply in
@@ -78,12 +78,12 @@ module _ (d : Declared) (text buffer : List ℕ) (room : length buffer ≡ most_
     pub inside : count ≤ length after
     pub are : take count after ≡ list query
 
-  reply_given : {count : ℕ} {after : List ℕ} → Lists (Given count) after (list_reading d buffer (read d.widths text))
+  reply_given : {count : ℕ} {after : List ℕ} → Lists (Ok count) after (list_reading d buffer (read d.widths text))
       → Labels count after
   unfolding list_reading not_listed said_listing given
   reply_given {count} {after} g = go (read d.widths text) refl g
     where
-      go : (v : Reading) → read d.widths text ≡ v → Lists (Given count) after (list_reading d buffer v) → Labels count after
+      go : (v : Reading) → read d.widths text ≡ v → Lists (Ok count) after (list_reading d buffer v) → Labels count after
       go (refused m j) e h = absurd (true≢false (ap (λ (s : SaidListing). s.given) h.reply))
       go (accepted Q) e h =
           let l = fits Q e h in
@@ -107,15 +107,15 @@ page_turned d text n k e = rw e
 
 -- ---- of a call with a buffer that has room for every list
 
-module _ {p : Policy} {text before after : List ℕ} {r : Listing} (g : LabelsGiven p text before r after) (room : length before ≡ most_lines)
+module _ {p : Policy} {text before after : List ℕ} {r : Result ℕ Refusal} (g : LabelsGiven p text before r after) (room : length before ≡ most_lines)
     (l : Loadable p) where
-  pub labels_told : {count : ℕ} → r ≡ Given count
+  pub labels_told : {count : ℕ} → r ≡ Ok count
       → (count ≤ most_lines) × (count ≤ length after) × (label_lines (take count after) ≡ labels_under l.declared text)
   labels_told e =
       let m = reply_given l.declared text before room (rw e at (g.loaded l)) in
       (m.within, m.inside, page_given l.declared text before room m)
 
-  pub labels_untold : {n k : ℕ} → r ≡ Refused n k → Shown text k × (query_refused text n k ≡ labels_under l.declared text)
+  pub labels_untold : {n k : ℕ} → r ≡ Err (record { number = n; line = k }) → Shown text k × (query_refused text n k ≡ labels_under l.declared text)
   labels_untold {n} {k} e =
       let m = reply_refused l.declared text before room (rw e at (g.loaded l)) in
       (query_shown l.declared.widths text n k m, page_turned l.declared text n k m)

@@ -9,8 +9,7 @@ ghost use Rattle.writing.specs.Wrote.{Wrote};
 ghost use Rattle.page.specs.Sizes.{most_page};
 ghost use Rattle.mode_labels.specs.LabelLines.{most_label, label_line, label_lines, labels_under, labels_page};
 
-use desk::Listing;
-use model::{MOST_LINES, Policy};
+use model::{MOST_LINES, Policy, Refusal};
 
 // A label: its word, its table and its views.
 fn put_label(out: &mut [u8], at: usize, w: u64) -> usize
@@ -46,17 +45,8 @@ fn labels_under(p: Policy, query: &[u8], out: &mut [u8]) -> usize
 {
     let mut cells = [0; MOST_LINES];
     match desk::labels(p, query, &mut cells) {
-        Listing::Given { count } => {
-            let end = count as usize;
-            put_labels(out, &cells[..end])
-        }
-        Listing::Refused { number, line } => page::refusal_page(
-            b"refused ",
-            query,
-            number,
-            line,
-            out,
-        ),
+        Ok(count) => put_labels(out, &cells[..count]),
+        Err(Refusal { number, line }) => page::refusal_page(b"refused ", query, number, line, out),
     }
 }
 

@@ -6,13 +6,13 @@ use Prim.Native.Nat.{ℕ, ◌+◌, ◌*◌, ◌≤◌}
 use native.Mathlib.Omega.{arith}
 use lib.ListN.{length, take, drop, length-append}
 use lib.Seq.{take_at, length-take-le}
+use Rattle.std.specs.Prelude.{Result, Ok, Err}
 use Rattle.text.specs.Lines.{space, newline}
 use Rattle.text.specs.Names.{bytes}
 use Rattle.text.specs.Print.{decimal}
+use Rattle.model.specs.declared.Refusal.{Refusal}
 use Rattle.query_text.specs.Text.{most_query_bytes}
 use Rattle.import.specs.Translating.{Narrow}
-use Rattle.import.specs.declared.importing.Imported.{Imported}
-use Rattle.import.specs.declared.importing.Imported.TheVariants.{Written, Refused}
 use Rattle.import.specs.Import.{Word, says_written, says_refused, SaidImport, said_import, Owed, refusal, text, owed, placed, Gives}
 use Rattle.import.proofs.Placed.{placed_rest, placed_long}
 use Rattle.writing.specs.Wrote.{Wrote}
@@ -68,12 +68,12 @@ module _ (widths rule : List ℕ) (k : ℕ) (shown : List ℕ) where
   unfolding rule_bytes entry
   bytes_turned t = rw (t.owes 0 most_query_bytes)
 
-  module _ (narrow : Narrow widths) (at : ℕ) (r : Imported) (was is : List ℕ) (room : at + each_byte * length rule ≤ length was)
+  module _ (narrow : Narrow widths) (at : ℕ) (r : Result ℕ Refusal) (was is : List ℕ) (room : at + each_byte * length rule ≤ length was)
       (gives : Gives at r was is (owed widths rule at (length was))) where
     given : (o : Owed) → owed widths rule at (length was) ≡ o → Gives at r was is o
     given o e = subst (Gives at r was is) e gives
 
-    pub entry_written : (n : ℕ) → r ≡ Written n → Wrote was at (rule_bytes widths k rule shown) is (at + n) × (n ≤ each_byte * length rule)
+    pub entry_written : (n : ℕ) → r ≡ Ok n → Wrote was at (rule_bytes widths k rule shown) is (at + n) × (n ≤ each_byte * length rule)
     unfolding said_import tag
     entry_written n e = go (owing widths rule narrow)
       where
@@ -82,13 +82,13 @@ module _ (widths rule : List ℕ) (k : ℕ) (shown : List ℕ) where
         go (inl t) =
             let g = given (refusal t.number t.line) (t.owes at (length was)) in
             let z : ◌≡◌ {A = ℕ} 0 1 =
-            ap (λ (i : Imported). tag (said_import i).word) (sym e) ∙ ap (λ (s : SaidImport). tag s.word) g.0 in
+            ap (λ (i : Result ℕ Refusal). tag (said_import i).word) (sym e) ∙ ap (λ (s : SaidImport). tag s.word) g.0 in
             absurd (omega arith)
         go (inr t) =
             let fits : at + length t.bytes ≤ length was = omega (arith, t.few) in
             let g = given (text t.bytes) (t.owes at (length was) fits) in
             let same : n ≡ length t.bytes =
-            ap (λ (i : Imported). (said_import i).bytes) (sym e) ∙ ap (λ (s : SaidImport). s.bytes) g.0 in
+            ap (λ (i : Result ℕ Refusal). (said_import i).bytes) (sym e) ∙ ap (λ (s : SaidImport). s.bytes) g.0 in
             (rw (same, g.1) (wrote_as (bytes_taken t) (placed_wrote at t.bytes was fits)), omega (arith, same, t.few))
 
     pub record Back (number line : ℕ) : Type 0 where
@@ -97,7 +97,7 @@ module _ (widths rule : List ℕ) (k : ℕ) (shown : List ℕ) where
       pub first : line ≤ 1
       pub are : rule_refused k shown number line ≡ rule_bytes widths k rule shown
 
-    pub entry_turned : (number line : ℕ) → r ≡ Refused number line → Back number line
+    pub entry_turned : (number line : ℕ) → r ≡ Err (record { number = number; line = line }) → Back number line
     unfolding said_import tag
     entry_turned number line e = go (owing widths rule narrow)
       where
@@ -105,13 +105,13 @@ module _ (widths rule : List ℕ) (k : ℕ) (shown : List ℕ) where
         go (inl t) =
             let g = given (refusal t.number t.line) (t.owes at (length was)) in
             let n : number ≡ t.number =
-            ap (λ (i : Imported). (said_import i).number) (sym e) ∙ ap (λ (s : SaidImport). s.number) g.0 in
+            ap (λ (i : Result ℕ Refusal). (said_import i).number) (sym e) ∙ ap (λ (s : SaidImport). s.number) g.0 in
             let j : line ≡ t.line =
-            ap (λ (i : Imported). (said_import i).line) (sym e) ∙ ap (λ (s : SaidImport). s.line) g.0 in
+            ap (λ (i : Result ℕ Refusal). (said_import i).line) (sym e) ∙ ap (λ (s : SaidImport). s.line) g.0 in
             record { stays = g.1; low = omega (arith, n, t.low); first = omega (arith, j, t.first); are = rw (n, j) (bytes_turned t) }
         go (inr t) =
             let fits : at + length t.bytes ≤ length was = omega (arith, t.few) in
             let g = given (text t.bytes) (t.owes at (length was) fits) in
             let z : ◌≡◌ {A = ℕ} 1 0 =
-            ap (λ (i : Imported). tag (said_import i).word) (sym e) ∙ ap (λ (s : SaidImport). tag s.word) g.0 in
+            ap (λ (i : Result ℕ Refusal). tag (said_import i).word) (sym e) ∙ ap (λ (s : SaidImport). tag s.word) g.0 in
             absurd (omega arith)

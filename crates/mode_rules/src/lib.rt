@@ -11,8 +11,7 @@ ghost use Rattle.mode_rules.specs.Sizes.{each_byte, spare, rules_room};
 ghost use Rattle.mode_rules.specs.RulesPage.{rules_page};
 ghost use Rattle.mode_rules.specs.Writing.{Under, RuleWritten, RulesWritten};
 
-use import::Imported;
-use model::Tables;
+use model::{Refusal, Tables};
 
 // Room for the page of 65,536 bytes of rules.
 pub const RULES_ROOM: usize = 2097216;
@@ -31,8 +30,8 @@ fn put_rule(tables: Tables, k: u64, rule: &[u8], shown: &[u8], out: &mut [u8], a
     ensures upper_bound { result ≤ at + each_byte * length rule.now }
 {
     match import::import_checked(tables, rule, out, at) {
-        Imported::Written { bytes } => at + bytes as usize,
-        Imported::Refused { number, line } => turned::put_turned(out, at, k, shown, number, line),
+        Ok(bytes) => at + bytes,
+        Err(Refusal { number, line }) => turned::put_turned(out, at, k, shown, number, line),
     }
 }
 

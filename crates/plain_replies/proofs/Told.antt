@@ -1,26 +1,19 @@
 -- Nothing is lost where replies are numbers: each is read back from its numbers.
 use mathlib.Core.Path.{◌≡◌, refl, sym, ap, ◌∙◌}
-use mathlib.Core.Bool.{cond}
+use mathlib.Core.Bool.{Bool, true, false, cond}
 use mathlib.Core.List.{[], ◌∷◌}
 use Prim.Native.Nat.{ℕ}
 use lib.Dec.{eqb}
 use lib.ListN.{get_or}
-use Rattle.std.specs.Prelude.{Result, Ok, Err}
+use Rattle.std.specs.Prelude.{Result, Ok, Err, Option, Some, None}
 use Rattle.model.specs.declared.Refusal.{Refusal}
 use Rattle.sessions.specs.declared.replies.Reply.{Reply}
 use Rattle.sessions.specs.declared.replies.Reply.TheVariants.{Yes, No, Refused as NotDecided}
-use Rattle.label_lists.specs.declared.Listing.{Listing}
-use Rattle.label_lists.specs.declared.Listing.TheVariants.{Given, Refused as NotListed}
 use Rattle.explanations.specs.declared.Explaining.{Explaining}
-use Rattle.explanations.specs.declared.Explaining.TheVariants.{Settled, Unsettled, Refused as NotExplained}
 use Rattle.apart.specs.declared.telling.Telling.{Telling}
 use Rattle.apart.specs.declared.telling.Telling.TheVariants.{Settled as SettledTelling, Apart, Refused as NotTold}
-use Rattle.grants.specs.declared.granting.Granting.{Granting}
-use Rattle.grants.specs.declared.granting.Granting.TheVariants.{Given as GivenGrant, Nothing, Refused as NotGranted}
-use Rattle.import.specs.declared.importing.Imported.{Imported}
-use Rattle.import.specs.declared.importing.Imported.TheVariants.{Written, Refused as NotImported}
 use Rattle.plain_replies.specs.Words.{Word, word_number, refused, accepted, yes, no, given, settled, unsettled, apart, none, written}
-use Rattle.plain_replies.specs.Replies.{plain_outcome, plain_reply, plain_listing, plain_explaining}
+use Rattle.plain_replies.specs.Replies.{says, plain_outcome, plain_reply, plain_listing, plain_explaining}
 use Rattle.plain_replies.specs.Replies.{plain_telling, plain_granting, plain_imported}
 use Rattle.plain_replies.specs.Told.{ToldBy, Told}
 use Rattle.plain_replies.specs.declared.PlainReply.{PlainReply}
@@ -50,8 +43,12 @@ word_back apart = refl
 word_back none = refl
 word_back written = refl
 
+-- a refusal, whatever the reply is of
+abbrev refusal : {T : Type 0} → PlainReply → Result T Refusal
+refusal r = Err (record { number = r.number; line = r.line })
+
 abbrev outcome : PlainReply → Result (Unit {0}) Refusal
-outcome r = either accepted (Ok tt) (Err (record { number = r.number; line = r.line })) r
+outcome r = either accepted (Ok tt) (refusal r) r
 
 outcome_back : (o : Result (Unit {0}) Refusal) → outcome (plain_outcome o) ≡ o
 outcome_back (Ok u) = refl
@@ -65,21 +62,27 @@ reply_back (Yes n) = refl
 reply_back (No n) = refl
 reply_back (NotDecided n k) = refl
 
-abbrev listing : PlainReply → Listing
-listing r = either given (Given r.count) (NotListed r.number r.line) r
+abbrev listing : PlainReply → Result ℕ Refusal
+listing r = either given (Ok r.count) (refusal r) r
 
-listing_back : (o : Listing) → listing (plain_listing o) ≡ o
-listing_back (Given n) = refl
-listing_back (NotListed n k) = refl
+listing_back : (o : Result ℕ Refusal) → listing (plain_listing o) ≡ o
+listing_back (Ok n) = refl
+listing_back (Err e) = refl
 
-abbrev explanation : PlainReply → Explaining
-explanation r =
-    either settled (Settled r.count) (either unsettled (Unsettled r.count) (NotExplained r.number r.line) r) r
+-- an explanation, which settles the query or not
+abbrev explained : Bool → PlainReply → Result Explaining Refusal
+explained b r = Ok (record { is_settled = b; count = r.count })
 
-explanation_back : (o : Explaining) → explanation (plain_explaining o) ≡ o
-explanation_back (Settled n) = refl
-explanation_back (Unsettled n) = refl
-explanation_back (NotExplained n k) = refl
+abbrev explanation : PlainReply → Result Explaining Refusal
+explanation r = either settled (explained true r) (either unsettled (explained false r) (refusal r) r) r
+
+explanation_back : (o : Result Explaining Refusal) → explanation (plain_explaining o) ≡ o
+explanation_back (Ok x) = go x.is_settled x.count
+  where
+    go : (b : Bool) (n : ℕ) → explanation (says (cond b settled unsettled) n) ≡ Ok (record { is_settled = b; count = n })
+    go true n = refl
+    go false n = refl
+explanation_back (Err e) = refl
 
 abbrev telling : PlainReply → Telling
 telling r = either settled SettledTelling (either apart (Apart r.count) (NotTold r.number r.line) r) r
@@ -89,20 +92,20 @@ telling_back SettledTelling = refl
 telling_back (Apart n) = refl
 telling_back (NotTold n k) = refl
 
-abbrev granting : PlainReply → Granting
-granting r = either given (GivenGrant r.count) (either none Nothing (NotGranted r.number r.line) r) r
+abbrev granting : PlainReply → Result (Option ℕ) Refusal
+granting r = either given (Ok (Some r.count)) (either none (Ok None) (refusal r) r) r
 
-granting_back : (o : Granting) → granting (plain_granting o) ≡ o
-granting_back (GivenGrant n) = refl
-granting_back Nothing = refl
-granting_back (NotGranted n k) = refl
+granting_back : (o : Result (Option ℕ) Refusal) → granting (plain_granting o) ≡ o
+granting_back (Ok (Some n)) = refl
+granting_back (Ok None) = refl
+granting_back (Err e) = refl
 
-abbrev imported : PlainReply → Imported
-imported r = either written (Written r.count) (NotImported r.number r.line) r
+abbrev imported : PlainReply → Result ℕ Refusal
+imported r = either written (Ok r.count) (refusal r) r
 
-imported_back : (o : Imported) → imported (plain_imported o) ≡ o
-imported_back (Written n) = refl
-imported_back (NotImported n k) = refl
+imported_back : (o : Result ℕ Refusal) → imported (plain_imported o) ≡ o
+imported_back (Ok n) = refl
+imported_back (Err e) = refl
 
 -- ---- the statement
 

@@ -1,18 +1,11 @@
 -- The reply of each operation in numbers: its word's, its count, and a refusal's number and line.
-use Rattle.std.specs.Prelude.{ℕ, Result, Ok, Err}
+use Rattle.std.specs.Prelude.{ℕ, Result, Ok, Err, Option, Some, None, cond}
 use Rattle.model.specs.declared.Refusal.{Refusal}
 use Rattle.sessions.specs.declared.replies.Reply.{Reply}
 use Rattle.sessions.specs.declared.replies.Reply.TheVariants.{Yes, No, Refused as NotDecided}
-use Rattle.label_lists.specs.declared.Listing.{Listing}
-use Rattle.label_lists.specs.declared.Listing.TheVariants.{Given, Refused as NotListed}
 use Rattle.explanations.specs.declared.Explaining.{Explaining}
-use Rattle.explanations.specs.declared.Explaining.TheVariants.{Settled, Unsettled, Refused as NotExplained}
 use Rattle.apart.specs.declared.telling.Telling.{Telling}
 use Rattle.apart.specs.declared.telling.Telling.TheVariants.{Settled as SettledTelling, Apart, Refused as NotTold}
-use Rattle.grants.specs.declared.granting.Granting.{Granting}
-use Rattle.grants.specs.declared.granting.Granting.TheVariants.{Given as GivenGrant, Nothing, Refused as NotGranted}
-use Rattle.import.specs.declared.importing.Imported.{Imported}
-use Rattle.import.specs.declared.importing.Imported.TheVariants.{Written, Refused as NotImported}
 use Rattle.plain_replies.specs.Words.{Word, word_number, refused, accepted, yes, no, given, settled, unsettled, apart, none, written}
 use Rattle.plain_replies.specs.declared.PlainReply.{PlainReply}
 
@@ -39,15 +32,14 @@ plain_reply (No n) = says no n
 plain_reply (NotDecided n k) = refusal n k
 
 -- of giving labels, with the list's length
-abbrev pub plain_listing : Listing → PlainReply
-plain_listing (Given n) = says given n
-plain_listing (NotListed n k) = refusal n k
+abbrev pub plain_listing : Result ℕ Refusal → PlainReply
+plain_listing (Ok n) = says given n
+plain_listing (Err e) = refusal e.number e.line
 
 -- of explaining, with the list's length
-abbrev pub plain_explaining : Explaining → PlainReply
-plain_explaining (Settled n) = says settled n
-plain_explaining (Unsettled n) = says unsettled n
-plain_explaining (NotExplained n k) = refusal n k
+abbrev pub plain_explaining : Result Explaining Refusal → PlainReply
+plain_explaining (Ok x) = says (cond x.is_settled settled unsettled) x.count
+plain_explaining (Err e) = refusal e.number e.line
 
 -- of telling apart, with the number of rows
 abbrev pub plain_telling : Telling → PlainReply
@@ -56,12 +48,12 @@ plain_telling (Apart n) = says apart n
 plain_telling (NotTold n k) = refusal n k
 
 -- of the smallest grant, with the list's length
-abbrev pub plain_granting : Granting → PlainReply
-plain_granting (GivenGrant n) = says given n
-plain_granting Nothing = says none 0
-plain_granting (NotGranted n k) = refusal n k
+abbrev pub plain_granting : Result (Option ℕ) Refusal → PlainReply
+plain_granting (Ok (Some n)) = says given n
+plain_granting (Ok None) = says none 0
+plain_granting (Err e) = refusal e.number e.line
 
 -- of importing a rule, with the number of bytes written
-abbrev pub plain_imported : Imported → PlainReply
-plain_imported (Written n) = says written n
-plain_imported (NotImported n k) = refusal n k
+abbrev pub plain_imported : Result ℕ Refusal → PlainReply
+plain_imported (Ok n) = says written n
+plain_imported (Err e) = refusal e.number e.line

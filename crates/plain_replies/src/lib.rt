@@ -8,9 +8,6 @@ ghost use Rattle.plain_replies.specs.Replies.{plain_explaining, plain_telling, p
 
 use apart::Telling;
 use explanations::Explaining;
-use grants::Granting;
-use import::Imported;
-use label_lists::Listing;
 use model::Refusal;
 use sessions::Reply;
 
@@ -45,14 +42,14 @@ pub struct PlainReply {
     pub line: u64,
 }
 
-fn refused(number: u64, line: u64) -> PlainReply
-    ensures { result ≡ refusal number line }
+fn refused(r: Refusal) -> PlainReply
+    ensures { result ≡ refusal r.number r.line }
 {
     PlainReply {
         word: REFUSED,
         count: 0,
-        number,
-        line,
+        number: r.number,
+        line: r.line,
     }
 }
 
@@ -73,7 +70,7 @@ pub fn of_outcome(o: Result<(), Refusal>) -> PlainReply
 {
     match o {
         Ok(()) => counted(ACCEPTED, 0),
-        Err(r) => refused(r.number, r.line),
+        Err(r) => refused(r),
     }
 }
 
@@ -84,28 +81,30 @@ pub fn of_reply(o: Reply) -> PlainReply
     match o {
         Reply::Yes { count } => counted(YES, count),
         Reply::No { count } => counted(NO, count),
-        Reply::Refused { number, line } => refused(number, line),
+        Reply::Refused { number, line } => refused(Refusal { number, line }),
     }
 }
 
 // Of giving labels.
-pub fn of_listing(o: Listing) -> PlainReply
+pub fn of_listing(o: Result<usize, Refusal>) -> PlainReply
     ensures { result ≡ plain_listing o }
 {
     match o {
-        Listing::Given { count } => counted(GIVEN, count),
-        Listing::Refused { number, line } => refused(number, line),
+        Ok(count) => counted(GIVEN, count as u64),
+        Err(r) => refused(r),
     }
 }
 
 // Of explaining.
-pub fn of_explaining(o: Explaining) -> PlainReply
+pub fn of_explaining(o: Result<Explaining, Refusal>) -> PlainReply
     ensures { result ≡ plain_explaining o }
 {
     match o {
-        Explaining::Settled { count } => counted(SETTLED, count),
-        Explaining::Unsettled { count } => counted(UNSETTLED, count),
-        Explaining::Refused { number, line } => refused(number, line),
+        Ok(e) => {
+            let word = if e.is_settled { SETTLED } else { UNSETTLED };
+            counted(word, e.count as u64)
+        }
+        Err(r) => refused(r),
     }
 }
 
@@ -116,27 +115,27 @@ pub fn of_telling(o: Telling) -> PlainReply
     match o {
         Telling::Settled => counted(SETTLED, 0),
         Telling::Apart { rows } => counted(APART, rows),
-        Telling::Refused { number, line } => refused(number, line),
+        Telling::Refused { number, line } => refused(Refusal { number, line }),
     }
 }
 
 // Of the smallest grant.
-pub fn of_granting(o: Granting) -> PlainReply
+pub fn of_granting(o: Result<Option<usize>, Refusal>) -> PlainReply
     ensures { result ≡ plain_granting o }
 {
     match o {
-        Granting::Given { count } => counted(GIVEN, count),
-        Granting::Nothing => counted(NONE, 0),
-        Granting::Refused { number, line } => refused(number, line),
+        Ok(Some(count)) => counted(GIVEN, count as u64),
+        Ok(None) => counted(NONE, 0),
+        Err(r) => refused(r),
     }
 }
 
 // Of importing a rule.
-pub fn of_imported(o: Imported) -> PlainReply
+pub fn of_imported(o: Result<usize, Refusal>) -> PlainReply
     ensures { result ≡ plain_imported o }
 {
     match o {
-        Imported::Written { bytes } => counted(WRITTEN, bytes),
-        Imported::Refused { number, line } => refused(number, line),
+        Ok(bytes) => counted(WRITTEN, bytes as u64),
+        Err(r) => refused(r),
     }
 }

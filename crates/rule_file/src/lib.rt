@@ -2,8 +2,7 @@
 
 #![tactic(auto)]
 
-use import::Imported;
-use model::Tables;
+use model::{Refusal, Tables};
 
 // The number of a rule in its file, and the number and line of what turns it back.
 fn print_refused(fd: i32, rule: u64, number: u64, line: u64) {
@@ -20,11 +19,10 @@ fn print_refused(fd: i32, rule: u64, number: u64, line: u64) {
 fn translate_line(tables: Tables, rule: u64, text: &[u8], queries: i32, refused: i32) {
     let mut out = io::buffer();
     match import::import_checked(tables, text, &mut out, 0) {
-        Imported::Written { bytes } => {
-            let n = bytes as usize;
+        Ok(n) => {
             io::write_all(queries, &out[..n]);
         }
-        Imported::Refused { number, line } => print_refused(refused, rule, number, line),
+        Err(Refusal { number, line }) => print_refused(refused, rule, number, line),
     }
 }
 

@@ -4,7 +4,7 @@ ghost use Rattle.std.specs.Prelude.{◌≡◌, ◌+◌, ◌<◌, ◌≤◌, leng
 
 use crate::family::{NONE, Query, TERMS};
 use apart::Telling;
-use desk::{Listing, Reply, Session};
+use desk::{Reply, Session};
 use model::Policy;
 
 fn put_term(text: &mut [u8], at: usize, term: usize)
@@ -95,11 +95,7 @@ pub fn labels(p: Policy, q: Query) -> List {
     let mut text = *b"table terms\n1 #0 #0\n1 #0 #0\n1 #0 #0\n";
     let end = put_query(&mut text, q);
     let mut cells = [0; 3];
-    let r = desk::labels(p, &text[..end], &mut cells);
-    let count = match r {
-        Listing::Given { count } => count,
-        Listing::Refused { .. } => 0,
-    };
+    let count = desk::labels(p, &text[..end], &mut cells).unwrap_or(0) as u64;
     List {
         count,
         first: cells[0],

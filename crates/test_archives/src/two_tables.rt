@@ -90,7 +90,7 @@ fn label(p: Policy, line: usize) -> u64
     let mut text = *b"table terms\n1 #0\n";
     put_line(&mut text, 12, line);
     let mut cells = [0; 1];
-    desk::labels(p, &text, &mut cells);
+    let _ = desk::labels(p, &text, &mut cells);
     cells[0]
 }
 

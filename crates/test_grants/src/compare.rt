@@ -3,15 +3,14 @@
 
 ghost use Rattle.std.specs.Prelude.{◌≤◌};
 
-use grants::Granting;
-use model::Policy;
+use model::{Policy, Refusal};
 use test_expect::{Said, cells};
 
-fn told(r: Granting) -> Said {
+fn told(r: Result<Option<usize>, Refusal>) -> Said {
     match r {
-        Granting::Given { count } => test_expect::given(count),
-        Granting::Nothing => test_expect::nothing(),
-        Granting::Refused { number, line } => test_expect::refused(number, line),
+        Ok(Some(count)) => test_expect::given(count as u64),
+        Ok(None) => test_expect::nothing(),
+        Err(Refusal { number, line }) => test_expect::refused(number, line),
     }
 }
 

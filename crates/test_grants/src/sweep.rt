@@ -4,7 +4,6 @@ ghost use Rattle.std.specs.Prelude.{◌<◌, ◌≤◌};
 
 use crate::drawing::{ALL, Drawn};
 use crate::{cells, compare, drawing, subsets, texts};
-use desk::Explaining;
 use test_expect::Said;
 
 const QUERIES: u64 = 4000;
@@ -51,8 +50,8 @@ fn said(kind: usize) -> Said {
 fn is_settled(granted: u64, text: &[u8]) -> bool {
     let mut words = [0; 8];
     match desk::explain(texts::policy(granted), 1, text, &mut words) {
-        Explaining::Settled { .. } => true,
-        _ => false,
+        Ok(e) => e.is_settled,
+        Err(_) => false,
     }
 }
 

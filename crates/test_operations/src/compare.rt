@@ -3,16 +3,16 @@
 
 ghost use Rattle.std.specs.Prelude.{◌≤◌};
 
-use desk::{Explaining, Listing};
-use model::Policy;
+use desk::Explaining;
+use model::{Policy, Refusal};
 use test_expect::{Said, cells};
 
 // ---- labels
 
-fn told_labels(r: Listing) -> Said {
+fn told_labels(r: Result<usize, Refusal>) -> Said {
     match r {
-        Listing::Given { count } => test_expect::given(count),
-        Listing::Refused { number, line } => test_expect::refused(number, line),
+        Ok(count) => test_expect::given(count as u64),
+        Err(Refusal { number, line }) => test_expect::refused(number, line),
     }
 }
 
@@ -27,11 +27,16 @@ pub fn labels(n: u64, p: Policy, text: &[u8], room: usize, said: Said, cells: [u
 
 // ---- explanations
 
-fn told_words(r: Explaining) -> Said {
+fn told_words(r: Result<Explaining, Refusal>) -> Said {
     match r {
-        Explaining::Settled { count } => test_expect::settled(count),
-        Explaining::Unsettled { count } => test_expect::unsettled(count),
-        Explaining::Refused { number, line } => test_expect::refused(number, line),
+        Ok(
+            Explaining {
+                is_settled: true,
+                count,
+            },
+        ) => test_expect::settled(count as u64),
+        Ok(Explaining { count, .. }) => test_expect::unsettled(count as u64),
+        Err(Refusal { number, line }) => test_expect::refused(number, line),
     }
 }
 

@@ -1,18 +1,13 @@
 // The order of labels: each row of a file compared with each.
 
 use crate::policies;
-use desk::Listing;
 use test_expect::cells;
 use test_expect::cells::List;
 
 // The labels of a query, none where the call is turned back.
 fn labels(policy: u64, query: &[u8]) -> List {
     let mut cells = cells::untouched();
-    let r = desk::labels(policies::policy(policy), query, &mut cells);
-    let count = match r {
-        Listing::Given { count } => count as usize,
-        Listing::Refused { .. } => 0,
-    };
+    let count = desk::labels(policies::policy(policy), query, &mut cells).unwrap_or(0);
     List { count, cells }
 }
 

@@ -3,8 +3,7 @@
 
 ghost use Rattle.std.specs.Prelude.{◌≡◌, ◌≤◌, length};
 
-use import::Imported;
-use model::Policy;
+use model::{Policy, Refusal};
 use test_expect::Said;
 
 // How many bytes are lent at most.
@@ -25,10 +24,10 @@ fn untouched() -> [u8; ROOM]
     out
 }
 
-fn told(r: Imported) -> Said {
+fn told(r: Result<usize, Refusal>) -> Said {
     match r {
-        Imported::Written { bytes } => test_expect::written(bytes),
-        Imported::Refused { number, line } => test_expect::refused(number, line),
+        Ok(bytes) => test_expect::written(bytes as u64),
+        Err(Refusal { number, line }) => test_expect::refused(number, line),
     }
 }
 

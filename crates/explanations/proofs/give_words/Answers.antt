@@ -1,5 +1,5 @@
 -- `give_words`: 10, or the words copied and whether the partition settles the query.
-use mathlib.Core.Path.{◌≡◌, refl, sym, ◌∙◌}
+use mathlib.Core.Path.{◌≡◌, refl}
 use mathlib.Core.List.{List}
 use Prim.Native.Nat.{ℕ}
 use native.Mathlib.Omega.{arith}
@@ -31,12 +31,7 @@ write_words-requires c =
     let (ws, h, e) = c.requires in
     let is = value (goal.at.write_words-requires c).After-words_of-w ws h e in (words_count _ ws h is, search rules, words_narrow _ ws h is)
 
-pub returns-then-is_settled : goal.returns-then-is_settled
-unfolding said_explaining
-returns-then-is_settled c = λ ws h e.
-    explains_given _ ws h (value (goal.at.returns-then-is_settled c).After-words_of-w ws h e) _ refl (sym c.if-is_settled.true ∙ e) (omega arith) c.write_words.ensures
-
 pub returns : goal.returns
 unfolding said_explaining
 returns c = λ ws h e.
-    explains_given _ ws h (value (goal.at.returns c).After-words_of-w ws h e) _ refl (sym c.if-is_settled.false ∙ e) (omega arith) c.write_words.ensures
+    explains_given _ ws h (value (goal.at.returns c).After-words_of-w ws h e) _ refl e (omega arith) c.write_words.ensures
