@@ -30,16 +30,10 @@ pub fn explain(p: Policy, n: u64, text: &[u8], out: &mut [u32]) -> Result<Explai
     if !model::is_among(n, p.partition_count as u64) {
         return Err(Refusal { number: 4, line: 0 });
     }
-    match labelling::ask(p, text) {
-        Ok(l) => {
-            let w = l.words;
-            let grants = p.grants;
-            let granted = granted_views(grants, n - 1);
-            let is_settled = words::has_bit(l.settling, n - 1);
-            give_words(w, granted, is_settled, out)
-        }
-        Err(r) => Err(r),
-    }
+    let l = labelling::ask(p, text)?;
+    let granted = granted_views(p.grants, n - 1);
+    let is_settled = words::has_bit(l.settling, n - 1);
+    give_words(l.words, granted, is_settled, out)
 }
 
 // The views that partition i, counted from 0, grants: view n at bit n - 1.

@@ -26,15 +26,9 @@ pub fn smallest_grant(
     if !model::is_among(n, p.partition_count as u64) {
         return Err(Refusal { number: 4, line: 0 });
     }
-    match labelling::ask(p, text) {
-        Ok(l) => {
-            let w = l.words;
-            let grants = p.grants;
-            let granted = desk::granted_views(grants, n - 1);
-            give_grant(w, granted, out)
-        }
-        Err(r) => Err(r),
-    }
+    let l = labelling::ask(p, text)?;
+    let granted = desk::granted_views(p.grants, n - 1);
+    give_grant(l.words, granted, out)
 }
 
 // The grant for labels and the granted views of a partition.

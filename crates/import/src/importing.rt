@@ -47,7 +47,7 @@ pub fn import_checked(
     }
     let mut text = [0; TEXT_ROOM];
     let n = match translate(tables, rule, &mut text) {
-        Ok(n) => n,
+        Ok(bytes) => bytes,
         Err(back) => {
             return Err(Refusal {
                 number: back.number,

@@ -17,13 +17,9 @@ pub fn labels(p: Policy, text: &[u8], out: &mut [u64]) -> Result<usize, Refusal>
     if !validity::valid(p) {
         return Err(Refusal { number: 8, line: 0 });
     }
-    match labelling::ask(p, text) {
-        Ok(l) => {
-            let w = word_list::ascending(l.words);
-            give_labels(w, out)
-        }
-        Err(r) => Err(r),
-    }
+    let l = labelling::ask(p, text)?;
+    let w = word_list::ascending(l.words);
+    give_labels(w, out)
 }
 
 // The labels at the head of the buffer, and how many there are, or 10.

@@ -3,6 +3,8 @@ use mathlib.Core.Path.{◌≡◌}
 use mathlib.Core.Bool.{true}
 use Prim.Native.Nat.{◌≤◌}
 use native.Mathlib.Omega.{arith}
+use borrow.Author.Rules.{rules}
+use Rattle.std.specs.Prelude.{Err}
 use Rattle.words.proofs.Answers.{passes, fails, passing, failing}
 use Rattle.model.specs.Limits.{most_partitions, up_to}
 use Rattle.validity.specs.Loadable.{Loadable}
@@ -45,8 +47,8 @@ overflow_sub-n c = (place (goal.at.overflow_sub-n c).Else-not-is_among).0
 pub granted_views-granted-requires : goal.granted_views-granted-requires
 granted_views-granted-requires c = let (from, to) = place (goal.at.granted_views-granted-requires c).Else-not-is_among in omega (arith, from, to)
 
-pub overflow_sub-n-in-Ok : goal.overflow_sub-n-in-Ok
-overflow_sub-n-in-Ok c = (place (goal.at.overflow_sub-n-in-Ok c).Else-not-is_among).0
+pub overflow_sub-n-2 : goal.overflow_sub-n-2
+overflow_sub-n-2 c = (place (goal.at.overflow_sub-n-2 c).Else-not-is_among).0
 
 pub has_bit-is_settled-requires : goal.has_bit-is_settled-requires
 has_bit-is_settled-requires c = let (from, to) = place (goal.at.has_bit-is_settled-requires c).Else-not-is_among in omega (arith, from, to)
@@ -54,14 +56,15 @@ has_bit-is_settled-requires c = let (from, to) = place (goal.at.has_bit-is_settl
 pub give_words-requires : goal.give_words-requires
 give_words-requires c =
     let l = is_loadable (goal.at.give_words-requires c).Else-not-is_among in
-    let q = text_accepted _ _ c.ask.ensures l _ c.in-Ok.is in
+    let q = text_accepted _ _ c.ask.ensures l _ c.in_ok-l.was in
     (_, q.held, settled_same (record { among = among (goal.at.give_words-requires c).Else-not-is_among; views = c.granted_views-granted.ensures; says = c.has_bit-is_settled.ensures }) l q)
 
-pub returns-in-Ok : goal.returns-in-Ok
-returns-in-Ok c =
-    text_explained (is_loadable (goal.at.returns-in-Ok c).Else-not-is_among) (record { among = among (goal.at.returns-in-Ok c).Else-not-is_among; views = c.granted_views-granted.ensures; says = c.has_bit-is_settled.ensures })
-    (λ l. text_accepted _ _ c.ask.ensures l _ c.in-Ok.is) c.give_words.ensures
+pub returns : goal.returns
+returns c =
+    text_explained (is_loadable (goal.at.returns c).Else-not-is_among) (record { among = among (goal.at.returns c).Else-not-is_among; views = c.granted_views-granted.ensures; says = c.has_bit-is_settled.ensures })
+    (λ l. text_accepted _ _ c.ask.ensures l _ c.in_ok-l.was) c.give_words.ensures
 
-pub returns-in-Err : goal.returns-in-Err
-returns-in-Err c =
-    text_refused (is_loadable (goal.at.returns-in-Err c).Else-not-is_among) (among (goal.at.returns-in-Err c).Else-not-is_among) (λ l. text_turned _ _ c.ask.ensures l _ c.in-Err.is)
+pub returns-in_err-l : goal.returns-in_err-l
+returns-in_err-l c =
+    let e : c.from_residual.result ≡ Err c.in_err-l.field-0.0 = search rules in
+    rw e (text_refused (is_loadable (goal.at.returns-in_err-l c).Else-not-is_among) (among (goal.at.returns-in_err-l c).Else-not-is_among) (λ l. text_turned _ _ c.ask.ensures l _ c.in_err-l.was))

@@ -3,6 +3,8 @@ use mathlib.Core.Path.{◌≡◌}
 use mathlib.Core.Bool.{true}
 use Prim.Native.Nat.{◌≤◌}
 use native.Mathlib.Omega.{arith}
+use borrow.Author.Rules.{rules}
+use Rattle.std.specs.Prelude.{Err}
 use Rattle.words.proofs.Answers.{passes, fails, passing, failing}
 use Rattle.model.specs.Limits.{most_partitions, up_to}
 use Rattle.validity.specs.Loadable.{Loadable}
@@ -48,13 +50,14 @@ granted_views-granted-requires c = let (from, to) = place (goal.at.granted_views
 
 pub give_grant-requires : goal.give_grant-requires
 give_grant-requires c =
-    let q = text_accepted _ _ c.ask.ensures (is_loadable (goal.at.give_grant-requires c).Else-not-is_among) _ c.in-Ok.is in (_, q.held)
+    let q = text_accepted _ _ c.ask.ensures (is_loadable (goal.at.give_grant-requires c).Else-not-is_among) _ c.in_ok-l.was in (_, q.held)
 
-pub returns-in-Ok : goal.returns-in-Ok
-returns-in-Ok c =
-    text_granted (is_loadable (goal.at.returns-in-Ok c).Else-not-is_among) (among (goal.at.returns-in-Ok c).Else-not-is_among) c.granted_views-granted.ensures
-    (λ l. text_accepted _ _ c.ask.ensures l _ c.in-Ok.is) c.give_grant.ensures
+pub returns : goal.returns
+returns c =
+    text_granted (is_loadable (goal.at.returns c).Else-not-is_among) (among (goal.at.returns c).Else-not-is_among) c.granted_views-granted.ensures
+    (λ l. text_accepted _ _ c.ask.ensures l _ c.in_ok-l.was) c.give_grant.ensures
 
-pub returns-in-Err : goal.returns-in-Err
-returns-in-Err c =
-    text_refused (is_loadable (goal.at.returns-in-Err c).Else-not-is_among) (among (goal.at.returns-in-Err c).Else-not-is_among) (λ l. text_turned _ _ c.ask.ensures l _ c.in-Err.is)
+pub returns-in_err-l : goal.returns-in_err-l
+returns-in_err-l c =
+    let e : c.from_residual.result ≡ Err c.in_err-l.field-0.0 = search rules in
+    rw e (text_refused (is_loadable (goal.at.returns-in_err-l c).Else-not-is_among) (among (goal.at.returns-in_err-l c).Else-not-is_among) (λ l. text_turned _ _ c.ask.ensures l _ c.in_err-l.was))

@@ -26,7 +26,7 @@ returns c =
     let a = c.args in
     record {
       rule_given =
-          text_given a.tables a.rule.now a.place a.out.now c.if-rule-gt-MOST_BYTES.false _ c.translate.ensures.translates c.in-Ok.n c.in-Ok.is _ _
+          text_given a.tables a.rule.now a.place a.out.now c.if-rule-gt-MOST_BYTES.false _ c.translate.ensures.translates c.in-Ok.bytes c.in-Ok.is _ _
           c.put_text.ensures.text_given;
       result_in_bounds = c.put_text.ensures.result_in_bounds;
     }
