@@ -35,32 +35,17 @@ fn put_rule(tables: Tables, k: u64, rule: &[u8], shown: &[u8], out: &mut [u8], a
     }
 }
 
-// Where a line ends, its byte 10 with it, in a text of so many bytes: the first byte 10 stands behind n bytes, past the text where none does.
-fn line_end(n: usize, size: usize) -> usize
-    ensures value { n < size → result ≡ n + 1 }
-    ensures value_2 { size ≤ n → result ≡ n }
-{
-    if n < size {
-        return n + 1;
-    }
-    n
-}
-
 // The rules in their order, numbered from 1.
 fn put_rules(tables: Tables, rules: &[u8], out: &mut [u8]) -> usize
     requires { Under tables × (length rules.now ≤ most_input) × (rules_room ≤ length out.old) }
     ensures { RulesWritten tables rules.now out.old out.new result }
 {
     let mut k: u64 = 1;
-    let mut at = 0;
     let mut to = 0;
-    while at < rules.len() {
-        let rest = &rules[at..];
-        let n = text::first(rest, b'\n');
-        let end = line_end(n, rest.len());
-        to = put_rule(tables, k, &rest[..end], &rest[..n], out, to);
+    for rule in rules.split_inclusive(|b| *b == b'\n') {
+        let shown = rule.strip_suffix(b"\n").unwrap_or(rule);
+        to = put_rule(tables, k, rule, shown, out, to);
         k += 1;
-        at = at + end;
     }
     to
 }

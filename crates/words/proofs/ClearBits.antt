@@ -1,16 +1,21 @@
 -- A word with one bit clear, or without the bits of another, and the word of the lowest bits.
 use mathlib.Core.Path.{◌≡◌, refl, sym, ◌∙◌}
+use mathlib.Core.Bool.{cond}
 use mathlib.Core.Logic.{◌↔◌, ◌⊎◌, inl, inr, ⊎_elim}
-use Prim.Native.Nat.{ℕ, zero, suc, ◌-◌, ◌*◌, ◌/◌, ◌%◌, ◌^◌, ◌≤◌, ◌<◌, min}
+use Prim.Native.Nat.{ℕ, zero, suc, ◌+◌, ◌-◌, ◌*◌, ◌/◌, ◌%◌, ◌^◌, ◌≤◌, ◌<◌, min}
 use native.Mathlib.Nat.{one-mul, lt_of_le_of_lt, mod-eq_of_lt, not-suc-le-zero, le_refl, le_of_suc-le-suc, pow-suc}
 use native.Mathlib.Decide.{ℕ_discrete}
 use native.Mathlib.Omega.{arith}
-use lib.Bits.{bit_and, bit_xor, differ, and_le_l, xor_add_and, xor_lt, xor_shr, xor_step}
+use lib.Bits.{bit_and, bit_xor, differ, and_comm, and_le_l, xor_add_and, xor_lt, xor_shr, xor_step}
 use lib.Pow.{pow-lt, pow_pos, pow_mono}
-use Rattle.words.specs.Bits.{bit}
+use mir.Syntax.{w64}
+use Rattle.std.specs.Int.{bit_not}
+use Rattle.std.proofs.lemmas.Nat.{and-not}
+use Rattle.std.proofs.lemmas.Nat.Bits.{bit_at_not}
+use Rattle.words.specs.Bits.{bit, is_set}
 use Rattle.words.specs.Sets.{set_bit, clear_bit, Without}
-use Rattle.words.proofs.Bits.{bit_cases, bit_half, bit_lowest, is_set_lem, is_clear}
-use Rattle.words.proofs.Masks.{bit_and_lem, bit_power_same, bit_power_other, and_power}
+use Rattle.words.proofs.Bits.{bit_within, bit_cases, bit_half, bit_lowest, is_set_lem, is_clear}
+use Rattle.words.proofs.Masks.{bit_and_lem, bit_and_iff, bit_power_same, bit_power_other, and_power}
 use Rattle.words.proofs.SetBits.{set_bit_same, set_bit_other}
 
 -- a set bit is taken away
@@ -27,9 +32,17 @@ clear_xor n k =
 pub one_shifted : (w n : ℕ) → n < w → 1 * 2 ^ n % 2 ^ w ≡ 2 ^ n
 one_shifted w n h = rw (one-mul, mod-eq_of_lt (pow-lt h))
 
--- (n | (1 << k)) ^ (1 << k), in a word of w bits
-pub clear_shifted_one : (w n k : ℕ) → k < w → bit_xor (set_bit n k) (1 * 2 ^ k % 2 ^ w) ≡ clear_bit n k
-clear_shifted_one w n k h = rw (one_shifted w k h) (clear_xor n k)
+-- n & !(1 << k)
+pub clear_not : (n k : ℕ) → k < 64 → n < 2 ^ 64 → bit_and n (bit_not w64 (1 * 2 ^ k % 2 ^ 64)) ≡ clear_bit n k
+unfolding clear_bit
+clear_not n k h p = rw (one_shifted 64 k h) (go (bit_cases n k))
+  where
+    both : bit_and n (bit_not w64 (2 ^ k)) + bit_and n (2 ^ k) ≡ n
+    both = omega (arith, and-not 64 (2 ^ k) n (pow-lt h) p, and_comm n (bit_not w64 (2 ^ k)), and_comm n (2 ^ k))
+
+    go : (bit n k ≡ 0) ⊎ (bit n k ≡ 1) → bit_and n (bit_not w64 (2 ^ k)) ≡ cond (is_set n k) (n - 2 ^ k) n
+    go (inl e) = rw (is_clear n k e) (omega (arith, both, rw e at (and_power n k)))
+    go (inr e) = rw (is_set_lem n k e) (omega (arith, both, rw e at (and_power n k)))
 
 -- ---- its bits
 
@@ -77,6 +90,18 @@ without_xor a b = record {
     go x y (inl e) (inr f) = rw (e, f) (λ q. absurd (omega arith), λ r. absurd (omega (arith, r.0)))
     go x y (inr e) (inl f) = rw (e, f) (λ q. (refl, refl), λ r. refl)
     go x y (inr e) (inr f) = rw (e, f) (λ q. absurd (omega arith), λ r. absurd (omega (arith, r.1)))
+
+-- a & !b
+pub without_not : (a b : ℕ) → a < 2 ^ 64 → b < 2 ^ 64 → Without a b (bit_and a (bit_not w64 b))
+without_not a b p q = record {
+  bits = λ k. (
+    λ e.
+        let r = (bit_and_iff a (bit_not w64 b) k).0 e in
+        (r.0, omega (arith, r.1, bit_at_not w64 b k q (bit_within 64 k p r.0))),
+    λ r. (bit_and_iff a (bit_not w64 b) k).1 (r.0, omega (arith, r.1, bit_at_not w64 b k q (bit_within 64 k p r.0))),
+  );
+  below = λ w h. lt_of_le_of_lt (and_le_l a (bit_not w64 b)) h;
+}
 
 -- ---- the lowest bits
 

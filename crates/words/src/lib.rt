@@ -23,10 +23,7 @@ pub fn set_bit(m: u64, k: u64) -> u64
 pub fn value_if(v: u64, passes: bool) -> u64
     ensures { result ≡ cond passes v 0 }
 {
-    if passes {
-        return v;
-    }
-    0
+    if passes { v } else { 0 }
 }
 
 // The word with bit `k` set, where a test passes.
@@ -34,10 +31,7 @@ pub fn set_bit_if(m: u64, k: u64, passes: bool) -> u64
     requires { k < 64 }
     ensures { result ≡ cond passes (set_bit m k) m }
 {
-    if passes {
-        return set_bit(m, k);
-    }
-    m
+    if passes { set_bit(m, k) } else { m }
 }
 
 // The word with bit `k` clear.
@@ -45,14 +39,14 @@ pub fn clear_bit(m: u64, k: u64) -> u64
     requires { k < 64 }
     ensures { result ≡ clear_bit m k }
 {
-    set_bit(m, k) ^ (1 << k)
+    m & !(1 << k)
 }
 
 // The bits of `a` that `b` lacks.
 pub fn without(a: u64, b: u64) -> u64
     ensures { Without a b result }
 {
-    a ^ (a & b)
+    a & !b
 }
 
 // The word of the `n` lowest bits.
@@ -89,7 +83,7 @@ pub fn includes(a: u64, b: u64) -> bool
 pub fn ones(m: u64) -> u64
     ensures { result ≡ ones_below 64 m }
 {
-    u64::count_ones(m) as u64
+    u64::from(m.count_ones())
 }
 
 // The least bit that is set.
@@ -97,7 +91,7 @@ pub fn least(m: u64) -> u64
     requires { 0 < m }
     ensures { Least 64 m result }
 {
-    u64::trailing_zeros(m) as u64
+    u64::from(m.trailing_zeros())
 }
 
 // The word without its least set bit.

@@ -1,6 +1,6 @@
--- `clear_bit`: bit `k`, once it is set, is turned over.
-use Rattle.words.proofs.ClearBits.{clear_shifted_one}
+-- `clear_bit`: every bit is kept but bit `k`.
+use Rattle.words.proofs.ClearBits.{clear_not}
 use Rattle.words.proofs.clear_bit.Goals as goal
 
 pub returns : goal.returns
-returns c = rw c.set_bit.ensures (clear_shifted_one 64 c.args.m c.args.k c.requires)
+returns c = clear_not c.args.m c.args.k c.requires c.ranges.m.fits
