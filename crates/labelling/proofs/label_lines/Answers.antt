@@ -12,9 +12,6 @@ use Rattle.labelling.proofs.Written.{written_none, written_more, written_same, w
 use Rattle.labelling.proofs.label_lines.Goals as goal
 use Rattle.labelling.proofs.label_lines.Goals.{In-loop-i, else-has_bit, then-has_bit}
 
-pub every_partition-settling-requires : goal.every_partition-settling-requires
-every_partition-settling-requires c = let (d, t, Q, w, ready, e, rows) = c.requires.0 in ready.long
-
 pub loop-i-init : goal.loop-i-init
 unfolding pick pad
 loop-i-init c =
@@ -25,17 +22,11 @@ room : (c : In-loop-i) → c.loop-i.i < most_lines
 room c =
     let (d, t, Q, w, ready, e, rows) = c.requires.0 in omega (arith, c.loop-i-test.true, e, rows.lines)
 
-pub has_bit-requires : goal.has_bit-requires
-has_bit-requires c = omega (arith, room c)
-
-pub label_line-l-requires : goal.label_line-l-requires
-label_line-l-requires c =
+pub label_line-l-requires-clause-tabled : goal.label_line-l-requires-clause-tabled
+label_line-l-requires-clause-tabled c =
     let (d, t, Q, w, ready, e, rows) = c.requires.0 in
     let h : c.loop-i.i < length Q = rw e c.loop-i-test.true in
-    record {
-      ready_len = (ready.long, c.requires.1, omega (arith, room (goal.at.label_line-l-requires c).In-loop-i));
-      tabled = line_tabled ready (some_line rows c.loop-i.i h);
-    }
+    line_tabled ready (some_line rows c.loop-i.i h)
 
 pub loop-i-preserved : goal.loop-i-preserved
 loop-i-preserved c =

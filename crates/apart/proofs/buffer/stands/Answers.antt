@@ -5,12 +5,6 @@ use native.Mathlib.Omega.{arith}
 use borrow.Author.Count.{below_more}
 use Rattle.apart.proofs.buffer.stands.Goals as goal
 
-pub loop-k-init : goal.loop-k-init
-loop-k-init c = λ j h g e. omega (arith, h, g)
-
-pub same_row-requires : goal.same_row-requires
-same_row-requires c = omega arith
-
 pub returns-then-same_row : goal.returns-then-same_row
 returns-then-same_row c =
     record {

@@ -12,9 +12,6 @@ use Rattle.apart.specs.Unsettled.{AnswersLine}
 use Rattle.apart.proofs.unsettled.unsettled_line.Goals as goal
 use Rattle.apart.proofs.unsettled.unsettled_line.Goals.{else-has_bit, then-has_bit+else-not-has_bit}
 
-pub loop-k-init : goal.loop-k-init
-loop-k-init c = λ d t Q w ns ready e rows word at j h. absurd (omega (arith, h))
-
 pub label_line-l-requires-clause-tabled : goal.label_line-l-requires-clause-tabled
 label_line-l-requires-clause-tabled c =
     let (d, t, Q, w, ready, e, rows) = c.requires.0 in

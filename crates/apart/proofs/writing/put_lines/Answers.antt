@@ -14,19 +14,11 @@ loop-k-init c = (omega arith, λ S has start odd h. lines_none h)
 room : (c : In-loop-k) → c.loop-k.k < most_lines
 room c = let (S, has) = c.requires.1 in omega (arith, c.loop-k-test.true, has.few)
 
-pub has_bit-requires : goal.has_bit-requires
-has_bit-requires c = omega (arith, room c)
-
 pub frozen_row-cells-requires : goal.frozen_row-cells-requires
 frozen_row-cells-requires c =
     let (base, (S, has), long, wide) = c.requires in
     let k = c.loop-k.k in
     (base, omega (arith, room (goal.at.frozen_row-cells-requires c).In-loop-k, long), (_, has.line k c.loop-k-test.true))
-
-pub put_row-requires : goal.put_row-requires
-put_row-requires c =
-    let (_, _, _, wide) = c.requires in
-    omega (arith, room (goal.at.put_row-requires c).In-loop-k, wide, c.loop-k.invariant.0, c.loop-k.auto.out)
 
 pub loop-k-preserved : goal.loop-k-preserved
 loop-k-preserved c =

@@ -9,12 +9,6 @@ use Rattle.freezing.specs.Blocks.{most_blocks, IsTaken}
 use Rattle.freezing.proofs.Spare.{none_taken, taken_few, spare_found}
 use Rattle.freezing.proofs.blocks.spare_block.Goals as goal
 
-pub take_rows-requires : goal.take_rows-requires
-take_rows-requires c = omega arith
-
-pub take_rows-requires-2 : goal.take_rows-requires-2
-take_rows-requires-2 c = omega (arith, c.take_rows.ensures.long)
-
 pub unwrap-j-requires : goal.unwrap-j-requires
 unwrap-j-requires c =
     let taken = c.take_rows-2.new.taken in

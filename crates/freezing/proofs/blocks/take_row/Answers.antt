@@ -1,14 +1,8 @@
 use mathlib.Core.Path.{◌∙◌}
 use native.Mathlib.Omega.{arith}
-use Rattle.freezing.proofs.Taken.{takes_none, takes_as, columns_more, column_taken, column_left}
+use Rattle.freezing.proofs.Taken.{takes_as, columns_more, column_taken, column_left}
 use Rattle.freezing.proofs.blocks.take_row.Goals as goal
 use Rattle.freezing.proofs.blocks.take_row.Goals.{else-t-eq-CONSTANT-via-then-t-eq-CONSTANT+else-block, else-t-eq-CONSTANT-via-else-t-eq-CONSTANT, else-t-eq-CONSTANT, then-t-eq-CONSTANT+then-block}
-
-pub loop-p-init : goal.loop-p-init
-loop-p-init c = takes_none (λ i q l mark low. omega (arith, l.1))
-
-pub term_at-t-requires : goal.term_at-t-requires
-term_at-t-requires c = (c.requires.0, omega (arith, c.loop-p-test.true))
 
 pub loop-p-preserved : goal.loop-p-preserved
 loop-p-preserved c =

@@ -1,13 +1,6 @@
-use mathlib.Core.Path.{◌∙◌}
 use native.Mathlib.Omega.{arith}
-use Rattle.freezing.proofs.Taken.{takes_none, takes_as, rows_more}
+use Rattle.freezing.proofs.Taken.{takes_as, rows_more}
 use Rattle.freezing.proofs.blocks.take_rows.Goals as goal
-
-pub loop-k-init : goal.loop-k-init
-loop-k-init c = takes_none (λ i q l mark low. omega (arith, l))
-
-pub take_row-requires : goal.take_row-requires
-take_row-requires c = (omega arith, c.loop-k.invariant.long ∙ c.requires.1)
 
 pub loop-k-preserved : goal.loop-k-preserved
 loop-k-preserved c = rows_more c.loop-k.invariant c.take_row.ensures

@@ -1,19 +1,10 @@
 use mathlib.Core.Path.{refl, sym, ◌∙◌}
 use mathlib.Core.Bool.{false≢true}
 use native.Mathlib.Omega.{arith}
-use borrow.Author.Count.{below_none, below_more}
+use borrow.Author.Count.{below_more}
 use Rattle.words.proofs.Answers.{true_holds, holds_true}
 use Rattle.model.proofs.Same.{same_term_iff}
 use Rattle.freezing.proofs.rows.first_column.Goals as goal
-
-pub term_at-t-requires : goal.term_at-t-requires
-term_at-t-requires c = c.requires
-
-pub loop-q-init : goal.loop-q-init
-loop-q-init c = below_none _
-
-pub term_at-u-requires : goal.term_at-u-requires
-term_at-u-requires c = (c.requires.0, omega (arith, c.requires.1))
 
 pub returns-then-same_term : goal.returns-then-same_term
 returns-then-same_term c =

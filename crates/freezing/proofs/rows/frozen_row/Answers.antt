@@ -1,17 +1,8 @@
-use mathlib.Core.Path.{refl, ap, ◌∙◌}
+use mathlib.Core.Path.{ap, ◌∙◌}
 use native.Mathlib.Omega.{arith}
 use Rattle.freezing.specs.Rows.{frozen_term}
 use Rattle.freezing.proofs.FrozenCells.{small_term, frozen_more, frozen_all}
 use Rattle.freezing.proofs.rows.frozen_row.Goals as goal
-
-pub table_at-requires : goal.table_at-requires
-table_at-requires c = c.requires.1
-
-pub loop-p-init : goal.loop-p-init
-loop-p-init c = record { long = refl; table = c.table_at.ensures; columns = λ q l. absurd (omega arith) }
-
-pub term_at-t-requires : goal.term_at-t-requires
-term_at-t-requires c = (c.requires.1, omega arith)
 
 pub frozen-requires : goal.frozen-requires
 frozen-requires c =

@@ -1,19 +1,10 @@
 use mathlib.Core.Path.{sym, ap, ◌∙◌}
 use native.Mathlib.Omega.{arith}
-use borrow.Author.Count.{below_none, below_more}
+use borrow.Author.Count.{below_more}
 use Rattle.model.specs.declared.Term.{Term}
 use Rattle.freezing.proofs.MatchedColumns.{match_constant, match_equal, is_matched, not_matched}
 use Rattle.freezing.proofs.rows.matches.Goals as goal
 use Rattle.freezing.proofs.rows.matches.Goals.{else-t-eq-CONSTANT-via-then-t-eq-CONSTANT+else-t-cells, else-t-eq-CONSTANT-via-else-t-eq-CONSTANT}
-
-pub loop-p-init : goal.loop-p-init
-loop-p-init c = below_none _
-
-pub term_at-t-requires : goal.term_at-t-requires
-term_at-t-requires c = (c.requires, omega arith)
-
-pub first_column-q-requires : goal.first_column-q-requires
-first_column-q-requires c = (c.requires, omega arith)
 
 pub returns-then-t-cells : goal.returns-then-t-cells
 returns-then-t-cells c =

@@ -1,5 +1,4 @@
 use mathlib.Core.Path.{sym, ◌∙◌}
-use native.Mathlib.Omega.{arith}
 use Rattle.hitting.proofs.LeastWeight.{weighed}
 use Rattle.hitting.proofs.Leading.{some_set, unled_none, unled_more, unled_first}
 use Rattle.hitting.proofs.choosing.first_view.Goals as goal
@@ -16,7 +15,3 @@ returns-then-weight_with-least c =
 
 pub loop-v-preserved : goal.loop-v-preserved
 loop-v-preserved c = unled_more _ _ _ _ c.loop-v.invariant (λ e. c.if-weight_with-least.false (c.weight_with.ensures ∙ e))
-
-pub unreachable-requires : goal.unreachable-requires
-unreachable-requires c =
-    let (u, above, to, leads) = c.loop-v.invariant.later in omega (arith, above, to, c.loop-v-test.false)

@@ -7,14 +7,6 @@ use Rattle.hitting.proofs.Lightest.{few_sets}
 use Rattle.hitting.proofs.filling.fill.Goals as goal
 use Rattle.hitting.proofs.filling.fill.Goals.{After-least_weight}
 
-pub loop-m-init : goal.loop-m-init
-loop-m-init c = (omega arith, c.requires.1)
-
-pub least_weight-requires : goal.least_weight-requires
-least_weight-requires c =
-    let (k, searched, below) = c.requires.0 in
-    ((k, searched, omega (arith, below, c.loop-m-test.true)), c.loop-m.invariant.1, omega arith)
-
 -- a set of at most eight labels
 few : (c : After-least_weight) → c.loop-m.m < sets
 few c =

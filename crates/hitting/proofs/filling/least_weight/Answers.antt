@@ -2,11 +2,8 @@ use mathlib.Core.Path.{◌≡◌, sym, ap, subst, ◌∙◌}
 use Prim.Native.Nat.{ℕ, ◌+◌, min}
 use native.Mathlib.Omega.{arith}
 use Rattle.model.specs.Limits.{most_views}
-use Rattle.hitting.proofs.LeastWeight.{weighed, LeastTo, least_none, least_more, least_all}
+use Rattle.hitting.proofs.LeastWeight.{weighed, LeastTo, least_more, least_all}
 use Rattle.hitting.proofs.filling.least_weight.Goals as goal
-
-pub loop-v-init : goal.loop-v-init
-loop-v-init c = let a = c.args in least_none a.hits.now a.costs.now a.table.now a.m
 
 pub weight_with-requires : goal.weight_with-requires
 weight_with-requires c =
