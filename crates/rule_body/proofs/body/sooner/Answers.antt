@@ -1,16 +1,12 @@
 -- `sooner`: the cases are the definition's.
-use mathlib.Core.Path.{◌≡◌, refl, ap}
-use Prim.Native.Nat.{min}
+use mathlib.Core.Path.{refl}
 use borrow.Author.Rules.{rules}
-use Rattle.std.specs.Prelude.{Some}
 use Rattle.rule_body.specs.Body.{soonest}
 use Rattle.rule_body.proofs.body.sooner.Goals as goal
 
 pub returns-in-Some-Some : goal.returns-in-Some-Some
 unfolding soonest
-returns-in-Some-Some c =
-    let least : c.min.result ≡ min c.in-Some-Some.m c.in-Some-Some.n = search rules in
-    rw (c.in-Some-Some.is-0, c.in-Some-Some.is-1) (ap Some least)
+returns-in-Some-Some c = rw (c.in-Some-Some.is-0, c.in-Some-Some.is-1) (search rules)
 
 pub returns-in-Some-None : goal.returns-in-Some-None
 unfolding soonest
