@@ -140,6 +140,7 @@ fn spelt(field: &[u8], behind: usize, out: &mut [u8]) -> Text
 {
     let mut n = 0;
     let mut at = 0;
+    // no `for`: a byte is spelt by one, two or four
     while at < field.len() {
         let Some(letter) = first_letter(&field[at..]) else {
             return no_text(behind);

@@ -26,6 +26,18 @@ fn call(p: Policy, s: Session, text: &[u8]) -> Decision
     }
 }
 
+// A text decided in a session: the partitions open, the text, what is said, and the partitions left open.
+pub type Case<'a> = (u64, &'a [u8], Said, u64);
+
+// The cases behind `start` cases, under one policy; how many there are then.
+pub fn all_decided(start: u64, p: Policy, cases: &[Case]) -> u64 {
+    let mut n = start;
+    for (open, text, expected, left) in cases {
+        n = decided(n, p, *open, text, *expected, *left);
+    }
+    n
+}
+
 // The case behind n cases, and its number: in a session with these partitions open the text is decided so, and these are left
 // open.
 pub fn decided(n: u64, p: Policy, mask: u64, text: &[u8], expected: Said, left: u64) -> u64 {

@@ -10,7 +10,7 @@ mod policies;
 mod said;
 
 pub use cases::{Number, Text, is_case, number_at, place_of, print_malformed, run_all, text_at};
-pub use deciding::decided;
+pub use deciding::{Case, all_decided, decided};
 pub use policies::{altered, example, wider};
 pub use said::{
     Said, apart, counted, given, no, nothing, print_case, refused, settled, unsettled, written, yes,

@@ -82,35 +82,18 @@ pub fn refused(number: u64, line: u64) -> Said {
 }
 
 fn print_word(word: Word) {
-    match word {
-        Word::Yes => {
-            io::write_all(1, b"yes");
-        }
-        Word::No => {
-            io::write_all(1, b"no");
-        }
-        Word::Refused => {
-            io::write_all(1, b"refused");
-        }
-        Word::Given => {
-            io::write_all(1, b"given");
-        }
-        Word::Settled => {
-            io::write_all(1, b"settled");
-        }
-        Word::Unsettled => {
-            io::write_all(1, b"not settled");
-        }
-        Word::Apart => {
-            io::write_all(1, b"apart");
-        }
-        Word::Written => {
-            io::write_all(1, b"written");
-        }
-        Word::Nothing => {
-            io::write_all(1, b"none");
-        }
-    }
+    let spelt: &[u8] = match word {
+        Word::Yes => b"yes",
+        Word::No => b"no",
+        Word::Refused => b"refused",
+        Word::Given => b"given",
+        Word::Settled => b"settled",
+        Word::Unsettled => b"not settled",
+        Word::Apart => b"apart",
+        Word::Written => b"written",
+        Word::Nothing => b"none",
+    };
+    io::write_all(1, spelt);
 }
 
 // What case n said; the line is left open.

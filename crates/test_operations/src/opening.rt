@@ -47,28 +47,25 @@ pub fn of_loaded(p: Policy, wider: Policy, widest: Policy, start: u64) -> u64 {
     n = opens(n, wider, 7);
     n = opens(n, widest, 4294967295);
     n = opens(n, with_partition_count(p, 3), 7);
-    n = opens(n, with_term(p, 3, 1, 1, 4294967295), 3);
-    n = opens(n, with_term(p, 3, 1, 1, 4294967296), 3);
-    n = opens(n, with_term(p, 3, 1, 1, 18446744073709551615), 3);
+    for constant in [4294967295, 4294967296, 18446744073709551615] {
+        n = opens(n, with_term(p, 3, 1, 1, constant), 3);
+    }
     n = opens(n, with_grants(p, 2, 3), 3);
-    n = opens(n, with_columns(wider, 2, 8), 7);
-    n
+    opens(n, with_columns(wider, 2, 8), 7)
 }
 
 // The empty policy; counts of 0 and past the limits; and counts that leave out what stands there, or take in what does not.
 pub fn of_counts(p: Policy, start: u64) -> u64 {
     let mut n = turned_back(start, load::empty_policy());
-    n = turned_back(n, with_partition_count(p, 0));
-    n = turned_back(n, with_partition_count(p, 1));
-    n = turned_back(n, with_partition_count(p, 33));
-    n = turned_back(n, with_view_count(p, 0));
-    n = turned_back(n, with_view_count(p, 3));
-    n = turned_back(n, with_view_count(p, 5));
-    n = turned_back(n, with_view_count(p, 33));
-    n = turned_back(n, with_table_count(p, 0));
-    n = turned_back(n, with_table_count(p, 1));
-    n = turned_back(n, with_table_count(p, 3));
-    n = turned_back(n, with_table_count(p, 17));
+    for count in [0, 1, 33] {
+        n = turned_back(n, with_partition_count(p, count));
+    }
+    for count in [0, 3, 5, 33] {
+        n = turned_back(n, with_view_count(p, count));
+    }
+    for count in [0, 1, 3, 17] {
+        n = turned_back(n, with_table_count(p, count));
+    }
     n
 }
 
@@ -82,21 +79,19 @@ pub fn of_tables_and_partitions(p: Policy, wider: Policy, start: u64) -> u64 {
     n = turned_back(n, with_columns(p, 2, 1));
     n = turned_back(n, with_grants(p, 4, 1));
     n = turned_back(n, with_grants(p, 0, 18446744073709551615));
-    n = turned_back(n, with_grants(p, 0, 6));
-    n
+    turned_back(n, with_grants(p, 0, 6))
 }
 
 // A view of no table, of an unknown one, with terms and without, and behind the last.
 pub fn of_views(p: Policy, start: u64) -> u64 {
-    let mut n = turned_back(start, with_view_table(p, 0, 0));
-    n = turned_back(n, with_view_table(p, 0, 3));
-    n = turned_back(n, with_view_table(p, 0, 17));
-    n = turned_back(n, with_view_table(p, 0, 18446744073709551615));
+    let mut n = start;
+    for table in [0, 3, 17, 18446744073709551615] {
+        n = turned_back(n, with_view_table(p, 0, table));
+    }
     let no_terms = with_term(with_term(p, 3, 0, 0, 0), 3, 1, 0, 0);
     n = turned_back(n, no_terms);
     n = turned_back(n, with_view_table(no_terms, 3, 3));
-    n = turned_back(n, with_view_table(p, 4, 1));
-    n
+    turned_back(n, with_view_table(p, 4, 1))
 }
 
 // Terms of view 3 (`2 !1 !2`): marks are 1 a constant, 2 shown, 3 hidden, and 0 with the number 0 unused.
@@ -105,19 +100,23 @@ pub fn of_terms(p: Policy, start: u64) -> u64 {
     let mut n = turned_back(start, with_term(p, 2, 2, 1, 0));
     n = turned_back(n, with_term(p, 2, 2, 2, 3));
     n = turned_back(n, with_term(p, 2, 7, 0, 1));
-    // a column left unused, numbered or not, and a mark that is none
-    n = turned_back(n, with_term(p, 2, 1, 0, 0));
-    n = turned_back(n, with_term(p, 2, 1, 0, 63));
-    n = turned_back(n, with_term(p, 2, 1, 0, 18446744073709551615));
-    n = turned_back(n, with_term(p, 2, 1, 4, 2));
-    // past the limits
-    n = turned_back(n, with_term(p, 2, 1, 2, 64));
-    n = turned_back(n, with_term(p, 2, 1, 3, 64));
-    n = turned_back(n, with_term(p, 2, 1, 2, 4294967298));
-    n = turned_back(n, with_term(p, 2, 1, 3, 18446744073709551615));
-    // 1 both shown and hidden
-    n = turned_back(n, with_term(p, 2, 1, 3, 1));
+    let terms_of_column_2 = [
+        // a column left unused, numbered or not, and a mark that is none
+        (0, 0),
+        (0, 63),
+        (0, 18446744073709551615),
+        (4, 2),
+        // past the limits
+        (2, 64),
+        (3, 64),
+        (2, 4294967298),
+        (3, 18446744073709551615),
+        // 1 both shown and hidden
+        (3, 1),
+    ];
+    for (mark, number) in terms_of_column_2 {
+        n = turned_back(n, with_term(p, 2, 1, mark, number));
+    }
     // behind the last view
-    n = turned_back(n, with_term(p, 31, 7, 2, 1));
-    n
+    turned_back(n, with_term(p, 31, 7, 2, 1))
 }

@@ -79,9 +79,7 @@ pub fn with_columns(p: Policy, i: usize, columns: u64) -> Policy
     requires { i < most_tables }
 {
     let mut q = p;
-    let mut t = p.tables;
-    t.columns[i] = columns;
-    q.tables = t;
+    q.tables.columns[i] = columns;
     q
 }
 
@@ -99,9 +97,7 @@ pub fn with_view_table(p: Policy, i: usize, table: u64) -> Policy
     requires { i < most_views }
 {
     let mut q = p;
-    let mut v = p.views[i];
-    v.table = table;
-    q.views[i] = v;
+    q.views[i].table = table;
     q
 }
 
@@ -110,8 +106,6 @@ pub fn with_term(p: Policy, i: usize, column: usize, mark: u64, number: u64) -> 
     requires { (i < most_views) × (column < most_columns) }
 {
     let mut q = p;
-    let mut v = p.views[i];
-    v.terms[column] = Term { mark, number };
-    q.views[i] = v;
+    q.views[i].terms[column] = Term { mark, number };
     q
 }

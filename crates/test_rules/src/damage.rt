@@ -78,9 +78,9 @@ pub fn of_example(p: Policy, start: u64) -> u64 {
     for i in 0..LONG {
         n = deleted(p, i, n);
         n = doubled(p, i, n);
-        n = replaced(p, i, b' ', n);
-        n = replaced(p, i, 0, n);
-        n = replaced(p, i, 128, n);
+        for by in [b' ', 0, 128] {
+            n = replaced(p, i, by, n);
+        }
     }
     n
 }

@@ -2,6 +2,7 @@
 
 use crate::compare::{decided as case_decided, written, written_at};
 use model::Policy;
+use test_expect::{Case, no, yes};
 
 // Sixteen tables of eight columns.
 pub fn widest() -> Policy {
@@ -83,38 +84,16 @@ pub fn longest_constants(widest: Policy, start: u64) -> u64 {
 
 // Document 01's queries (1), (2), (3), (4) and (6) as rules, decided as it prints them.
 pub fn decided(p: Policy, start: u64) -> u64 {
-    let mut n = case_decided(
-        start,
-        p,
-        b"Q(x) :- T1(x, 4, y)\n",
-        3,
-        test_expect::yes(2),
-        3,
-    );
-    n = case_decided(
-        n,
-        p,
-        b"Q(x) :- T1(x, 4, y), T2(x, 7)\n",
-        3,
-        test_expect::yes(2),
-        3,
-    );
-    n = case_decided(n, p, b"Q(x) :- T2(x, y)\n", 3, test_expect::yes(1), 1);
-    n = case_decided(
-        n,
-        p,
-        b"Q(x, y, z) :- T1(x, y, z)\n",
-        1,
-        test_expect::no(1),
-        1,
-    );
-    n = case_decided(
-        n,
-        p,
-        b"Q(x, y) :- T1(x, y, z), T1(w, y, z)\n",
-        1,
-        test_expect::yes(1),
-        1,
-    );
+    let cases: [Case; 5] = [
+        (3, b"Q(x) :- T1(x, 4, y)\n", yes(2), 3),
+        (3, b"Q(x) :- T1(x, 4, y), T2(x, 7)\n", yes(2), 3),
+        (3, b"Q(x) :- T2(x, y)\n", yes(1), 1),
+        (1, b"Q(x, y, z) :- T1(x, y, z)\n", no(1), 1),
+        (1, b"Q(x, y) :- T1(x, y, z), T1(w, y, z)\n", yes(1), 1),
+    ];
+    let mut n = start;
+    for (open, rule, said, left) in cases {
+        n = case_decided(n, p, rule, open, said, left);
+    }
     n
 }

@@ -59,14 +59,14 @@ fn of_view(p: Policy, k: usize, rows: &[u64], known: &List, names: &mut List)
     requires { (k ≤ 31) × (9 ≤ length rows.now) }
 {
     let line = valuations::view_rows(p, k);
-    io::write_all(1, b"  view ");
-    io::print_decimal(1, k as u64 + 1);
-    io::write_all(1, b" on archive 1:");
-    print_answers(&line, rows, rows, known, names);
-    io::write_all(1, b"  view ");
-    io::print_decimal(1, k as u64 + 1);
-    io::write_all(1, b" on archive 2:");
-    print_answers(&line, &rows[ROW..], rows, known, names);
+    for (number, archive) in [(1, rows), (2, &rows[ROW..])] {
+        io::write_all(1, b"  view ");
+        io::print_decimal(1, k as u64 + 1);
+        io::write_all(1, b" on archive ");
+        io::print_decimal(1, number);
+        io::write_all(1, b":");
+        print_answers(&line, archive, rows, known, names);
+    }
 }
 
 // The views that partition n grants.
@@ -83,8 +83,10 @@ pub fn of_views(p: Policy, n: u64, rows: &[u64], known: &List, names: &mut List)
 pub fn of_query(lines: &[u64], rows: &[u64], known: &List, names: &mut List)
     requires { (length lines.now ≤ 136) × (9 ≤ length rows.now) }
 {
-    io::write_all(1, b"  query on archive 1:");
-    print_answers(lines, rows, rows, known, names);
-    io::write_all(1, b"  query on archive 2:");
-    print_answers(lines, &rows[ROW..], rows, known, names);
+    for (number, archive) in [(1, rows), (2, &rows[ROW..])] {
+        io::write_all(1, b"  query on archive ");
+        io::print_decimal(1, number);
+        io::write_all(1, b":");
+        print_answers(lines, archive, rows, known, names);
+    }
 }

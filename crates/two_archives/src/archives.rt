@@ -61,8 +61,10 @@ fn print(p: Policy, archive: &[u64], known: &List, names: &mut List) {
 pub fn print_both(p: Policy, rows: &[u64], known: &List, names: &mut List)
     requires { 9 ≤ length rows.now }
 {
-    io::write_all(1, b"  archive 1\n");
-    print(p, rows, known, names);
-    io::write_all(1, b"  archive 2\n");
-    print(p, &rows[ROW..], known, names);
+    for (number, archive) in [(1, rows), (2, &rows[ROW..])] {
+        io::write_all(1, b"  archive ");
+        io::print_decimal(1, number);
+        io::write_all(1, b"\n");
+        print(p, archive, known, names);
+    }
 }

@@ -51,13 +51,7 @@ fn query_loses(lines: &QueryRows, n: usize, rows: &[u64]) -> bool
 pub fn grants(p: Policy, n: u64, k: usize) -> bool
     requires { k < 32 }
 {
-    if n < 1 {
-        return false;
-    }
-    if 64 < n {
-        return false;
-    }
-    words::has_bit(p.grants[k], n - 1)
+    (1..=64).contains(&n) && words::has_bit(p.grants[k], n - 1)
 }
 
 // "A view's answers are those of a query with that one line."
