@@ -10,6 +10,7 @@ use native.Mathlib.Omega.{arith}
 use borrow.Author.Tests.{le-ltb}
 use lib.Dec.{T, ltb}
 use lib.ListN.{length, get_or}
+use Rattle.std.specs.Prelude.{Result}
 use Rattle.theory.specs.Query.{Query, ◌∈◌}
 use Rattle.theory.specs.Executable.Label.{labels}
 use Rattle.theory.specs.Executable.Test.{any}
@@ -18,6 +19,7 @@ use Rattle.theory.proofs.Pigeonhole.{member}
 use Rattle.words.proofs.Answers.{holds_true, either}
 use Rattle.model.specs.Limits.{up_to}
 use Rattle.model.specs.declared.Policy.{Policy}
+use Rattle.model.specs.declared.Refusal.{Refusal}
 use Rattle.model.proofs.Limits.{up_to_iff}
 use Rattle.model.proofs.FirstFault.{found_in}
 use Rattle.query_text.specs.Text.{Reading, refused, accepted, read}
@@ -78,7 +80,7 @@ case_owed (refusal number line) = 2 ∷ number ∷ line ∷ []
 case_owed settlement = 0 ∷ 0 ∷ 0 ∷ []
 case_owed (archives Q) = 1 ∷ 0 ∷ 0 ∷ []
 
-module _ (d : Declared) (i : ℕ) (r : Telling) (before after : List ℕ) where
+module _ (d : Declared) (i : ℕ) (r : Result Telling Refusal) (before after : List ℕ) where
   given_case : (o : Owed) → Gives d i r before after o → case_of (said_telling r) ≡ case_owed o
   unfolding case_of case_owed number_of
   given_case (refusal number line) g = ap case_of g.reply
@@ -95,7 +97,7 @@ module _ (d : Declared) (i : ℕ) (r : Telling) (before after : List ℕ) where
 abbrev TellingNumber : SaidTelling → Type 0
 TellingNumber s = s.word ≡ says_refused → s.number ∈ explaining_numbers
 
-module _ (d : Declared) (n : ℕ) (text : List ℕ) (r : Telling) (before after : List ℕ) where
+module _ (d : Declared) (n : ℕ) (text : List ℕ) (r : Result Telling Refusal) (before after : List ℕ) where
   abbrev Numbered : Owed → Type 0
   Numbered o = Gives d (n - 1) r before after o → TellingNumber (said_telling r)
 
@@ -141,7 +143,7 @@ module _ {p : Policy} {l : Loadable p} {n : ℕ} {text before : List ℕ} {Q : Q
       subst (λ (ns : List ℕ). T (settled (views_word ns) (labels d.views Q)) ↔ PartitionDetermines d (n - 1) Q)
       (sym (there d.partitions (n - 1) [] at)) s
 
-  word_is : {r : Telling} {after : List ℕ} → ArchivesGiven p n text before r after
+  word_is : {r : Result Telling Refusal} {after : List ℕ} → ArchivesGiven p n text before r after
       → (said_telling r).word ≡ cond is_settled says_settled says_apart
   word_is {r} {after} g = go is_settled (subst (Gives d (n - 1) r before after) owed_is (g.loaded l))
     where

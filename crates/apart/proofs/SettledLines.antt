@@ -8,6 +8,7 @@ use Prim.Native.Nat.{ℕ, ◌<◌}
 use native.Mathlib.Omega.{arith}
 use borrow.Author.Tests.{eqb-true}
 use lib.Dec.{T}
+use Rattle.std.specs.Prelude.{Ok}
 use Rattle.theory.specs.Query.{over, Line, Query, ◌∈◌}
 use Rattle.theory.specs.Executable.Cover.{covers}
 use Rattle.theory.specs.Executable.Label.{labels, settles}
@@ -68,7 +69,7 @@ module _ {d : Declared} {t : Tables} {ns : List ℕ} {Q : Query} {r : List ℕ} 
   found line u = u d t Q s.word ns a.ready a.posed.count s.shown s.shared a.partition
 
   pub says_settled : UnsettledFound r i n rows left None → (before after : List ℕ) → after ≡ before
-      → Gives d i Settled before after (cond is_settled settlement (archives Q))
+      → Gives d i (Ok Settled) before after (cond is_settled settlement (archives Q))
   unfolding said_telling
   says_settled u before after same =
       let yes_settled = is_settles ∙ sym (holds_true _ (answered (found None u))) in
@@ -86,7 +87,7 @@ module _ {d : Declared} {t : Tables} {ns : List ℕ} {Q : Query} {r : List ℕ} 
     }
 
     pub says_apart : (count : ℕ) (before after : List ℕ) → ToldApart d i Q count before after
-        → Gives d i (Apart count) before after (cond is_settled settlement (archives Q))
+        → Gives d i (Ok (Apart count)) before after (cond is_settled settlement (archives Q))
     unfolding said_telling
     says_apart count before after g =
         let not_settled = is_settles ∙ sym (fails_false _ (unanswered (found (Some k) u))) in

@@ -1,11 +1,12 @@
 -- Request 1, "Two archives behind a no": the contract of `tell_apart`.
-use Rattle.std.specs.Prelude.{◌≡◌, cond, List, [], ◌∷◌, ℕ, ◌+◌, ◌-◌, ◌*◌, ◌≤◌, ltb, length, get_or}
+use Rattle.std.specs.Prelude.{◌≡◌, cond, List, [], ◌∷◌, ℕ, ◌+◌, ◌-◌, ◌*◌, ◌≤◌, ltb, length, get_or, Result, Ok, Err}
 use Rattle.theory.specs.Query.{Query}
 use Rattle.theory.specs.Archive.{Row}
 use Rattle.theory.specs.Apart.{TellsApart}
 use Rattle.theory.specs.Executable.Label.{labels}
 use Rattle.model.specs.Limits.{most_lines, up_to}
 use Rattle.model.specs.declared.Policy.{Policy}
+use Rattle.model.specs.declared.Refusal.{Refusal}
 use Rattle.query_text.specs.Text.{Reading, refused, accepted, read}
 use Rattle.policy_text.specs.Declared.{Declared, Grants}
 use Rattle.policy_text.specs.Policy.{views_word}
@@ -14,7 +15,7 @@ use Rattle.labelling.specs.Settled.{settled}
 use Rattle.freezing.specs.Cells.{row_cells, all_cells}
 use Rattle.label_lists.specs.Buffer.{headed}
 use Rattle.apart.specs.declared.telling.Telling.{Telling}
-use Rattle.apart.specs.declared.telling.Telling.TheVariants.{Settled, Apart, Refused}
+use Rattle.apart.specs.declared.telling.Telling.TheVariants.{Settled, Apart}
 
 -- ---- the reply
 
@@ -44,10 +45,10 @@ abbrev pub said_refused : (number line : ℕ) → SaidTelling
 said_refused n k = record { word = says_refused; count = 0; number = n; line = k }
 
 -- of each case of the reply
-unfoldable pub said_telling : Telling → SaidTelling
-said_telling Settled = said_settled
-said_telling (Apart n) = said_rows n
-said_telling (Refused n k) = said_refused n k
+unfoldable pub said_telling : Result Telling Refusal → SaidTelling
+said_telling (Ok Settled) = said_settled
+said_telling (Ok (Apart n)) = said_rows n
+said_telling (Err e) = said_refused e.number e.line
 
 -- ---- what a call owes
 
@@ -82,7 +83,7 @@ owed d n text room = cond (up_to (length d.partitions) n) (owed_for d n room (re
 -- ---- what the reply says and the buffer holds then
 
 -- "On any refusal … lent buffers stay", and "no row": nothing is written
-pub record Stays (r : Telling) (said : SaidTelling) (before after : List ℕ) : Type 0 where
+pub record Stays (r : Result Telling Refusal) (said : SaidTelling) (before after : List ℕ) : Type 0 where
   pub reply : said_telling r ≡ said
   pub buffer : after ≡ before
 
@@ -97,12 +98,12 @@ pub record ToldApart (d : Declared) (i : ℕ) (Q : Query) (count : ℕ) (before 
   pub apart : TellsApart d.widths (Grants d i) Q odd others
 
 -- for each of the three: what the reply says, and the buffer before and after the call
-abbrev pub Gives : Declared → ℕ → Telling → (before after : List ℕ) → Owed → Type 0
+abbrev pub Gives : Declared → ℕ → Result Telling Refusal → (before after : List ℕ) → Owed → Type 0
 Gives d i r before after (refusal number line) = Stays r (said_refused number line) before after
 Gives d i r before after settlement = Stays r said_settled before after
 Gives d i r before after (archives Q) = (count : ℕ) × (said_telling r ≡ said_rows count) × ToldApart d i Q count before after
 
 -- a call for partition n, counted from 1, with a buffer as it was before and is after
-pub record ArchivesGiven (p : Policy) (n : ℕ) (text before : List ℕ) (r : Telling) (after : List ℕ) : Type 0 where
+pub record ArchivesGiven (p : Policy) (n : ℕ) (text before : List ℕ) (r : Result Telling Refusal) (after : List ℕ) : Type 0 where
   pub unloaded : (Loadable p → ⊥) → Stays r (said_refused 8 0) before after
   pub loaded : (l : Loadable p) → Gives l.declared (n - 1) r before after (owed l.declared n text (length before))

@@ -10,7 +10,7 @@ use crate::unsettled::unsettled_line;
 use crate::writing::put_archives;
 use covering::Prepared;
 use freezing::ROW_CELLS;
-use model::{MOST_LINES, Policy, QueryRows};
+use model::{MOST_LINES, Policy, QueryRows, Refusal};
 
 // "eight lines and one row for each of at most 32 views": of the odd row's table, so of one table
 const TABLE_VIEWS: usize = 32;
@@ -18,53 +18,44 @@ const TABLE_VIEWS: usize = 32;
 // "under 360 numbers": room for these rows
 pub const MOST_CELLS: usize = (MOST_LINES + TABLE_VIEWS) * ROW_CELLS;
 
-// Whether the partition settles the query, or how many rows tell it apart, or what turns the call back.
+// The partition settles the query, or so many rows tell it apart.
 #[derive(Clone, Copy)]
 pub enum Telling {
     Settled,
-    Apart { rows: u64 },
-    Refused { number: u64, line: u64 },
+    Apart { rows: usize },
 }
 
 // The same of a query of n lines that is laid in rows, and the partition at place i, counted from 0.
 fn tell_rows(ready: &Prepared, i: u64, n: usize, lines: &mut QueryRows, out: &mut [u64]) -> Telling
     requires { SomeAsked ready.now i n lines.old × (length lines.old ≡ query_rows_long) × Wide out.old }
-    ensures { AskedTold ready.now i n lines.old out.old result out.new }
+    ensures { AskedTold ready.now i n lines.old out.old (Ok result) out.new }
 {
     let left = labelling::shown_rows(n, lines);
     let Some(line) = unsettled_line(ready, i, n, lines, left) else {
         return Telling::Settled;
     };
     let rows = put_archives(ready, i, n, lines, left, line, out);
-    Telling::Apart { rows: rows as u64 }
+    Telling::Apart { rows }
 }
 
 // Rows on which the views of partition n agree whether the first row is there or not, and the query does not; cells past them stay.
-pub fn tell_apart(p: Policy, n: u64, text: &[u8], out: &mut [u64]) -> Telling
+pub fn tell_apart(p: Policy, n: u64, text: &[u8], out: &mut [u64]) -> Result<Telling, Refusal>
     ensures { ArchivesGiven p n text.now out.old result out.new }
 {
     if !validity::valid(p) {
-        return Telling::Refused { number: 8, line: 0 };
+        return Err(Refusal { number: 8, line: 0 });
     }
     if !model::is_among(n, p.partition_count as u64) {
-        return Telling::Refused { number: 4, line: 0 };
+        return Err(Refusal { number: 4, line: 0 });
     }
-    let tables = p.tables;
-    match query_text::read_query(tables, text) {
-        Ok(q) => {
-            if out.len() < MOST_CELLS {
-                return Telling::Refused {
-                    number: 10,
-                    line: 0,
-                };
-            }
-            let ready = covering::prepare(p);
-            let mut lines = entering::query_rows(q);
-            tell_rows(&ready, n - 1, q.count, &mut lines, out)
-        }
-        Err(r) => Telling::Refused {
-            number: r.number,
-            line: r.line,
-        },
+    let q = query_text::read_query(p.tables, text)?;
+    if out.len() < MOST_CELLS {
+        return Err(Refusal {
+            number: 10,
+            line: 0,
+        });
     }
+    let ready = covering::prepare(p);
+    let mut lines = entering::query_rows(q);
+    Ok(tell_rows(&ready, n - 1, q.count, &mut lines, out))
 }

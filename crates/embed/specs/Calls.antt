@@ -56,7 +56,7 @@ abbrev pub ExplainCall : Policy → ℕ → (text before : List ℕ) → PlainRe
 ExplainCall p n text before r after = (e : Result Explaining Refusal) × ExplanationGiven p n text before e after × (r ≡ plain_explaining e)
 
 abbrev pub ApartCall : Policy → ℕ → (text before : List ℕ) → PlainReply → List ℕ → Type 0
-ApartCall p n text before r after = (t : Telling) × ArchivesGiven p n text before t after × (r ≡ plain_telling t)
+ApartCall p n text before r after = (t : Result Telling Refusal) × ArchivesGiven p n text before t after × (r ≡ plain_telling t)
 
 abbrev pub GrantCall : Policy → ℕ → (text before : List ℕ) → PlainReply → List ℕ → Type 0
 GrantCall p n text before r after = (g : Result (Option ℕ) Refusal) × GrantGiven p n text before g after × (r ≡ plain_granting g)

@@ -7,11 +7,13 @@ use Prim.Native.Nat.{ℕ, ◌-◌, ◌*◌, ◌≤◌}
 use native.Mathlib.Omega.{arith}
 use lib.ListN.{length, take, drop, get_or, length-append}
 use lib.Seq.{take_at}
+use Rattle.std.specs.Prelude.{Result, Ok, Err}
 use Rattle.theory.specs.Query.{Query}
 use Rattle.theory.specs.Archive.{Row}
 use Rattle.theory.specs.Executable.Label.{labels}
 use Rattle.model.specs.Limits.{up_to}
 use Rattle.model.specs.declared.Policy.{Policy}
+use Rattle.model.specs.declared.Refusal.{Refusal}
 use Rattle.query_text.specs.Text.{Reading, refused, accepted, read}
 use Rattle.policy_text.specs.Declared.{Declared as Declares}
 use Rattle.policy_text.specs.Policy.{views_word, policy_value}
@@ -24,7 +26,7 @@ use Rattle.freezing.specs.Cells.{row_cells, all_cells}
 use Rattle.apart.specs.Archives.{SaidTelling, said_telling, said_rows, said_settled, said_refused, says_settled, says_apart, says_refused}
 use Rattle.apart.specs.Archives.{Owed, refusal, settlement, archives, owed, owed_for, most_rows, most_cells, Gives, ArchivesGiven}
 use Rattle.apart.specs.declared.telling.Telling.{Telling}
-use Rattle.apart.specs.declared.telling.Telling.TheVariants.{Settled, Apart, Refused}
+use Rattle.apart.specs.declared.telling.Telling.TheVariants.{Settled, Apart}
 use Rattle.page.specs.Sizes.{Shown}
 use Rattle.page.specs.Refusal.{policy_refused, query_refused}
 use Rattle.page.proofs.Texts.{query_shown}
@@ -67,7 +69,7 @@ module _ (d : Declares) (n : ℕ) (text : List ℕ) where
 
 -- ---- of a call with a buffer that has room for all rows
 
-module _ {p : Policy} {n : ℕ} {text before after : List ℕ} {r : Telling} (g : ArchivesGiven p n text before r after)
+module _ {p : Policy} {n : ℕ} {text before after : List ℕ} {r : Result Telling Refusal} (g : ArchivesGiven p n text before r after)
     (room : length before ≡ most_cells) (l : Loadable p) where
   abbrev d : Declares
   d = l.declared
@@ -88,7 +90,7 @@ module _ {p : Policy} {n : ℕ} {text before after : List ℕ} {r : Telling} (g 
     pub inside : count * row_cells ≤ length after
     pub page : PageOf d (n - 1) text (apart_lines odd others) o
 
-  pub apart_given : {count : ℕ} → r ≡ Apart count → Tells count (owed d n text most_cells)
+  pub apart_given : {count : ℕ} → r ≡ Ok (Apart count) → Tells count (owed d n text most_cells)
   unfolding said_telling
   apart_given {count} e = go (owed d n text most_cells) given
     where
@@ -118,7 +120,7 @@ module _ {p : Policy} {n : ℕ} {text before after : List ℕ} {r : Telling} (g 
             page = record { odd = w.odd; others = w.others; apart = w.apart; few = omega (arith, w.many, w.few); is = refl };
           }
 
-  pub apart_settled : r ≡ Settled → ApartUnder d n text settled_line
+  pub apart_settled : r ≡ Ok Settled → ApartUnder d n text settled_line
   unfolding said_telling
   apart_settled e = go (owed d n text most_cells) given
     where
@@ -131,7 +133,7 @@ module _ {p : Policy} {n : ℕ} {text before after : List ℕ} {r : Telling} (g 
           let t : said_settled ≡ said_rows k = rw e at s in
           absurd (settled≢apart (ap (λ (x : SaidTelling). x.word) t))
 
-  pub apart_refused : {k line : ℕ} → r ≡ Refused k line → Shown text line × ApartUnder d n text (query_refused text k line)
+  pub apart_refused : {k line : ℕ} → r ≡ Err (record { number = k; line = line }) → Shown text line × ApartUnder d n text (query_refused text k line)
   unfolding said_telling
   apart_refused {k} {line} e = go (owed d n text most_cells) refl given
     where

@@ -12,7 +12,7 @@ ghost use Rattle.mode_apart.specs.ApartPage.{ApartUnder, ApartPage};
 
 use apart::{MOST_CELLS, Telling};
 use freezing::ROW_CELLS;
-use model::Policy;
+use model::{Policy, Refusal};
 
 // The page for a partition and a query text under a policy that was loaded.
 fn apart_under(p: Policy, n: u64, query: &[u8], out: &mut [u8]) -> usize
@@ -22,18 +22,12 @@ fn apart_under(p: Policy, n: u64, query: &[u8], out: &mut [u8]) -> usize
 {
     let mut cells = [0; MOST_CELLS];
     match apart::tell_apart(p, n, query, &mut cells) {
-        Telling::Settled => writing::put_bytes(out, 0, b"settled\n"),
-        Telling::Apart { rows } => {
-            let end = rows as usize * ROW_CELLS;
+        Ok(Telling::Settled) => writing::put_bytes(out, 0, b"settled\n"),
+        Ok(Telling::Apart { rows }) => {
+            let end = rows * ROW_CELLS;
             rows::put_apart(out, p.tables, &cells[..end])
         }
-        Telling::Refused { number, line } => page::refusal_page(
-            b"refused ",
-            query,
-            number,
-            line,
-            out,
-        ),
+        Err(Refusal { number, line }) => page::refusal_page(b"refused ", query, number, line, out),
     }
 }
 

@@ -11,7 +11,7 @@ use Rattle.sessions.specs.declared.replies.Reply.{Reply}
 use Rattle.sessions.specs.declared.replies.Reply.TheVariants.{Yes, No, Refused as NotDecided}
 use Rattle.explanations.specs.declared.Explaining.{Explaining}
 use Rattle.apart.specs.declared.telling.Telling.{Telling}
-use Rattle.apart.specs.declared.telling.Telling.TheVariants.{Settled as SettledTelling, Apart, Refused as NotTold}
+use Rattle.apart.specs.declared.telling.Telling.TheVariants.{Settled as SettledTelling, Apart}
 use Rattle.plain_replies.specs.Words.{Word, word_number, refused, accepted, yes, no, given, settled, unsettled, apart, none, written}
 use Rattle.plain_replies.specs.Replies.{says, plain_outcome, plain_reply, plain_listing, plain_explaining}
 use Rattle.plain_replies.specs.Replies.{plain_telling, plain_granting, plain_imported}
@@ -84,13 +84,13 @@ explanation_back (Ok x) = go x.is_settled x.count
     go false n = refl
 explanation_back (Err e) = refl
 
-abbrev telling : PlainReply → Telling
-telling r = either settled SettledTelling (either apart (Apart r.count) (NotTold r.number r.line) r) r
+abbrev telling : PlainReply → Result Telling Refusal
+telling r = either settled (Ok SettledTelling) (either apart (Ok (Apart r.count)) (refusal r) r) r
 
-telling_back : (o : Telling) → telling (plain_telling o) ≡ o
-telling_back SettledTelling = refl
-telling_back (Apart n) = refl
-telling_back (NotTold n k) = refl
+telling_back : (o : Result Telling Refusal) → telling (plain_telling o) ≡ o
+telling_back (Ok SettledTelling) = refl
+telling_back (Ok (Apart n)) = refl
+telling_back (Err e) = refl
 
 abbrev granting : PlainReply → Result (Option ℕ) Refusal
 granting r = either given (Ok (Some r.count)) (either none (Ok None) (refusal r) r) r

@@ -5,7 +5,7 @@ use Rattle.sessions.specs.declared.replies.Reply.{Reply}
 use Rattle.sessions.specs.declared.replies.Reply.TheVariants.{Yes, No, Refused as NotDecided}
 use Rattle.explanations.specs.declared.Explaining.{Explaining}
 use Rattle.apart.specs.declared.telling.Telling.{Telling}
-use Rattle.apart.specs.declared.telling.Telling.TheVariants.{Settled as SettledTelling, Apart, Refused as NotTold}
+use Rattle.apart.specs.declared.telling.Telling.TheVariants.{Settled as SettledTelling, Apart}
 use Rattle.plain_replies.specs.Words.{Word, word_number, refused, accepted, yes, no, given, settled, unsettled, apart, none, written}
 use Rattle.plain_replies.specs.declared.PlainReply.{PlainReply}
 
@@ -42,10 +42,10 @@ plain_explaining (Ok x) = says (cond x.is_settled settled unsettled) x.count
 plain_explaining (Err e) = refusal e.number e.line
 
 -- of telling apart, with the number of rows
-abbrev pub plain_telling : Telling → PlainReply
-plain_telling SettledTelling = says settled 0
-plain_telling (Apart n) = says apart n
-plain_telling (NotTold n k) = refusal n k
+abbrev pub plain_telling : Result Telling Refusal → PlainReply
+plain_telling (Ok SettledTelling) = says settled 0
+plain_telling (Ok (Apart n)) = says apart n
+plain_telling (Err e) = refusal e.number e.line
 
 -- of the smallest grant, with the list's length
 abbrev pub plain_granting : Result (Option ℕ) Refusal → PlainReply

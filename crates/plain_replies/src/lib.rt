@@ -109,13 +109,13 @@ pub fn of_explaining(o: Result<Explaining, Refusal>) -> PlainReply
 }
 
 // Of telling apart.
-pub fn of_telling(o: Telling) -> PlainReply
+pub fn of_telling(o: Result<Telling, Refusal>) -> PlainReply
     ensures { result ≡ plain_telling o }
 {
     match o {
-        Telling::Settled => counted(SETTLED, 0),
-        Telling::Apart { rows } => counted(APART, rows),
-        Telling::Refused { number, line } => refused(Refusal { number, line }),
+        Ok(Telling::Settled) => counted(SETTLED, 0),
+        Ok(Telling::Apart { rows }) => counted(APART, rows as u64),
+        Err(r) => refused(r),
     }
 }
 

@@ -5,14 +5,14 @@ ghost use Rattle.std.specs.Prelude.{◌≤◌};
 
 use crate::rows;
 use apart::Telling;
-use model::Policy;
+use model::{Policy, Refusal};
 use test_expect::Said;
 
-fn told(r: Telling) -> Said {
+fn told(r: Result<Telling, Refusal>) -> Said {
     match r {
-        Telling::Settled => test_expect::settled(0),
-        Telling::Apart { rows } => test_expect::apart(rows),
-        Telling::Refused { number, line } => test_expect::refused(number, line),
+        Ok(Telling::Settled) => test_expect::settled(0),
+        Ok(Telling::Apart { rows }) => test_expect::apart(rows as u64),
+        Err(Refusal { number, line }) => test_expect::refused(number, line),
     }
 }
 

@@ -110,14 +110,14 @@ pub fn not_apart(p: Policy, q: Query) -> bool {
     let end = put_query(&mut text, q);
     let mut rows = [0; 360];
     match apart::tell_apart(p, 1, &text[..end], &mut rows) {
-        Telling::Apart { rows: count } => {
+        Ok(Telling::Apart { rows: count }) => {
             if count < 1 {
                 return true;
             }
             if 40 < count {
                 return true;
             }
-            let to = count as usize * 9;
+            let to = count * 9;
             !valuations::tells_apart(p, 1, &text[..end], &rows[..to])
         }
         _ => true,

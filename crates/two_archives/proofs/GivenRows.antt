@@ -5,7 +5,9 @@ use Prim.Native.Nat.{ℕ, ◌-◌, ◌≤◌}
 use native.Mathlib.Decide.{dec_le}
 use native.Mathlib.Omega.{arith}
 use lib.ListN.{length}
+use Rattle.std.specs.Prelude.{Result, Ok}
 use Rattle.model.specs.declared.Policy.{Policy}
+use Rattle.model.specs.declared.Refusal.{Refusal}
 use Rattle.policy_text.specs.Declared.{Declared}
 use Rattle.validity.specs.Loadable.{Loadable}
 use Rattle.apart.specs.Archives.{Word, says_settled, says_apart, says_refused, SaidTelling, said_telling}
@@ -25,7 +27,7 @@ gives s = go s.word
     go says_apart = 1
     go says_refused = 0
 
-few_given : (d : Declared) (i k : ℕ) (before after : List ℕ) (o : Owed) → Gives d i (Apart k) before after o → FewRows k
+few_given : (d : Declared) (i k : ℕ) (before after : List ℕ) (o : Owed) → Gives d i (Ok (Apart k)) before after o → FewRows k
 unfolding said_telling gives
 few_given d i k before after (refusal number line) g = absurd (omega (arith, ap gives g.reply))
 few_given d i k before after settlement g = absurd (omega (arith, ap gives g.reply))
@@ -35,18 +37,18 @@ few_given d i k before after (archives Q) g =
 
 module _ {p : Policy} {n : ℕ} {text before after : List ℕ} where
   -- rows are given under a loaded policy alone
-  not_more : (k : ℕ) → ArchivesGiven p n text before (Apart k) after → (FewRows k → ⊥) → ⊥
+  not_more : (k : ℕ) → ArchivesGiven p n text before (Ok (Apart k)) after → (FewRows k → ⊥) → ⊥
   unfolding said_telling gives
   not_more k g none =
       let few : Loadable p → FewRows k
       = λ l. few_given l.declared (n - 1) k before after (owed l.declared n text (length before)) (g.loaded l) in
       omega (arith, ap gives (g.unloaded (λ l. none (few l))).reply)
 
-  pub few_rows : {r : Telling} {k : ℕ} → ArchivesGiven p n text before r after → r ≡ Apart k → FewRows k
+  pub few_rows : {r : Result Telling Refusal} {k : ℕ} → ArchivesGiven p n text before r after → r ≡ Ok (Apart k) → FewRows k
   few_rows {r} {k} g e = go (dec_le 1 k) (dec_le k 40)
     where
-      apart : ArchivesGiven p n text before (Apart k) after
-      apart = subst (λ (t : Telling). ArchivesGiven p n text before t after) e g
+      apart : ArchivesGiven p n text before (Ok (Apart k)) after
+      apart = subst (λ (t : Result Telling Refusal). ArchivesGiven p n text before t after) e g
 
       go : Dec (1 ≤ k) → Dec (k ≤ 40) → FewRows k
       go (yes a) (yes b) = (a, b)

@@ -12,7 +12,7 @@ mod values;
 ghost use Rattle.std.specs.Prelude.{◌≤◌, length};
 
 use apart::Telling;
-use model::Policy;
+use model::{Policy, Refusal};
 use std::rt::Env;
 use text::Numeral;
 
@@ -50,15 +50,15 @@ fn print_partition(p: Policy, n: u64, text: &[u8]) {
     io::write_all(1, b": ");
     let mut rows = [0; 360];
     match apart::tell_apart(p, n, text, &mut rows) {
-        Telling::Settled => {
+        Ok(Telling::Settled) => {
             io::write_all(1, b"settled\n");
         }
-        Telling::Apart { rows: count } => {
-            let end = count as usize * valuations::ROW;
+        Ok(Telling::Apart { rows: count }) => {
+            let end = count * valuations::ROW;
             print_apart(p, n, text, &rows[..end]);
             granting::print_lacking(p, n, text)
         }
-        Telling::Refused { number, line } => print_refusal(number, line),
+        Err(Refusal { number, line }) => print_refusal(number, line),
     }
 }
 

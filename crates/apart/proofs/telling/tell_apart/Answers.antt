@@ -2,6 +2,7 @@
 use mathlib.Core.Path.{◌≡◌}
 use mathlib.Core.Bool.{true}
 use borrow.Author.Rules.{rules}
+use Rattle.std.specs.Prelude.{Err}
 use Rattle.theory.specs.Query.{Query}
 use Rattle.words.proofs.Answers.{passes, fails, passing, failing}
 use Rattle.model.specs.Limits.{up_to}
@@ -16,7 +17,7 @@ use Rattle.apart.proofs.Replies.{not_loaded, no_partition, text_turned, too_shor
 use mathlib.Core.Path.{ap}
 use mathlib.Core.Bool.{not}
 use Rattle.apart.proofs.telling.tell_apart.Goals as goal
-use Rattle.apart.proofs.telling.tell_apart.Goals.{Else-not-is_among, In-Ok}
+use Rattle.apart.proofs.telling.tell_apart.Goals.{Else-not-is_among, In_ok-q}
 
 pub returns-then-not-valid : goal.returns-then-not-valid
 returns-then-not-valid c = not_loaded _ _ _ (fails c.valid.ensures (ap not c.if-not-valid.true))
@@ -36,25 +37,25 @@ among : (c : Else-not-is_among) →
 among c = passing c.is_among.ensures (ap not c.if-not-is_among.false)
 
 -- the query that the text reads to
-posed_query : (c : In-Ok) →
+posed_query : (c : In_ok-q) →
     (l : Loadable c.args.p) →
     let d = l.declared in
-    (Q : Query) × (read d.widths c.args.text.now ≡ accepted Q) × Posed c.in-Ok.q d Q
+    (Q : Query) × (read d.widths c.args.text.now ≡ accepted Q) × Posed c.in_ok-q.q d Q
 posed_query c l =
     let d = l.declared in
-    let (Q, e, q) = read_accepted (read d.widths _) _ (c.read_query.ensures d.widths (tables_of (loaded_to l))) _ c.in-Ok.is in
+    let (Q, e, q) = read_accepted (read d.widths _) _ (c.read_query.ensures d.widths (tables_of (loaded_to l))) _ c.in_ok-q.was in
     (Q, e, posed d _ Q (loaded_to l).good e q)
 
 pub returns-then-out-lt-MOST_CELLS : goal.returns-then-out-lt-MOST_CELLS
 returns-then-out-lt-MOST_CELLS c =
-    too_short _ _ _ (is_loadable (goal.at.returns-then-out-lt-MOST_CELLS c).Else-not-is_among) (among (goal.at.returns-then-out-lt-MOST_CELLS c).Else-not-is_among) (λ l. let (Q, q, g) = posed_query (goal.at.returns-then-out-lt-MOST_CELLS c).In-Ok l in (Q, q)) c.if-out-lt-MOST_CELLS.true
+    too_short _ _ _ (is_loadable (goal.at.returns-then-out-lt-MOST_CELLS c).Else-not-is_among) (among (goal.at.returns-then-out-lt-MOST_CELLS c).Else-not-is_among) (λ l. let (Q, q, g) = posed_query (goal.at.returns-then-out-lt-MOST_CELLS c).In_ok-q l in (Q, q)) c.if-out-lt-MOST_CELLS.true
 
 pub prepare-ready-requires : goal.prepare-ready-requires
 prepare-ready-requires c = counted (loaded_to (is_loadable (goal.at.prepare-ready-requires c).Else-not-is_among))
 
 pub query_rows-lines-requires : goal.query_rows-lines-requires
 query_rows-lines-requires c =
-    posed_few (posed_query (goal.at.query_rows-lines-requires c).In-Ok (is_loadable (goal.at.query_rows-lines-requires c).Else-not-is_among)).2
+    posed_few (posed_query (goal.at.query_rows-lines-requires c).In_ok-q (is_loadable (goal.at.query_rows-lines-requires c).Else-not-is_among)).2
 
 pub overflow_sub-n : goal.overflow_sub-n
 overflow_sub-n c =
@@ -63,18 +64,19 @@ overflow_sub-n c =
 pub tell_rows-requires : goal.tell_rows-requires
 tell_rows-requires c =
     let l = is_loadable (goal.at.tell_rows-requires c).Else-not-is_among in
-    let (Q, reads, g) = posed_query (goal.at.tell_rows-requires c).In-Ok l in
+    let (Q, reads, g) = posed_query (goal.at.tell_rows-requires c).In_ok-q l in
     let a = asked _ (among (goal.at.tell_rows-requires c).Else-not-is_among) c.prepare-ready.ensures l _ Q reads (posed_rows g (c.query_rows-lines.ensures Q g.query)) in
     ((_, _, _, _, a), search rules, record { room = c.if-out-lt-MOST_CELLS.false })
 
-pub returns-else-out-lt-MOST_CELLS : goal.returns-else-out-lt-MOST_CELLS
-returns-else-out-lt-MOST_CELLS c =
-    told _ _ _ (is_loadable (goal.at.returns-else-out-lt-MOST_CELLS c).Else-not-is_among) (among (goal.at.returns-else-out-lt-MOST_CELLS c).Else-not-is_among) c.prepare-ready.ensures c.if-out-lt-MOST_CELLS.false
-    (λ l. let (Q, reads, g) = posed_query (goal.at.returns-else-out-lt-MOST_CELLS c).In-Ok l in (Q, reads, posed_rows g (c.query_rows-lines.ensures Q g.query)))
+pub returns : goal.returns
+returns c =
+    told _ _ _ (is_loadable (goal.at.returns c).Else-not-is_among) (among (goal.at.returns c).Else-not-is_among) c.prepare-ready.ensures c.if-out-lt-MOST_CELLS.false
+    (λ l. let (Q, reads, g) = posed_query (goal.at.returns c).In_ok-q l in (Q, reads, posed_rows g (c.query_rows-lines.ensures Q g.query)))
     c.tell_rows.ensures
 
-pub returns-in-Err : goal.returns-in-Err
-returns-in-Err c =
-    text_turned _ _ _ (is_loadable (goal.at.returns-in-Err c).Else-not-is_among) (among (goal.at.returns-in-Err c).Else-not-is_among) _ _ (λ l.
+pub returns-in_err-q : goal.returns-in_err-q
+returns-in_err-q c =
+    let e : c.from_residual.result ≡ Err c.in_err-q.field-0.0 = search rules in
+    rw e (text_turned _ _ _ (is_loadable (goal.at.returns-in_err-q c).Else-not-is_among) (among (goal.at.returns-in_err-q c).Else-not-is_among) _ _ (λ l.
     read_refused (read l.declared.widths _) _
-    (c.read_query.ensures l.declared.widths (tables_of (loaded_to l))) _ c.in-Err.is)
+    (c.read_query.ensures l.declared.widths (tables_of (loaded_to l))) _ c.in_err-q.was))
