@@ -6,7 +6,8 @@ ghost use Rattle.text.specs.Lines.{same_bytes};
 // How many bytes a word has.
 const WORD: usize = 8;
 
-// Whether two lines have the same bytes: word by word, and then what is no whole word.
+// Whether two lines have the same bytes: word by word, and then what is no whole word. Not by one `==`: the words are asked for, and
+// `word_compared_with_itself` and four edits more turn them.
 pub fn same<'a>(a: &'a [u8], b: &'a [u8]) -> bool
     ensures { result ≡ same_bytes a.now b.now }
 {
