@@ -60,7 +60,9 @@ module _ (head : List ℕ) (ps : List (List ℕ)) where
   pub no_rule : body_of ps ≡ none → rule_of_pieces (head ∷ ps) ≡ none
   unfolding rule_of_pieces both
   no_rule e =
-      go (both (λ x xs atoms. record { name = x; head = xs; body = atoms }) (name_of upper (take (before opening head) head)) (head_names (drop (before opening head) head)))
+      go
+      (both (λ x xs atoms. record { name = x; head = xs; body = atoms }) (name_of upper (take (before opening head) head))
+      (head_names (drop (before opening head) head)))
     where
       go : (o : Maybe (List Atom → Rule)) → both (λ (rule : List Atom → Rule) atoms. rule atoms) o (body_of ps) ≡ none
       go none = refl

@@ -1,15 +1,15 @@
 -- Names and their keys: what is asked of the names of a rule is asked of their keys, and the keys of a body are those of its names.
-use mathlib.Core.Path.{◌≡◌, refl, sym, ap, ap₂, ◌∙◌, subst}
+use mathlib.Core.Path.{◌≡◌, refl, sym, ap, ap₂, ◌∙◌}
 use mathlib.Core.Bool.{Bool, true, false, cond, ◌||◌}
 use mathlib.Core.List.Memᴰ
 use mathlib.Core.List.{List, [], ◌∷◌, ◌++◌, map, map-append}
 use Prim.Native.Nat.{ℕ, zero, suc, ◌-◌, ◌≤◌}
-use lib.Dec.{T, eqb, eqb→eq, eqb_refl, lit<}
+use lib.Dec.{T, eqb, lit<}
 use lib.ListN.{length, replicate, length-map}
 use Rattle.theory.specs.Query.{◌∈◌}
 use Rattle.theory.specs.Executable.Test.{any, all, kind}
 use Rattle.theory.specs.Executable.Test.{number as number_in}
-use Rattle.theory.proofs.Executable.Test.{same_test, all_same}
+use Rattle.theory.proofs.Executable.Test.{all_same}
 use Rattle.text.specs.Lines.{before, same_bytes}
 use Rattle.text.proofs.Each.{Each, each_nil, each_append, each_last}
 use Rattle.model.specs.Limits.{most_columns}
@@ -25,6 +25,7 @@ use Rattle.rule_text.proofs.Keys.{same_key}
 use Rattle.rule_body.specs.Body.{keyed_lines}
 use Rattle.rule_body.specs.Head.{repeats_key}
 use Rattle.numbering.specs.Names.{is_key, entered, keys_in, keys_of}
+use Rattle.numbering.proofs.Search.{eqb_sym}
 
 -- each of these is a name of a variable
 abbrev pub AreNames : List Name → Type 0
@@ -43,12 +44,6 @@ FewTerms atoms = (a : Atom) → a ∈ atoms → length a.args ≤ most_columns
 one_key : (x y : Name) → T (is_name lower x) → T (is_name lower y) → eqb (key x) (key y) ≡ same_bytes x y
 one_key x y h k = same_key lower (lit< tt) (lit< tt) x y h k
 
-turned : (m n : ℕ) → eqb m n ≡ eqb n m
-turned m n = same_test (eqb m n) (eqb n m) (go m n) (go n m)
-  where
-    go : (a b : ℕ) → T (eqb a b) → T (eqb b a)
-    go a b h = subst (λ (c : ℕ). T (eqb c a)) (eqb→eq a b h) (eqb_refl a)
-
 module _ (x : Name) where
   pub is_key_lem : (l : List Name) → T (is_name lower x) → AreNames l → is_key (key x) (map key l) ≡ stands x l
   unfolding is_key stands any
@@ -60,7 +55,7 @@ module _ (x : Name) where
   unfolding before place_of
   key_place [] h hs = refl
   key_place (y ∷ l) h hs =
-      ap₂ {C = ℕ} (λ (b : Bool) (n : ℕ). cond b 0 (suc n)) (turned (key y) (key x) ∙ one_key x y h (hs y (Memᴰ.head refl)))
+      ap₂ {C = ℕ} (λ (b : Bool) (n : ℕ). cond b 0 (suc n)) (eqb_sym (key y) (key x) ∙ one_key x y h (hs y (Memᴰ.head refl)))
       (key_place l h (λ z m. hs z (Memᴰ.tail m)))
 
 pub key_repeats : (l : List Name) → AreNames l → repeats_key (map key l) ≡ repeats l

@@ -71,9 +71,13 @@ module _ {F : Type 0} where
           }
       go false q (y, z) =
           let none : Free sep piece
-          = free sep piece (λ k l. sym (ap (λ (b : ℕ). eqb b sep) (ap (λ (m : List ℕ). get_or m k 0) z ∙ get_or-append piece (y ∷ then.rest.now) 0 k l)) ∙ f.0 k 0 zero-le l) in
+          = free sep piece (λ k l.
+          let same : get_or xs k 0 ≡ get_or piece k 0
+          = ap (λ (m : List ℕ). get_or m k 0) z ∙ get_or-append piece (y ∷ then.rest.now) 0 k l in
+          sym (ap (λ (b : ℕ). eqb b sep) same) ∙ f.0 k 0 zero-le l) in
           let long : length xs ≡ length piece + suc (length then.rest.now) = ap length z ∙ length-append piece (y ∷ then.rest.now) in
-          let seam : get_or xs (length piece) 0 ≡ y = ap (λ (m : List ℕ). get_or m (length piece) 0) z ∙ get_or-append_seam piece y then.rest.now 0 in
+          let seam : get_or xs (length piece) 0 ≡ y
+          = ap (λ (m : List ℕ). get_or m (length piece) 0) z ∙ get_or-append_seam piece y then.rest.now 0 in
           let ends : y ≡ sep = sym seam ∙ eqb-true (get_or xs (length piece) 0) sep (f.1 (omega (arith, long)) 0) in
           record {
             next = rw (e, q, z, ends) (other_piece sep piece then.rest.now none);

@@ -17,10 +17,6 @@ loop-line-init c = (
 pub number_line-numbered-requires : goal.number_line-numbered-requires
 number_line-numbered-requires c = line_placed c.requires.0 c.loop-line-test.true _
 
-pub put_line-at-requires : goal.put_line-at-requires
-put_line-at-requires c =
-    omega (arith, c.loop-line.invariant.0.most, c.loop-line.invariant.1, c.loop-line-test.true, lines_few c.args.q c.requires.0.few)
-
 pub loop-line-preserved : goal.loop-line-preserved
 loop-line-preserved c = (
   more_printed c.args.q c.args.keys.now c.args.shown _ c.loop-line.invariant.0 c.loop-line-test.true c.put_line-at.ensures.1

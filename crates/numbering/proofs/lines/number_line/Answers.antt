@@ -21,9 +21,6 @@ inside c = omega (arith, terms_long (goal.at.In-loop-t c).Start, c.loop-t-test.t
 next : (c : In-loop-t) (d : Term) → get_or c.loop-t.t-items c.loop-t.t-index d ≡ get_or c.args.l.terms c.loop-t.t-index d
 next c d = ap (λ (ts : List Term). get_or ts c.loop-t.t-index d) c.loop-t.invariant ∙ changed_next _ _ _ d (inside c)
 
-pub loop-t-init : goal.loop-t-init
-loop-t-init c = refl
-
 pub number_term-requires : goal.number_term-requires
 number_term-requires c =
     let e = goal.at.number_term-requires c in

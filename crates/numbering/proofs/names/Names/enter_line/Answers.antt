@@ -20,7 +20,10 @@ loop-t-init c = named_none _ _
 pub loop-t-preserved : goal.loop-t-preserved
 loop-t-preserved c =
     let here = inside (goal.at.loop-t-preserved c).In-loop-t in
-    elim c.if-t-eq-HIDDEN.branch [ then-t-eq-HIDDEN w ↦ named_more c.loop-t.invariant _ here w.if-t-eq-HIDDEN.true w.enter.ensures w.self-is | else-t-eq-HIDDEN w ↦ named_same c.loop-t.invariant _ here w.if-t-eq-HIDDEN.false w.self-is ]
+    elim c.if-t-eq-HIDDEN.branch [
+      | then-t-eq-HIDDEN w ↦ named_more c.loop-t.invariant _ here w.if-t-eq-HIDDEN.true w.enter.ensures w.self-is
+      | else-t-eq-HIDDEN w ↦ named_same c.loop-t.invariant _ here w.if-t-eq-HIDDEN.false w.self-is
+    ]
 
 pub returns : goal.returns
 returns c =
