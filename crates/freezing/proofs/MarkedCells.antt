@@ -38,9 +38,6 @@ pub record MarkedTo (base : ℕ) (views : List ℕ) (k : ℕ) (cells : List ℕ)
   pub columns : (q : ℕ) → q < p → MarkedAt base views k q (get_or cells (1 + q) 0) (get_or marked (1 + q) 0)
 
 module _ {base : ℕ} {views : List ℕ} {k : ℕ} {cells : List ℕ} where
-  pub marked_none : MarkedTo base views k cells 0 cells
-  marked_none = record { long = refl; table = refl; columns = λ q l. absurd (omega arith) }
-
   pub marked_more : {p q x : ℕ} {t : TermValue} {marked : List ℕ} → MarkedTo base views k cells p marked → 1 + p < length cells
       → t ≡ laid_term views k p → FirstAlike views k p q → CellMarked base t q (get_or cells (1 + p) 0) x
       → MarkedTo base views k cells (p + 1) (set marked (1 + p) x)

@@ -88,9 +88,6 @@ pub record HitsTo (l : Words) (hits : List ℕ) (v : ℕ) : Type 0 where
   pub long : length hits ≡ most_views
   pub each : (ws : List ℕ) → l ≡ words_value ws → (k : ℕ) → k < v → get_or hits k 0 ≡ holding ws k
 
-pub hits_none : (l : Words) (hits : List ℕ) → length hits ≡ most_views → HitsTo l hits 0
-hits_none l hits long = record { long = long; each = λ ws e k h. absurd (omega (arith, h)) }
-
 pub hits_more : {l : Words} {hits : List ℕ} {v word : ℕ} → v < most_views → ((ws : List ℕ) → l ≡ words_value ws → word ≡ holding ws v)
     → HitsTo l hits v → HitsTo l (set hits v word) (v + 1)
 hits_more {l} {hits} {v} {word} h is t = record {

@@ -1,6 +1,6 @@
 -- The table, set by set, and the least of the weights with each view.
-use mathlib.Core.Path.{◌≡◌, refl, sym, ap, subst, ◌∙◌}
-use mathlib.Core.Logic.{◌⊎◌, inl, inr, ⊎_elim}
+use mathlib.Core.Path.{◌≡◌, sym, ap, subst, ◌∙◌}
+use mathlib.Core.Logic.{◌⊎◌, inr, ⊎_elim}
 use mathlib.Core.List.{List}
 use Prim.Native.Nat.{ℕ, zero, suc, zero-le, ◌+◌, ◌-◌, ◌*◌, ◌≤◌, ◌<◌, min}
 use native.Mathlib.Decide.{ℕ_discrete, dec_le}
@@ -50,9 +50,6 @@ module _ (hits costs table : List ℕ) (m : ℕ) where
     pub most : least ≤ too_heavy
     pub low : (u : ℕ) → 1 ≤ u → u ≤ v → Meets hits m u → least ≤ weight_with hits costs table m u
     pub found : Found least
-
-  pub least_none : LeastTo 0 too_heavy
-  least_none = record { most = omega arith; low = λ u from to. absurd (omega (arith, from, to)); found = inl refl }
 
 module _ (hits costs table : List ℕ) (m : ℕ) (s : SomeSet hits costs m) (f : Filled hits costs table m) where
   -- a view that hits no label of the set leaves it whole, and the table has no list for it yet

@@ -1,12 +1,5 @@
-use mathlib.Core.Path.{refl}
-use Rattle.grants.proofs.Gathering.{hits_none, hits_more, hits_all}
+use Rattle.grants.proofs.Gathering.{hits_more, hits_all}
 use Rattle.grants.proofs.searching.hits_of.Goals as goal
-
-pub loop-v-init : goal.loop-v-init
-loop-v-init c = hits_none _ _ refl
-
-pub holding-requires : goal.holding-requires
-holding-requires c = (c.requires, c.loop-v-test.true)
 
 pub loop-v-preserved : goal.loop-v-preserved
 loop-v-preserved c = hits_more c.loop-v-test.true c.holding.ensures c.loop-v.invariant

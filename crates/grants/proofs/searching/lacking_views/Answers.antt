@@ -11,11 +11,6 @@ use Rattle.grants.proofs.searching.lacking_views.Goals.{else-not-meets, then-not
 pub loop-w-init : goal.loop-w-init
 loop-w-init c = lacking_none _ _ c.no_words-r.ensures
 
-pub push-r-requires : goal.push-r-requires
-push-r-requires c =
-    let labels : length (take c.args.l.count c.args.l.words) ≡ c.args.l.count = search rules in
-    omega (arith, c.loop-w-test.true, c.loop-w.invariant.few, c.requires)
-
 pub loop-w-preserved : goal.loop-w-preserved
 loop-w-preserved c =
     let inv = c.loop-w.invariant in
