@@ -1,7 +1,7 @@
 // A reply and the buffer behind it, compared with what document 02 lays down. Each function takes the number of cases before it and gives
 // its own.
 
-ghost use Rattle.std.specs.Prelude.{◌≤◌};
+ghost use Rattle.std.specs.Prelude.{◌≤◌, All};
 
 use crate::rows;
 use apart::Telling;
@@ -40,6 +40,20 @@ pub fn apart(n: u64, p: Policy, partition: u64, text: &[u8], count: usize) -> u6
     counted(n, got, right)
 }
 
+// A partition, a query, and how many rows tell it apart.
+pub type Case<'a> = (u64, &'a [u8], usize);
+
+// The cases behind `start` cases, under one policy; how many there are then.
+pub fn all_apart(start: u64, p: Policy, cases: &[Case]) -> u64
+    requires { All (λ c. (1 ≤ c.2) × (c.2 ≤ 40)) cases.now }
+{
+    let mut n = start;
+    for (partition, text, count) in cases {
+        n = apart(n, p, *partition, text, *count);
+    }
+    n
+}
+
 // Nothing is written: the reply is this one, `room` cells being lent.
 fn nothing_written(n: u64, p: Policy, partition: u64, text: &[u8], room: usize, said: Said) -> u64
     requires { room ≤ 370 }
@@ -53,6 +67,15 @@ fn nothing_written(n: u64, p: Policy, partition: u64, text: &[u8], room: usize, 
 // The partition settles the query.
 pub fn settled(n: u64, p: Policy, partition: u64, text: &[u8]) -> u64 {
     nothing_written(n, p, partition, text, 360, test_expect::settled(0))
+}
+
+// Each partition settles its query.
+pub fn all_settled(start: u64, p: Policy, cases: &[(u64, &[u8])]) -> u64 {
+    let mut n = start;
+    for (partition, text) in cases {
+        n = settled(n, p, *partition, text);
+    }
+    n
 }
 
 // The call is turned back with this number and line.

@@ -19,10 +19,7 @@ pub struct Tally {
 
 // One more where a test passes; no count comes near 2^64.
 pub fn next_if(n: u64, passes: bool) -> u64 {
-    if passes {
-        return n.wrapping_add(1);
-    }
-    n
+    n.wrapping_add(u64::from(passes))
 }
 
 pub fn count_partition(t: Tally) -> Tally {

@@ -29,10 +29,7 @@ pub fn put_line(text: &mut [u8], at: usize, line: u64)
 fn lines(line: u64) -> usize
     ensures { result ≤ 1 }
 {
-    if line < NONE {
-        return 1;
-    }
-    0
+    usize::from(line < NONE)
 }
 
 // The policy of two views and one partition, which grants neither, the first or both. One that is not granted is `#0 #0`.
