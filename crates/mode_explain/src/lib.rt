@@ -41,11 +41,12 @@ fn put_explanation(out: &mut [u8], settled: bool, p: Policy, words: &[u32]) -> u
     ensures { (l : Loadable p)
         → Wrote out.old 0 (explanation l.declared.views settled words.now) out.new result }
 {
-    if settled {
-        let a = writing::put_bytes(out, 0, b"settled\n");
-        return put_words(out, a, p, words);
-    }
-    let a = writing::put_bytes(out, 0, b"not settled\n");
+    let said: &[u8] = if settled {
+        b"settled\n"
+    } else {
+        b"not settled\n"
+    };
+    let a = writing::put_bytes(out, 0, said);
     put_words(out, a, p, words)
 }
 
