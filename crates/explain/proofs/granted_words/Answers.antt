@@ -1,14 +1,9 @@
-use Rattle.std.proofs.Common.{rules, arith, length, ap, refl}
-use Rattle.std.proofs.lemmas.List.{length_push}
+use Rattle.std.proofs.Common.{rules, arith, refl}
 use Rattle.explain.proofs.Gathered.{gathered_none, gathered_few, gathered_more, gathered_all, granted_more}
 use Rattle.explain.proofs.granted_words.Goals as goal
 
 pub loop-w-init : goal.loop-w-init
 loop-w-init c = gathered_none (search rules) c.no_words-r.ensures (λ ws. refl)
-
-pub push-r-requires : goal.push-r-requires
-push-r-requires c =
-    omega (arith, gathered_few c.loop-w.invariant (search rules), simp length_push at (ap length c.in-Some.ensures.steps))
 
 pub loop-w-preserved : goal.loop-w-preserved
 loop-w-preserved c =

@@ -1,15 +1,10 @@
-use Rattle.std.proofs.Common.{rules, arith, length, ap, sym, ◌∙◌}
-use Rattle.std.proofs.lemmas.List.{length_push}
+use Rattle.std.proofs.Common.{rules, arith, ap, sym, ◌∙◌}
 use Rattle.word_list.specs.Value.{words_value}
 use Rattle.explain.proofs.Gathered.{gathered_none, gathered_few, gathered_more, gathered_all, lacking_none, lacking_all, lacking_told, lacking_untold}
 use Rattle.explain.proofs.lacking_words.Goals as goal
 
 pub loop-w-init : goal.loop-w-init
 loop-w-init c = gathered_none (search rules) c.no_words-r.ensures (lacking_none _)
-
-pub add_word-r-requires : goal.add_word-r-requires
-add_word-r-requires c =
-    omega (arith, gathered_few c.loop-w.invariant (search rules), simp length_push at (ap length c.in-Some.ensures.steps))
 
 pub loop-w-preserved-then-is_told : goal.loop-w-preserved-then-is_told
 loop-w-preserved-then-is_told c =
