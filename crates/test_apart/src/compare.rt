@@ -78,8 +78,21 @@ pub fn all_settled(start: u64, p: Policy, cases: &[(u64, &[u8])]) -> u64 {
     n
 }
 
+// A partition, a query, how many cells are lent, and the number and the line of what turns the call back.
+pub type Refusal<'a> = (u64, &'a [u8], usize, u64, u64);
+
+pub fn all_refused(start: u64, p: Policy, cases: &[Refusal]) -> u64
+    requires { All (λ c. c.2 ≤ 370) cases.now }
+{
+    let mut n = start;
+    for (partition, text, room, number, line) in cases {
+        n = refused(n, p, *partition, text, *room, *number, *line);
+    }
+    n
+}
+
 // The call is turned back with this number and line.
-pub fn refused(
+fn refused(
     n: u64,
     p: Policy,
     partition: u64,

@@ -1,7 +1,7 @@
 // A reply and the buffer behind it, compared with what document 02 lays down. Each function takes the number of cases before it and gives
 // its own.
 
-ghost use Rattle.std.specs.Prelude.{◌≡◌, ◌≤◌, length};
+ghost use Rattle.std.specs.Prelude.{◌≡◌, ◌≤◌, All, length};
 
 use model::{Policy, Refusal};
 use test_expect::Said;
@@ -84,6 +84,23 @@ pub fn written_at(n: u64, p: Policy, rule: &[u8], room: usize, place: usize, tex
     case_at(n, p, rule, room, place, said, text)
 }
 
+// The same in buffers of many sizes, each with its place.
+pub fn all_written_at(
+    start: u64,
+    p: Policy,
+    rule: &[u8],
+    rooms: &[(usize, usize)],
+    text: &[u8],
+) -> u64
+    requires { All (λ c. c.0 ≤ 2000) rooms.now }
+{
+    let mut n = start;
+    for (room, place) in rooms {
+        n = written_at(n, p, rule, *room, *place, text);
+    }
+    n
+}
+
 // The text is written.
 pub fn written(n: u64, p: Policy, rule: &[u8], text: &[u8]) -> u64 {
     written_at(n, p, rule, ROOM, 7, text)
@@ -103,6 +120,20 @@ pub fn refused_at(
 {
     let said = test_expect::refused(number, line);
     case_at(n, p, rule, room, place, said, b"")
+}
+
+// A rule, how many bytes are lent, a place, and the number and the line of what turns the call back.
+pub type Refusal<'a> = (&'a [u8], usize, usize, u64, u64);
+
+// The calls behind `start` cases, under one policy; how many cases there are then.
+pub fn all_refused_at(start: u64, p: Policy, cases: &[Refusal]) -> u64
+    requires { All (λ c. c.1 ≤ 2000) cases.now }
+{
+    let mut n = start;
+    for (rule, room, place, number, line) in cases {
+        n = refused_at(n, p, rule, *room, *place, *number, *line);
+    }
+    n
 }
 
 // The rule is turned back with this number, at line 1.

@@ -1,6 +1,6 @@
 // Rules that are taken: at places of the buffer, the longest, and decided.
 
-use crate::compare::{decided as case_decided, written, written_at};
+use crate::compare::{all_written_at, decided as case_decided, written};
 use model::Policy;
 use test_expect::{Case, no, yes};
 
@@ -14,15 +14,11 @@ view table terms\n1 16 !1 !2 !3 !4 !5 !6 !7 !8\npartition views\n1 1\n",
 }
 
 // Document 02's own, at the front of the buffer, behind other bytes and at its end; a buffer with room for the text alone.
-pub fn example(p: Policy, start: u64) -> u64 {
+pub fn example(p: Policy, n: u64) -> u64 {
     let rule = b"Q1(x, y) :- T1(x, y, z), T2(x, 7)\n";
     let text = b"table terms\n1 !0 !1 ?2\n2 !0 #7\n";
-    let mut n = written_at(start, p, rule, 2000, 0, text);
-    n = written_at(n, p, rule, 2000, 5, text);
-    n = written_at(n, p, rule, 2000, 1969, text);
-    n = written_at(n, p, rule, 31, 0, text);
-    n = written_at(n, p, rule, 36, 5, text);
-    n
+    let rooms = [(2000, 0), (2000, 5), (2000, 1969), (31, 0), (36, 5)];
+    all_written_at(n, p, rule, &rooms, text)
 }
 
 // Eight atoms of eight terms: the variables 0 to 63.
