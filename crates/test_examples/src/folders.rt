@@ -39,11 +39,9 @@ fn run(rt: &impl Files, folder: &[u8]) {
 // Runs every folder named, and counts them.
 pub fn run_all(rt: &impl Files, names: &[u8]) -> u64 {
     let mut n = 0;
-    for name in names.split(|b| *b == b'\n') {
-        if !name.is_empty() {
-            run(rt, name);
-            n = test_expect::counted(n);
-        }
+    for line in names.split_inclusive(|b| *b == b'\n') {
+        run(rt, line.strip_suffix(b"\n").unwrap_or(line));
+        n = test_expect::counted(n);
     }
     n
 }
