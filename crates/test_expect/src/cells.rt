@@ -28,7 +28,7 @@ pub struct List {
 }
 
 // A number; where it is none, the one that the cells hold before, which is none that a call writes.
-pub fn number(bytes: &[u8]) -> u64 {
+fn number(bytes: &[u8]) -> u64 {
     match text::read_numeral(bytes) {
         Numeral::Value(value) => value,
         Numeral::Malformed => BEFORE,
@@ -36,9 +36,8 @@ pub fn number(bytes: &[u8]) -> u64 {
     }
 }
 
-// The list that is spelt with a space between two numbers, up to ten of them, each read so.
-pub fn headed<F: Fn(&[u8]) -> u64>(numbers: &[u8], number: F) -> List
-    requires { F.IsAlwaysCallable number }
+// The list that is spelt with a space between two numbers, up to ten of them.
+pub fn headed(numbers: &[u8]) -> List
     ensures { result.count ≤ 10 }
 {
     let mut cells = untouched();

@@ -3,23 +3,20 @@
 use crate::{compare, policies};
 use model::Policy;
 use test_expect::cells;
-use text::Numeral;
-
-// A view's number, 0 where it is none.
-fn view(spelt: &[u8]) -> u64 {
-    match text::read_numeral(spelt) {
-        Numeral::Value(value) if value <= 32 => value,
-        _ => 0,
-    }
-}
 
 // The views are those to be added, or the word `none`.
 fn answered(n: u64, p: Policy, partition: u64, views: &[u8], query: &[u8]) -> u64 {
     if matches!(views, b"none") {
         return compare::unwritten(n, p, partition, query, test_expect::nothing());
     }
-    let l = cells::headed(views, view);
-    let cells = l.cells;
+    let l = cells::headed(views);
+    let mut cells = l.cells;
+    for cell in cells.iter_mut().take(l.count) {
+        // there are 32 views
+        if 32 < *cell {
+            *cell = 0;
+        }
+    }
     compare::given(n, p, partition, query, l.count, cells)
 }
 

@@ -29,7 +29,7 @@ fn explained(
 ) -> u64
     requires { room ≤ 10 }
 {
-    let list = cells::headed(words, cells::number);
+    let list = cells::headed(words);
     let mut said = reply;
     said.count = list.count as u64;
     let cells = list.cells;

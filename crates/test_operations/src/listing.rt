@@ -19,7 +19,7 @@ fn reply(number: u64, line: u64) -> Said {
 fn listed(n: u64, p: Policy, room: usize, reply: Said, labels: &[u8], query: &[u8]) -> u64
     requires { room ≤ 10 }
 {
-    let list = cells::headed(labels, cells::number);
+    let list = cells::headed(labels);
     let mut said = reply;
     said.count = list.count as u64;
     let cells = list.cells;
