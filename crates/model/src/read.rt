@@ -99,22 +99,12 @@ pub fn read_terms(s: &[u8]) -> Parsed
 {
     let mut p = blank(true, false);
     let mut outside = false;
-    let mut at = 0;
-    while at <= s.len() {
-        let part = &s[at..];
-        let n = text::first(part, b' ');
-        match read_term(&part[..n]) {
-            Field::Malformed => {
-                return blank(false, false);
-            }
-            Field::Outside => {
-                outside = true;
-            }
-            Field::Within(t) => {
-                p = with_term(p, t);
-            }
+    for field in s.split(|b| *b == b' ') {
+        match read_term(field) {
+            Field::Malformed => return blank(false, false),
+            Field::Outside => outside = true,
+            Field::Within(t) => p = with_term(p, t),
         }
-        at = at + n + 1;
     }
     if outside {
         return blank(true, true);

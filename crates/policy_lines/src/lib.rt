@@ -187,11 +187,8 @@ fn read_views(s: &[u8]) -> ViewList
 {
     let mut l = none_listed();
     let mut outside = false;
-    let mut at = 0;
-    while at <= s.len() {
-        let part = &s[at..];
-        let n = text::first(part, b' ');
-        let number = text::read_numeral(&part[..n]);
+    for field in s.split(|b| *b == b' ') {
+        let number = text::read_numeral(field);
         if let Numeral::Malformed = number {
             return no_views(false);
         }
@@ -201,7 +198,6 @@ fn read_views(s: &[u8]) -> ViewList
         } else {
             l = with_view(l, v);
         }
-        at = at + n + 1;
     }
     if outside {
         return no_views(true);

@@ -27,7 +27,8 @@ use Rattle.rule_text.specs.Atoms.{good_atom, atom_value}
 use Rattle.rule_text.specs.declared.args.Atom.{Atom}
 use Rattle.rule_text.specs.declared.args.Unreadable.TheVariants.{Malformed, Outside}
 use Rattle.rule_text.proofs.AtomValues.{atom_said}
-use Rattle.rule_text.proofs.Series.{most_left, Cut, SeriesRead, series_none, series_broken, series_more, series_all}
+use Rattle.text.proofs.Cuts.{most_left, Cut}
+use Rattle.rule_text.proofs.Series.{SeriesRead, series_none, series_broken, series_more, series_all}
 use Rattle.rule_body.specs.Body.{keyed_lines, AtomTabled, AtomIs, atoms_fault, fault_value, body_fault}
 use Rattle.rule_body.specs.Body.{AtomsHeld, no_atoms, AtomBehind, AtomsRead, BodyRead}
 use Rattle.rule_body.specs.declared.body.Atoms.{Atoms}

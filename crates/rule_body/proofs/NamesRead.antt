@@ -13,13 +13,14 @@ use Rattle.std.specs.List.{position}
 use Rattle.std.specs.declared.slice.Split.{Split as Pieces}
 use Rattle.text.specs.Lines.{before, parts, same_bytes}
 use Rattle.text.specs.Names.{bytes}
+use Rattle.text.proofs.Cuts.{Cut}
 use Rattle.text.proofs.Parts.{to_end}
 use Rattle.rules.specs.Rule.{Name}
 use Rattle.rules.specs.Text.{comma, opening, upper, lower, onto, behind, series, name_of, head_names}
 use Rattle.rule_text.specs.Keys.{key, name_value}
 use Rattle.rule_text.proofs.Keys.{value_none, value_some}
 use Rattle.rule_text.proofs.ArgsRead.{bracket, gap}
-use Rattle.rule_text.proofs.Series.{Cut, SeriesRead, series_none, series_broken, series_more, series_all}
+use Rattle.rule_text.proofs.Series.{SeriesRead, series_none, series_broken, series_more, series_all}
 use Rattle.rule_body.specs.Head.{NamesHeld, NameBehind, NamesRead, Headless, HeadRead}
 use Rattle.rule_body.specs.declared.head.Head.{Head}
 use Rattle.rule_body.proofs.NamesHeld.{held_none}

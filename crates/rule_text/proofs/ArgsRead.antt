@@ -12,6 +12,7 @@ use Rattle.std.specs.declared.slice.Split.{Split as Pieces}
 use Rattle.theory.specs.Executable.Test.{all}
 use Rattle.theory.proofs.Executable.Test.{all_more}
 use Rattle.text.specs.Names.{bytes}
+use Rattle.text.proofs.Cuts.{most_left, Cut}
 use Rattle.model.specs.declared.Term.{Term}
 use Rattle.model.specs.declared.Field.TheVariants.{Malformed as MalformedField, Outside as OutsideField, Within}
 use Rattle.rules.specs.Rule.{Arg}
@@ -21,7 +22,7 @@ use Rattle.rule_text.specs.Atoms.{arg_field, good_atom, BehindArgs, args_value}
 use Rattle.rule_text.specs.declared.args.Atom.{Atom}
 use Rattle.rule_text.specs.declared.args.Unreadable.TheVariants.{Malformed, Outside}
 use Rattle.rule_text.proofs.ArgFields.{field_says}
-use Rattle.rule_text.proofs.Series.{most_left, Cut, SeriesRead, series_none, series_broken, series_more, series_all}
+use Rattle.rule_text.proofs.Series.{SeriesRead, series_none, series_broken, series_more, series_all}
 
 abbrev pub bracket : List ℕ
 bracket = 40 ∷ []

@@ -3,6 +3,7 @@ pub mod Lines
 pub mod Names
 pub mod Numerals
 pub mod Parts
+pub mod Cuts
 pub mod NextLines
 pub mod PartsFrom
 -- What is printed is read back, and what is read was printed.

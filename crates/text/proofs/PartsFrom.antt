@@ -1,4 +1,4 @@
--- The parts of a list from a place on, for the loops that read them one by one.
+-- The parts of a list from a place on.
 use mathlib.Core.Path.{◌≡◌, sym, ap, ◌∙◌}
 use mathlib.Core.List.{List, [], ◌∷◌}
 use Prim.Native.Nat.{ℕ, suc, ◌+◌, ◌-◌, ◌≤◌, ◌<◌, zero-le}
@@ -51,28 +51,3 @@ from_end sep s n h = from_none sep s (n + 1) (omega arith)
 pub from_rest : (sep : ℕ) (s : List ℕ) (n : ℕ) → n < length s
     → parts_from sep s (n + 1) ≡ parts sep (take (length s - (n + 1)) (drop (n + 1) s))
 from_rest sep s n h = from_some sep s (n + 1) (omega arith) ∙ ap (parts sep) (sym (to_end (n + 1) s))
-
--- ---- the part that starts at a place
-
--- f is that part, and has n bytes
-pub record PartAt (sep : ℕ) (s : List ℕ) (i n : ℕ) (f : List ℕ) : Type 0 where
-  pub inside : i ≤ length s
-  pub place : n ≡ before sep (drop i s)
-  pub part : f ≡ take n (drop i s)
-
--- it goes to the first separator of the list from the place on
-pub part_at : {sep : ℕ} {s : List ℕ} {i n : ℕ} → i ≤ length s → n ≡ before sep (take (length s - i) (drop i s))
-    → PartAt sep s i n (take n (take (length s - i) (drop i s)))
-part_at {sep} {s} {i} {n} h e =
-    record { inside = h; place = e ∙ ap (before sep) (to_end i s); part = ap (take n) (to_end i s) }
-
-module _ {sep : ℕ} {s f : List ℕ} {i n : ℕ} (x : PartAt sep s i n f) where
-  pub part_room : n ≤ length s - i
-  part_room = omega (arith, x.place, before_le sep (drop i s), length-drop i s)
-
-  -- the others start behind the separator
-  pub others_within : i + n + 1 ≤ length s + 1
-  others_within = omega (arith, part_room, x.inside)
-
-  pub part_first : parts_from sep s i ≡ f ∷ parts_from sep s (i + n + 1)
-  part_first = rw (x.part, x.place) (from_next sep s i x.inside)

@@ -1,60 +1,47 @@
-use mathlib.Core.Path.{sym, ◌∙◌}
-use Prim.Native.Nat.{◌-◌}
+use mathlib.Core.Path.{◌∙◌}
 use native.Mathlib.Omega.{arith}
-use lib.ListN.{length, take, drop}
+use borrow.Author.Rules.{rules, of_calls}
+use lib.Dec.{eqb}
+use Rattle.std.proofs.lemmas.Fn.{always_returns_same}
 use Rattle.text.specs.Lines.{space}
-use Rattle.text.proofs.Parts.{first_length}
-use Rattle.text.proofs.PartsFrom.{part_at, part_room}
-use Rattle.model.proofs.TermsRead.{NextTerm, no_terms, next_malformed, next_outside, next_small, next_within, all_outside, all_within}
+use Rattle.text.proofs.Cuts.{Cut, cut}
+use Rattle.model.proofs.TermsRead.{no_terms, next_malformed, next_outside, next_small, next_within, all_outside, all_within}
 use Rattle.model.proofs.read.read_terms.Goals as goal
-use Rattle.model.proofs.read.read_terms.Goals.{in-Outside, in-Within, After-first-n}
+use Rattle.model.proofs.read.read_terms.Goals.{In-Some}
 
-pub loop-at-init : goal.loop-at-init
-loop-at-init c = no_terms _ _ c.blank-p.ensures
+pub loop-field-init : goal.loop-field-init
+loop-field-init c =
+    let items = c.into_iter-field-iterator.ensures.into_iter_gives in
+    no_terms c.blank-p.ensures (rw items c.split-field-items.ensures.done) (rw items c.split-field-items.ensures.rest)
 
-pub slice_bounds-read_term-end : goal.slice_bounds-read_term-end
-slice_bounds-read_term-end c = first_length space _ _ c.first-n.ensures
-
-next : (c : After-first-n) →
-    let s = c.args.s.now in
-    let n = c.first-n.result in
-    NextTerm s c.loop-at.p c.loop-at.outside c.loop-at.at n (take n (take (length s - c.loop-at.at) (drop c.loop-at.at s)))
-next c =
-    record { passed = c.loop-at.invariant.terms; here = part_at (omega (arith, c.loop-at-test.true)) c.first-n.ensures }
+-- the field at hand
+field : (c : In-Some) → Cut space c.loop-field.field-iterator c.in-Some.field.now c.next.new.self
+field c =
+    let next = c.in-Some.ensures.steps in
+    cut space _ _ _ next.0 next.1 (next.2 (λ b. eqb b space) (always_returns_same _ _ _ (λ a r f k. search (rules, of_calls)))).1
 
 pub returns-in-Malformed : goal.returns-in-Malformed
 returns-in-Malformed c =
-    c.blank.ensures ∙ next_malformed (next (goal.at.returns-in-Malformed c).After-first-n) (sym c.in-Malformed.is ∙ c.read_term.ensures)
+    c.blank.ensures ∙ next_malformed c.loop-field.invariant (field (goal.at.returns-in-Malformed c).In-Some) c.in-Malformed.ensures
+
+pub loop-field-preserved-in-Outside : goal.loop-field-preserved-in-Outside
+loop-field-preserved-in-Outside c =
+    next_outside c.loop-field.invariant (field (goal.at.loop-field-preserved-in-Outside c).In-Some) c.in-Outside.ensures
 
 pub with_term-p-requires : goal.with_term-p-requires
 with_term-p-requires c =
-    let x = next (goal.at.with_term-p-requires c).After-first-n in
     record {
-      count_bound = omega (arith, c.loop-at.invariant.few, x.here.inside, c.requires);
-      number_le_last_variable = next_small x (sym c.in-Within.is ∙ c.read_term.ensures);
+      count_bound = omega (arith, c.loop-field.invariant.few, (field (goal.at.with_term-p-requires c).In-Some).fewer, c.requires);
+      number_le_last_variable = next_small c.in-Some.field.now c.in-Within.ensures;
     }
 
-pub overflow_add-at : goal.overflow_add-at
-overflow_add-at c = omega (arith, part_room (next (goal.at.overflow_add-at c).After-first-n).here)
-
-pub overflow_add-at-in-loop-at : goal.overflow_add-at-in-loop-at
-overflow_add-at-in-loop-at c = omega (arith, part_room (next (goal.at.overflow_add-at-in-loop-at c).After-first-n).here)
-
-pub loop-at-smaller : goal.loop-at-smaller
-loop-at-smaller c = omega (arith, c.loop-at-test.true)
-
-pub loop-at-preserved : goal.loop-at-preserved
-loop-at-preserved c =
-    let x = next (goal.at.loop-at-preserved c).After-first-n in
-    let few = c.loop-at.invariant.few in
-    elim c.match-read_term.branch [
-      | in-Outside w ↦ rw (w.p-is, w.outside-is) (next_outside x (sym w.in-Outside.is ∙ c.read_term.ensures) few)
-      | in-Within w ↦ rw (w.p-is, w.outside-is) (next_within x (sym w.in-Within.is ∙ c.read_term.ensures) few w.with_term-p.ensures)
-    ]
+pub loop-field-preserved : goal.loop-field-preserved
+loop-field-preserved c =
+    next_within c.loop-field.invariant (field (goal.at.loop-field-preserved c).In-Some) c.in-Within.ensures c.with_term-p.ensures
 
 pub returns-then-outside : goal.returns-then-outside
 returns-then-outside c =
-    c.blank-then-outside.ensures ∙ all_outside c.loop-at.invariant c.loop-at-test.false c.if-outside.true
+    c.blank-then-outside.ensures ∙ all_outside c.loop-field.invariant c.in-None.ensures.steps.0 c.if-outside.true
 
 pub returns : goal.returns
-returns c = all_within c.loop-at.invariant c.loop-at-test.false c.if-outside.false
+returns c = all_within c.loop-field.invariant c.in-None.ensures.steps.0 c.if-outside.false

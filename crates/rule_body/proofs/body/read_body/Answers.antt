@@ -8,7 +8,7 @@ use Rattle.std.specs.Prelude.{Err}
 use Rattle.std.proofs.lemmas.Fn.{always_returns_same}
 use Rattle.rules.specs.Text.{closing, behind}
 use Rattle.rule_text.proofs.Leads.{led_not, led_by}
-use Rattle.rule_text.proofs.Series.{Cut, cut}
+use Rattle.text.proofs.Cuts.{Cut, cut}
 use Rattle.rule_body.proofs.BodyWalk.{walked_none, next_unled, next_malformed, next_outside, next_tabled, next_within, body_read}
 use Rattle.rule_body.proofs.body.read_body.Goals as goal
 use Rattle.rule_body.proofs.body.read_body.Goals.{In-Some, In_ok-strip_prefix, in-Err-Outside, in-Ok, then-b-gt-MOST_LINES, else-b-gt-MOST_LINES}

@@ -5,7 +5,7 @@ use lib.Dec.{eqb}
 use Rattle.std.proofs.lemmas.Fn.{always_returns_same}
 use Rattle.rules.specs.Text.{comma, behind}
 use Rattle.rule_text.proofs.Leads.{led_not, led_by}
-use Rattle.rule_text.proofs.Series.{Cut, cut}
+use Rattle.text.proofs.Cuts.{Cut, cut}
 use Rattle.rule_body.proofs.NamesRead.{names_empty, none_passed, next_unled, next_unnamed, next_named, all_named}
 use Rattle.rule_body.proofs.head.read_names.Goals as goal
 use Rattle.rule_body.proofs.head.read_names.Goals.{In-Some, In_ok-strip_prefix}

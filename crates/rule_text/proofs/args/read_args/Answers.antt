@@ -8,7 +8,7 @@ use Rattle.model.specs.Value.{unused_term, terms_value}
 use Rattle.rules.specs.Text.{comma, behind}
 use Rattle.rule_text.specs.Atoms.{good_atom}
 use Rattle.rule_text.proofs.Leads.{led_not, led_by}
-use Rattle.rule_text.proofs.Series.{Cut, cut}
+use Rattle.text.proofs.Cuts.{Cut, cut}
 use Rattle.rule_text.proofs.ArgsRead.{args_none, next_unled, next_malformed, next_outside, next_within, all_outside, all_within}
 use Rattle.rule_text.proofs.args.read_args.Goals as goal
 use Rattle.rule_text.proofs.args.read_args.Goals.{In-Some, In-Some-strip_prefix, in-Outside, in-Within}
