@@ -1,5 +1,5 @@
 -- Places of a text, and what the inner functions of the pass find there. Place 0 as an end says nothing.
-use Rattle.std.specs.Prelude.{◌≡◌, Bool, true, false, List, [], ◌∷◌, ◌++◌, ℕ, ◌+◌, ◌^◌, ◌≤◌, ◌<◌, T, length, get_or, take}
+use Rattle.std.specs.Prelude.{◌≡◌, Bool, true, false, List, [], ◌∷◌, ◌++◌, ℕ, ◌+◌, ◌^◌, ◌≤◌, ◌<◌, T, length, get_or, take, Option, IfSome}
 use Rattle.words.specs.Sets.{meet}
 use Rattle.text.specs.Lines.{newline}
 use Rattle.text.specs.Names.{table_terms}
@@ -37,12 +37,12 @@ pub record NumeralThere (text : List ℕ) (at : ℕ) (n : Number) : Type 0 where
   pub within : n.value ≤ constant_limit
 
 -- a numeral at the place, or none
-abbrev pub NumberAt : List ℕ → ℕ → Number → Type 0
-NumberAt text at n = (n.end ≡ 0 → ⊥) → NumeralThere text at n
+abbrev pub NumberAt : List ℕ → ℕ → Option Number → Type 0
+NumberAt text at r = IfSome r (λ n. NumeralThere text at n)
 
 -- a numeral that is not 0, as a table's number is, or none
-abbrev pub TableAt : List ℕ → ℕ → Number → Type 0
-TableAt text at n = (n.end ≡ 0 → ⊥) → NumeralThere text at n × (1 ≤ n.value)
+abbrev pub TableAt : List ℕ → ℕ → Option Number → Type 0
+TableAt text at r = IfSome r (λ n. NumeralThere text at n × (1 ≤ n.value))
 
 -- the columns of a table that there may be; 0 says nothing
 abbrev pub WidthOf : List ℕ → ℕ → ℕ → Type 0

@@ -1,5 +1,5 @@
 -- The terms of a line from a place of a text on. Place 0 as an end says nothing.
-use Rattle.std.specs.Prelude.{◌≡◌, List, [], ◌∷◌, ◌++◌, ℕ, T, length}
+use Rattle.std.specs.Prelude.{◌≡◌, List, [], ◌∷◌, ◌++◌, ℕ, T, length, Option, IfSome}
 use Rattle.theory.specs.Query.{Term}
 use Rattle.theory.specs.Executable.Test.{all}
 use Rattle.text.specs.Lines.{space, newline}
@@ -19,8 +19,8 @@ pub record TermThere (text : List ℕ) (at : ℕ) (r : TermEnd) : Type 0 where
   pub there : Between text at r.end (space ∷ print_term is)
 
 -- such a term at the place, or none
-abbrev pub TermAt : List ℕ → ℕ → TermEnd → Type 0
-TermAt text at r = (r.end ≡ 0 → ⊥) → TermThere text at r
+abbrev pub TermAt : List ℕ → ℕ → Option TermEnd → Type 0
+TermAt text at r = IfSome r (λ t. TermThere text at t)
 
 -- these terms are within their limits, and r has them and their variables
 pub record HoldsTerms (r : Terms) (ts : List Term) : Type 0 where

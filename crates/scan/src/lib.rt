@@ -89,10 +89,9 @@ pub fn first_query(widths: &[u64], input: &[u8], rows: &mut [u64]) -> Piece
         if count == MOST_LINES {
             return Piece { query: q, end: 0 };
         }
-        let t = table_at(input, at);
-        if t.end == 0 {
+        let Some(t) = table_at(input, at) else {
             return Piece { query: q, end: 0 };
-        }
+        };
         let table = t.value;
         let width = width_of(widths, table);
         if width == 0 {

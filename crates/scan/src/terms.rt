@@ -8,7 +8,7 @@ ghost use Rattle.scan.specs.TermsAt.{TermAt, TermsAt};
 use crate::numbers::number_at;
 use model::{HIDDEN, MOST_COLUMNS, SHOWN, Term};
 
-// A term, and the place behind it; place 0 where there is none.
+// A term, and the place behind it.
 #[derive(Clone, Copy)]
 struct TermEnd {
     term: Term,
@@ -24,44 +24,32 @@ pub struct Terms {
     pub hidden: u64,
 }
 
-fn no_term() -> TermEnd
-    ensures { result.end ≡ 0 }
-{
-    TermEnd {
-        term: Term { mark: 0, number: 0 },
-        end: 0,
-    }
-}
-
 // The term behind the space at a place.
-fn term_at(text: &[u8], at: usize) -> TermEnd
+fn term_at(text: &[u8], at: usize) -> Option<TermEnd>
     requires { PlaceIn text.now at }
     ensures { TermAt text.now at result }
 {
     if text.len() < at + 2 {
-        return no_term();
+        return None;
     }
     if text[at] != b' ' {
-        return no_term();
+        return None;
     }
     let mark = model::mark_of(text[at + 1]);
     if mark == 0 {
-        return no_term();
+        return None;
     }
-    let n = number_at(text, at + 2);
-    if n.end == 0 {
-        return no_term();
-    }
+    let n = number_at(text, at + 2)?;
     if !model::within(mark, n.value) {
-        return no_term();
+        return None;
     }
-    TermEnd {
+    Some(TermEnd {
         term: Term {
             mark,
             number: n.value,
         },
         end: n.end,
-    }
+    })
 }
 
 // The place behind the byte 10 at a place, or 0 where another byte is.
@@ -89,18 +77,15 @@ pub fn terms_at(text: &[u8], start: usize, width: usize) -> Terms
         hidden: 0,
     };
     let mut at = start;
-    let mut c = 0;
-    while c < width {
-        let t = term_at(text, at);
-        if t.end == 0 {
+    for c in 0..width {
+        let Some(t) = term_at(text, at) else {
             return r;
-        }
+        };
         let u = t.term;
         r.terms[c] = u;
         r.shown = model::with_mark(SHOWN, r.shown, u);
         r.hidden = model::with_mark(HIDDEN, r.hidden, u);
         at = t.end;
-        c += 1;
     }
     r.end = line_end(text, at);
     r

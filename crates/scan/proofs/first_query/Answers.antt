@@ -1,97 +1,42 @@
-use mathlib.Core.Path.{◌≡◌, refl, sym, ◌∙◌}
+use mathlib.Core.Path.{◌∙◌}
 use mathlib.Core.List.{[], ◌∷◌}
-use Prim.Native.Nat.{◌≤◌, ◌<◌, zero-le}
+use Prim.Native.Nat.{◌≤◌, ◌<◌}
 use native.Mathlib.Omega.{arith}
-use lib.ListN.{length, length-append}
+use lib.ListN.{length-append}
 use Rattle.text.specs.Lines.{newline}
 use Rattle.model.specs.Limits.{most_columns, most_lines}
 use Rattle.model.specs.Print.{spaced}
 use Rattle.cutting.specs.NextCut.{NextCut}
 use Rattle.cutting.proofs.Walk.{ends}
-use Rattle.scan.specs.Places.{PlaceIn, NumeralThere}
 use Rattle.scan.specs.TermsAt.{TermsThere}
 use Rattle.scan.proofs.LinePlaces.{names_next}
 use Rattle.scan.proofs.LentWidths.{few_columns}
 use Rattle.scan.proofs.LinesTo.{lines_none, lines_more, lines_scanned, counted_few, past_names}
 use Rattle.scan.proofs.first_query.Goals as goal
-use Rattle.scan.proofs.first_query.Goals.{At-loop-at, Else-count-eq-MOST_LINES, Else-r-eq0, Else-t-eq0, Else-width-eq0, else-loop-at-test, then-loop-at-test+then-names_at}
-
-pub names_at-requires : goal.names_at-requires
-names_at-requires c = record { short = c.requires.1; within = zero-le }
-
-pub returns-then-not-names_at : goal.returns-then-not-names_at
-returns-then-not-names_at c =
-    record {
-      scanned_under = λ some. absurd (some refl);
-      rows_len = c.requires.2;
-    }
+use Rattle.scan.proofs.first_query.Goals.{Else-count-eq-MOST_LINES, Else-r-eq0, Else-width-eq0, else-loop-at-test, then-loop-at-test+then-names_at}
 
 pub loop-at-init : goal.loop-at-init
 loop-at-init c =
     (lines_none c.no_query-q.ensures (c.names_at.ensures c.if-not-names_at.false), c.requires.2)
 
--- the rows are as many as they were
-same_long : (l : At-loop-at) → length l.loop-at.rows ≡ length l.args.rows.now
-same_long l = l.loop-at.invariant.1 ∙ sym l.requires.2
-
 -- ---- the next line
-
-place : (l : At-loop-at) → PlaceIn l.args.input.now l.loop-at.at
-place l = record { short = l.requires.1; within = l.loop-at.invariant.0.text.within }
 
 room : (c : Else-count-eq-MOST_LINES) → c.loop-at.q.count < most_lines
 room c = omega (arith, counted_few c.loop-at.invariant.0, c.if-count-eq-MOST_LINES.false)
-
-table : (c : Else-t-eq0) → let n = c.table_at-t.result in
-    NumeralThere c.args.input.now c.loop-at.at n × (1 ≤ n.value)
-table c = c.table_at-t.ensures c.if-t-eq0.false
 
 some : (c : Else-width-eq0) → 1 ≤ c.width_of-width.result
 some c = omega (arith, c.if-width-eq0.false)
 
 few : (c : Else-width-eq0) → c.width_of-width.result ≤ most_columns
-few c = few_columns c.requires.0 _ _ (table (goal.at.Else-width-eq0 c).Else-t-eq0).1 c.width_of-width.ensures (some c)
+few c = few_columns c.requires.0 _ _ c.in-Some.ensures.1 c.width_of-width.ensures (some c)
 
-terms : (c : Else-r-eq0) → TermsThere c.args.input.now c.table_at-t.result.end c.width_of-width.result c.terms_at-r.result
+terms : (c : Else-r-eq0) → TermsThere c.args.input.now c.in-Some.t.end c.width_of-width.result c.terms_at-r.result
 terms c = c.terms_at-r.ensures c.if-r-eq0.false
-
-pub names_at-requires-in-loop-at : goal.names_at-requires-in-loop-at
-names_at-requires-in-loop-at c = place (goal.at.names_at-requires-in-loop-at c).At-loop-at
-
-pub shape_of-rows-then-count-eq-MOST_LINES : goal.shape_of-rows-then-count-eq-MOST_LINES
-shape_of-rows-then-count-eq-MOST_LINES c = same_long (goal.at.shape_of-rows-then-count-eq-MOST_LINES c).At-loop-at
-
-pub returns-then-count-eq-MOST_LINES : goal.returns-then-count-eq-MOST_LINES
-returns-then-count-eq-MOST_LINES c = record { scanned_under = λ some. absurd (some refl); rows_len = c.loop-at.invariant.1 }
-
-pub table_at-t-requires : goal.table_at-t-requires
-table_at-t-requires c = place (goal.at.table_at-t-requires c).At-loop-at
-
-pub shape_of-rows-then-t-eq0 : goal.shape_of-rows-then-t-eq0
-shape_of-rows-then-t-eq0 c = same_long (goal.at.shape_of-rows-then-t-eq0 c).At-loop-at
-
-pub returns-then-t-eq0 : goal.returns-then-t-eq0
-returns-then-t-eq0 c = record { scanned_under = λ some. absurd (some refl); rows_len = c.loop-at.invariant.1 }
-
-pub width_of-width-requires : goal.width_of-width-requires
-width_of-width-requires c = c.requires.0.1.long
-
-pub shape_of-rows-then-width-eq0 : goal.shape_of-rows-then-width-eq0
-shape_of-rows-then-width-eq0 c = same_long (goal.at.shape_of-rows-then-width-eq0 c).At-loop-at
-
-pub returns-then-width-eq0 : goal.returns-then-width-eq0
-returns-then-width-eq0 c = record { scanned_under = λ some. absurd (some refl); rows_len = c.loop-at.invariant.1 }
 
 pub terms_at-r-requires : goal.terms_at-r-requires
 terms_at-r-requires c =
-    let there = (table (goal.at.terms_at-r-requires c).Else-t-eq0).0.there in
+    let there = c.in-Some.ensures.0.there in
     (record { short = c.requires.1; within = there.within }, few (goal.at.terms_at-r-requires c).Else-width-eq0)
-
-pub shape_of-rows-then-r-eq0 : goal.shape_of-rows-then-r-eq0
-shape_of-rows-then-r-eq0 c = same_long (goal.at.shape_of-rows-then-r-eq0 c).At-loop-at
-
-pub returns-then-r-eq0 : goal.returns-then-r-eq0
-returns-then-r-eq0 c = record { scanned_under = λ some. absurd (some refl); rows_len = c.loop-at.invariant.1 }
 
 pub offset_bounds-q-count : goal.offset_bounds-q-count
 offset_bounds-q-count c = omega (arith, room (goal.at.offset_bounds-q-count c).Else-count-eq-MOST_LINES)
@@ -116,7 +61,7 @@ loop-at-smaller c =
     let t = terms (goal.at.loop-at-smaller c).Else-r-eq0 in
     omega (
       arith,
-      (table (goal.at.loop-at-smaller c).Else-t-eq0).0.there.long,
+      c.in-Some.ensures.0.there.long,
       t.there.long,
       t.there.within,
       length-append (spaced t.are) (newline ∷ []),
@@ -126,14 +71,11 @@ pub loop-at-preserved : goal.loop-at-preserved
 loop-at-preserved c =
     let e = (goal.at.loop-at-preserved c).Else-width-eq0 in
     let w = c.loop-at.invariant in (
-      lines_more w.0 _ _ _ (table (goal.at.loop-at-preserved c).Else-t-eq0) (c.width_of-width.ensures (some e)) (some e) (few e)
+      lines_more w.0 _ _ _ c.in-Some.ensures (c.width_of-width.ensures (some e)) (some e) (few e)
           (terms (goal.at.loop-at-preserved c).Else-r-eq0) (room (goal.at.loop-at-preserved c).Else-count-eq-MOST_LINES)
           (record { table = 0; terms = [] }) c.lay_line.ensures,
       c.lay_line.ensures.long ∙ w.1,
     )
-
-pub shape_of-rows : goal.shape_of-rows
-shape_of-rows c = same_long (goal.at.shape_of-rows c).At-loop-at
 
 pub returns : goal.returns
 returns c =

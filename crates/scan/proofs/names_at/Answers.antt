@@ -1,23 +1,12 @@
 -- The bytes of the names line, and the byte that ends it.
 use mathlib.Core.Path.{sym, ◌∙◌}
-use mathlib.Core.Bool.{false≢true}
 use native.Mathlib.Omega.{arith}
-use lib.ListN.{length-take, length-drop}
 use Rattle.words.proofs.Answers.{true_holds}
 use Rattle.text.specs.Names.{table_terms}
 use Rattle.text.proofs.Names.{same_bytes_iff}
 use Rattle.text.proofs.Parts.{to_end}
 use Rattle.scan.proofs.Places.{names_there}
 use Rattle.scan.proofs.names_at.Goals as goal
-
-pub returns-then-text-at : goal.returns-then-text-at
-returns-then-text-at c is = absurd (false≢true is)
-
-pub returns-then-text-at-ne10 : goal.returns-then-text-at-ne10
-returns-then-text-at-ne10 c is = absurd (false≢true is)
-
-pub slice_bounds-same-end : goal.slice_bounds-same-end
-slice_bounds-same-end c = simp (length-take, length-drop) (omega arith)
 
 pub returns : goal.returns
 unfolding table_terms

@@ -2,12 +2,6 @@
 use mathlib.Core.Path.{refl, sym, ◌∙◌}
 use Rattle.scan.proofs.text_end.Goals as goal
 
-pub returns-then-count-eq0 : goal.returns-then-count-eq0
-returns-then-count-eq0 c some = absurd (some refl)
-
-pub returns-then-meets : goal.returns-then-meets
-returns-then-meets c some = absurd (some refl)
-
 pub returns : goal.returns
 returns c some =
     record { some = c.if-count-eq0.false; clear = sym c.meets.ensures ∙ c.if-meets.false; here = refl }

@@ -17,22 +17,6 @@ loop-i-init c =
     let none : at - at ≡ 0 = omega arith in
     (no_digits at c.requires.within, omega arith, rw none (lit< tt))
 
-pub bounds-text-i : goal.bounds-text-i
-bounds-text-i c = omega arith
-
-pub numeral_between-requires : goal.numeral_between-requires
-numeral_between-requires c =
-    record {
-      text_len_bound = c.requires.short;
-      digits_between = c.loop-i.invariant.0;
-    }
-
-pub returns-then-d-gt9 : goal.returns-then-d-gt9
-returns-then-d-gt9 c = c.numeral_between.ensures
-
-pub overflow_add-at : goal.overflow_add-at
-overflow_add-at c = omega (arith, c.requires)
-
 -- ---- one digit more
 
 abbrev turn : Else-d-gt9 → At-loop-i
@@ -50,18 +34,12 @@ more c =
     let d = c.digit-d.ensures in
     more_digits (turn c).loop-i.invariant.0 (omega arith) (turn c).loop-i.invariant.1 (digit_taken _ _ d.lower_bound d.value (omega arith))
 
-pub overflow_add-i : goal.overflow_add-i
-overflow_add-i c = omega arith
-
 pub numeral_with-requires : goal.numeral_with-requires
 numeral_with-requires c =
     record {
       text_len_bound = (turn (goal.at.numeral_with-requires c).Else-d-gt9).requires.short;
       d_bound = (omega arith, more (goal.at.numeral_with-requires c).Else-d-gt9);
     }
-
-pub returns-then-i-at : goal.returns-then-i-at
-returns-then-i-at c = c.numeral_with.ensures
 
 -- ---- behind fewer digits than come before the last
 
@@ -77,12 +55,6 @@ overflow_mul-value c = omega (arith, small c)
 pub overflow_add-value : goal.overflow_add-value
 overflow_add-value c = omega (arith, small c)
 
-pub overflow_add-i-in-loop-i : goal.overflow_add-i-in-loop-i
-overflow_add-i-in-loop-i c = omega arith
-
-pub loop-i-smaller : goal.loop-i-smaller
-loop-i-smaller c = omega arith
-
 pub loop-i-preserved : goal.loop-i-preserved
 loop-i-preserved c =
     let l = (turn (goal.at.loop-i-preserved c).Else-d-gt9).loop-i in
@@ -92,6 +64,3 @@ loop-i-preserved c =
       omega (arith, l.invariant.1, c.if-i-at.false),
       rw (long, pow-suc) (omega (arith, l.invariant.2)),
     )
-
-pub returns : goal.returns
-returns c some = absurd (some c.no_number.ensures)

@@ -7,24 +7,12 @@ use Rattle.scan.proofs.Digits.{one_digit, many_digits}
 use Rattle.scan.proofs.numbers.numeral_between.Goals as goal
 use Rattle.scan.proofs.numbers.numeral_between.Goals.{Start}
 
-pub returns-then-end-at : goal.returns-then-end-at
-returns-then-end-at c some = absurd (some c.no_number.ensures)
-
-pub overflow_add-at : goal.overflow_add-at
-overflow_add-at c = omega (arith, c.requires.text_len_bound, c.requires.digits_between.there)
-
 small : (c : Start) → c.args.value ≤ constant_limit
 small c = word_within c.args.value (omega (arith, c.ranges.value))
 
 pub returns-then-end-at-2 : goal.returns-then-end-at-2
-returns-then-end-at-2 c some = one_digit c.requires.digits_between (small (goal.at.returns-then-end-at-2 c).Start) c.if-end-at-2.true
-
-pub bounds-text-at : goal.bounds-text-at
-bounds-text-at c = omega (arith, c.requires.digits_between.there)
-
-pub returns-then-text-at-eq48 : goal.returns-then-text-at-eq48
-returns-then-text-at-eq48 c some = absurd (some c.no_number-then-text-at-eq48.ensures)
+returns-then-end-at-2 c = one_digit c.requires.digits_between (small (goal.at.returns-then-end-at-2 c).Start) c.if-end-at-2.true
 
 pub returns : goal.returns
-returns c some =
+returns c =
     many_digits c.requires.digits_between (small (goal.at.returns c).Start) c.if-end-at.false c.if-end-at-2.false c.if-text-at-eq48.false

@@ -8,15 +8,6 @@ use Rattle.scan.proofs.Digits.{table_one, table_two, digit_byte}
 use Rattle.scan.proofs.numbers.table_at.Goals as goal
 use Rattle.scan.proofs.numbers.table_at.Goals.{After-digit-d, After-digit-e, Else-d-eq0}
 
-pub returns-then-text-at : goal.returns-then-text-at
-returns-then-text-at c some = absurd (some c.no_number.ensures)
-
-pub returns-then-d-gt9 : goal.returns-then-d-gt9
-returns-then-d-gt9 c some = absurd (some c.no_number-then-d-gt9.ensures)
-
-pub returns-then-d-eq0 : goal.returns-then-d-eq0
-returns-then-d-eq0 c some = absurd (some c.no_number-then-d-eq0.ensures)
-
 -- the first digit
 abbrev at_first : Else-d-eq0 → After-digit-d
 at_first c = (goal.at.Else-d-eq0 c).After-digit-d
@@ -32,12 +23,12 @@ abbrev of-second : After-digit-e → Else-d-eq0
 of-second c = (goal.at.After-digit-e c).Else-d-eq0
 
 pub returns-then-e-gt9 : goal.returns-then-e-gt9
-returns-then-e-gt9 c some =
+returns-then-e-gt9 c =
     let d = of-second (goal.at.returns-then-e-gt9 c).After-digit-e in
     (table_one _ _ (first d).0 (first d).1 (omega arith) (first_byte d), (first d).0)
 
 pub returns : goal.returns
-returns c some =
+returns c =
     let d = of-second (goal.at.returns c).After-digit-e in
     let e = c.digit-e.ensures in (
       table_two _ _ (first d).0 (first d).1 (omega arith) (first_byte d) _ (omega arith) (omega arith)

@@ -1,11 +1,7 @@
 -- The loop's invariant: as many terms as were counted stand behind the start, and `r` holds them.
 use mathlib.Core.Path.{◌≡◌}
-use Prim.Native.Nat.{◌-◌, ◌≤◌}
 use Rattle.scan.proofs.TermBytes.{TermsTo}
 use Rattle.scan.proofs.terms.terms_at.Given as goal
 
 abbrev pub invariant-loop-c : goal.invariant-loop-c
-invariant-loop-c l = TermsTo l.text l.start l.at l.c l.r × (l.r.end ≡ 0) × (l.c ≤ l.width)
-
-abbrev pub decreases-loop-c : goal.decreases-loop-c
-decreases-loop-c l = l.width - l.c
+invariant-loop-c l = TermsTo l.text l.start l.at l.c l.r × (l.r.end ≡ 0)
