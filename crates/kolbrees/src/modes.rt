@@ -1,5 +1,8 @@
 // The modes: each reads what it needs and writes its page.
 
+ghost use Rattle.std.specs.Prelude.{◌≤◌, length};
+ghost use Rattle.page.specs.Sizes.{most_page};
+
 use std::rt::{Env, Files};
 use text::Numeral;
 
@@ -34,43 +37,40 @@ fn write_labels(rt: &impl Files) {
     io::write_all(1, &out[..n]);
 }
 
-fn write_explain(rt: &(impl Env + Files)) {
-    let mut policy = files::policy_room();
-    let policy_bytes = files::read_file(rt, b"policy.txt", &mut policy);
-    let mut query = [0; MOST_QUERY];
-    let query_bytes = io::read_full(0, &mut query);
-    let mut out = page::page_room();
-    let n = mode_explain::explain_page(
-        &policy[..policy_bytes],
-        number_at(rt, 2),
-        &query[..query_bytes],
-        &mut out,
-    );
-    io::write_all(1, &out[..n]);
+// The modes that look at one partition.
+#[derive(Clone, Copy)]
+enum OfPartition {
+    Explain,
+    Grant,
+    Apart,
 }
 
-fn write_grant(rt: &(impl Env + Files)) {
-    let mut policy = files::policy_room();
-    let policy_bytes = files::read_file(rt, b"policy.txt", &mut policy);
-    let mut query = [0; MOST_QUERY];
-    let query_bytes = io::read_full(0, &mut query);
-    let mut out = page::page_room();
-    let n = mode_grant::grant_page(
-        &policy[..policy_bytes],
-        number_at(rt, 2),
-        &query[..query_bytes],
-        &mut out,
-    );
-    io::write_all(1, &out[..n]);
+// The page of such a mode for a policy, the partition and a query; how many bytes it has.
+fn page_of(
+    mode: OfPartition,
+    policy: &[u8],
+    partition: u64,
+    query: &[u8],
+    out: &mut [u8],
+) -> usize
+    requires { most_page ≤ length out.old }
+    ensures { result ≤ length out.new }
+{
+    match mode {
+        OfPartition::Explain => mode_explain::explain_page(policy, partition, query, out),
+        OfPartition::Grant => mode_grant::grant_page(policy, partition, query, out),
+        OfPartition::Apart => mode_apart::apart_page(policy, partition, query, out),
+    }
 }
 
-fn write_apart(rt: &(impl Env + Files)) {
+fn write_of_partition(rt: &(impl Env + Files), mode: OfPartition) {
     let mut policy = files::policy_room();
     let policy_bytes = files::read_file(rt, b"policy.txt", &mut policy);
     let mut query = [0; MOST_QUERY];
     let query_bytes = io::read_full(0, &mut query);
     let mut out = page::page_room();
-    let n = mode_apart::apart_page(
+    let n = page_of(
+        mode,
         &policy[..policy_bytes],
         number_at(rt, 2),
         &query[..query_bytes],
@@ -101,36 +101,19 @@ fn write_compare(rt: &impl Env) {
 
 // The mode of a name; for any other, which modes there are.
 pub fn write_mode(rt: &(impl Env + Files), name: &[u8]) {
-    if text::same(name, b"check") {
-        write_check(rt);
-        return;
+    match name {
+        b"check" => write_check(rt),
+        b"labels" => write_labels(rt),
+        b"explain" => write_of_partition(rt, OfPartition::Explain),
+        b"grant" => write_of_partition(rt, OfPartition::Grant),
+        b"apart" => write_of_partition(rt, OfPartition::Apart),
+        b"compare" => write_compare(rt),
+        b"rules" => write_rules(rt),
+        _ => {
+            io::write_all(
+                2,
+                b"the modes are: check, labels, explain PARTITION, grant PARTITION, apart PARTITION, compare LABEL LABEL, rules\n",
+            );
+        }
     }
-    if text::same(name, b"labels") {
-        write_labels(rt);
-        return;
-    }
-    if text::same(name, b"explain") {
-        write_explain(rt);
-        return;
-    }
-    if text::same(name, b"grant") {
-        write_grant(rt);
-        return;
-    }
-    if text::same(name, b"apart") {
-        write_apart(rt);
-        return;
-    }
-    if text::same(name, b"compare") {
-        write_compare(rt);
-        return;
-    }
-    if text::same(name, b"rules") {
-        write_rules(rt);
-        return;
-    }
-    io::write_all(
-        2,
-        b"the modes are: check, labels, explain PARTITION, grant PARTITION, apart PARTITION, compare LABEL LABEL, rules\n",
-    );
 }
