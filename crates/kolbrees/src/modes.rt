@@ -46,13 +46,7 @@ enum OfPartition {
 }
 
 // The page of such a mode for a policy, the partition and a query; how many bytes it has.
-fn page_of(
-    mode: OfPartition,
-    policy: &[u8],
-    partition: u64,
-    query: &[u8],
-    out: &mut [u8],
-) -> usize
+fn page_of(mode: OfPartition, policy: &[u8], partition: u64, query: &[u8], out: &mut [u8]) -> usize
     requires { most_page ≤ length out.old }
     ensures { result ≤ length out.new }
 {

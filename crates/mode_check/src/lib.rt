@@ -7,7 +7,6 @@ ghost use Rattle.writing.specs.Wrote.{Wrote};
 ghost use Rattle.page.specs.Sizes.{most_page};
 ghost use Rattle.mode_check.specs.Check.{counted, check_page};
 
-
 // What is said of an accepted policy: how many tables, views and partitions it has.
 fn put_counts(out: &mut [u8], tables: u64, views: u64, partitions: u64) -> usize
     requires { most_page ≤ length out.old }

@@ -57,8 +57,6 @@ pub fn rules_page(policy: &[u8], rules: &[u8], out: &mut [u8]) -> usize
 {
     match load::load(policy) {
         Err(r) => page::refusal_page(b"policy refused ", policy, r.number, r.line, out),
-        Ok(p) => {
-            put_rules(p.tables, rules, out)
-        }
+        Ok(p) => { put_rules(p.tables, rules, out) }
     }
 }

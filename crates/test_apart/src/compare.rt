@@ -79,9 +79,9 @@ pub fn all_settled(start: u64, p: Policy, cases: &[(u64, &[u8])]) -> u64 {
 }
 
 // A partition, a query, how many cells are lent, and the number and the line of what turns the call back.
-pub type Refusal<'a> = (u64, &'a [u8], usize, u64, u64);
+pub type RefusedCase<'a> = (u64, &'a [u8], usize, u64, u64);
 
-pub fn all_refused(start: u64, p: Policy, cases: &[Refusal]) -> u64
+pub fn all_refused(start: u64, p: Policy, cases: &[RefusedCase]) -> u64
     requires { All (λ c. c.2 ≤ 370) cases.now }
 {
     let mut n = start;

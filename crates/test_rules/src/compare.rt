@@ -123,10 +123,10 @@ pub fn refused_at(
 }
 
 // A rule, how many bytes are lent, a place, and the number and the line of what turns the call back.
-pub type Refusal<'a> = (&'a [u8], usize, usize, u64, u64);
+pub type RefusedCase<'a> = (&'a [u8], usize, usize, u64, u64);
 
 // The calls behind `start` cases, under one policy; how many cases there are then.
-pub fn all_refused_at(start: u64, p: Policy, cases: &[Refusal]) -> u64
+pub fn all_refused_at(start: u64, p: Policy, cases: &[RefusedCase]) -> u64
     requires { All (λ c. c.1 ≤ 2000) cases.now }
 {
     let mut n = start;
