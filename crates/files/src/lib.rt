@@ -18,7 +18,7 @@ pub fn policy_room() -> [u8; load::MOST_BYTES + 1]
     [0; load::MOST_BYTES + 1]
 }
 
-// The first bytes of an open file, as many as there is room for. A read that fails ends them.
+// The first bytes of an open file, as many as there is room for. A read that fails ends them. No `for`: a read says how far it came.
 fn fill<R: Read>(file: &mut R, buffer: &mut [u8]) -> usize
     ensures { IsPrefixLen result buffer.new }
 {

@@ -11,7 +11,7 @@ use explanations::Explaining;
 use model::Refusal;
 use sessions::Reply;
 
-// A number for each word of a reply.
+// A number for each word of a reply: C has them as numbers.
 const REFUSED: u64 = 0;
 
 const ACCEPTED: u64 = 1;
@@ -63,6 +63,8 @@ fn counted(word: u64, count: u64) -> PlainReply
         line: 0,
     }
 }
+
+// Functions by name, and no `From`: a list's length and a number of bytes are both a `Result<usize, Refusal>`, and have words of their own.
 
 // Of loading and of opening, whose policy and session stand beside the reply.
 pub fn of_outcome(o: Result<(), Refusal>) -> PlainReply
