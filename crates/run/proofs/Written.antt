@@ -1,8 +1,7 @@
 -- What is written for a policy text that loads, and for one that does not.
-use mathlib.Core.Path.{◌≡◌, refl, sym, ap, ◌∙◌}
+use mathlib.Core.Path.{◌≡◌, sym, ◌∙◌}
 use mathlib.Core.List.{List, [], ◌∷◌, ◌++◌, append_assoc}
 use Prim.Native.Nat.{ℕ}
-use native.Mathlib.Omega.{arith}
 use Rattle.std.specs.Prelude.{Result, Ok}
 use Rattle.model.specs.declared.Policy.{Policy}
 use Rattle.model.specs.declared.Refusal.{Refusal}

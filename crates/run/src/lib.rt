@@ -86,6 +86,7 @@ fn decide_all(
     let mut query: u64 = 1;
     let mut at = 0;
     let mut to = start;
+    // no `for`: only deciding a query tells where its text ends, and the next starts there
     while at < queries.len() {
         let next = decide_next(tables, ready, s, &queries[at..], &mut lines);
         let d = next.decision;

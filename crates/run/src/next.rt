@@ -30,12 +30,11 @@ pub fn decide_next(
     ensures next_decided { NextDecided tables ready.now s input.now result }
     ensures lines_len { length lines.new ≡ query_rows_long }
 {
-    let p = scan::first_query(covering::widths(ready), input, lines);
-    if p.end == 0 {
+    let Some(p) = scan::first_query(covering::widths(ready), input, lines) else {
         let n = cutting::next_cut(input);
         let decision = desk::decide_loaded(tables, ready, s, &input[..n]);
         return NextDecision { decision, end: n };
-    }
+    };
     let q = p.query;
     let decision = desk::decide_rows(ready, s, q.count, lines);
     NextDecision {

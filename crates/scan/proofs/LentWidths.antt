@@ -10,7 +10,7 @@ use Rattle.theory.specs.Query.{Line, Fits}
 use Rattle.theory.proofs.Tuples.{get_d_mem}
 use Rattle.model.specs.Limits.{most_tables, most_columns, line_within}
 use Rattle.model.proofs.Limits.{up_to_iff, line_within_iff}
-use Rattle.scan.specs.Places.{WidthOf}
+use Rattle.scan.specs.Places.{WidthThere}
 use Rattle.scan.specs.Scanned.{Widths, SomeWidths}
 
 -- a place that does not hold 0 is in the list
@@ -36,9 +36,9 @@ module _ {lent widths : List ℕ} (w : Widths lent widths) (t : ℕ) (first : 1 
       ((up_to_iff most_columns (get_or widths (t - 1) 0)).0 (w.narrow (get_or widths (t - 1) 0) (get_d_mem widths (t - 1) 0 (known f)))).1
 
 -- a table has no more columns than a line may have terms
-pub few_columns : {lent : List ℕ} → SomeWidths lent → (t width : ℕ) → 1 ≤ t → WidthOf lent t width → 1 ≤ width → width ≤ most_columns
-few_columns (widths, w) t width first is some =
-    let (last, e) = is some in rw e (width_small w t first last (λ z. omega (arith, e ∙ z)))
+pub few_columns : {lent : List ℕ} → SomeWidths lent → (t width : ℕ) → 1 ≤ t → WidthThere lent t width → width ≤ most_columns
+few_columns (widths, w) t width first there =
+    rw there.is (width_small w t first there.last (λ z. omega (arith, there.some, there.is ∙ z)))
 
 -- a line within the limits, with as many terms as were lent for its table
 pub record Suits (lent : List ℕ) (A : Line) : Type 0 where

@@ -18,7 +18,7 @@ use Rattle.text.specs.Names.{bytes, table_terms}
 use Rattle.text.specs.Print.{end_each}
 use Rattle.text.proofs.Each.{each_last}
 use Rattle.text.proofs.Joined.{ended_parts}
-use Rattle.model.specs.Limits.{most_tables, most_columns, most_lines, last_variable, term_within}
+use Rattle.model.specs.Limits.{most_columns, most_lines, last_variable, term_within}
 use Rattle.model.specs.Print.{print_query_line}
 use Rattle.model.specs.Rows.{LaidAt, LaidInto}
 use Rattle.model.specs.Value.{pad, unused_line, line_value, query_value}
@@ -37,7 +37,7 @@ use Rattle.cutting.specs.NextCut.{NextCut}
 use Rattle.cutting.proofs.Walk.{Walked}
 use Rattle.entering.specs.Agree.{line_at}
 use Rattle.entering.proofs.LaidRows.{value_at}
-use Rattle.scan.specs.Places.{Between, NumeralThere}
+use Rattle.scan.specs.Places.{Between, NumeralThere, WidthThere}
 use Rattle.scan.specs.Scanned.{Widths, Scanned}
 use Rattle.scan.specs.TermsAt.{TermsThere}
 use Rattle.scan.specs.declared.numbers.Number.{Number}
@@ -108,7 +108,7 @@ module _ {lent input rows : List ℕ} {q : QueryValue} {s h at : ℕ} (w : Lines
 
   -- behind them stand a table's number and as many terms as that table has columns
   module _ (n : Number) (r : Terms) (width : ℕ) (table : NumeralThere input at n × (1 ≤ n.value))
-      (columns : (n.value ≤ most_tables) × (width ≡ get_or lent n.value 0)) (some : 1 ≤ width) (few : width ≤ most_columns)
+      (columns : WidthThere lent n.value width) (few : width ≤ most_columns)
       (terms : TermsThere input n.end width r) (room : q.count < most_lines) where
     abbrev A : Line
     A = record { table = n.value; columns = terms.are }
@@ -135,10 +135,10 @@ module _ {lent input rows : List ℕ} {q : QueryValue} {s h at : ℕ} (w : Lines
     suits : Suits lent A
     suits =
         record {
-          within = (line_within_iff A).1 ((table.1, columns.0), (all_iff term_within terms.are).0 terms.holds.within);
-          some = rw terms.count some;
+          within = (line_within_iff A).1 ((table.1, columns.last), (all_iff term_within terms.are).0 terms.holds.within);
+          some = rw terms.count columns.some;
           few = rw terms.count few;
-          width = terms.count ∙ columns.1;
+          width = terms.count ∙ columns.is;
         }
 
     marks_more : Marked behind (bit_or s r.shown) (bit_or h r.hidden)

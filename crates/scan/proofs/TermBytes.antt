@@ -13,7 +13,7 @@ use Rattle.words.proofs.Answers.{true_holds}
 use Rattle.theory.specs.Query.{Term, constant, shown, hidden}
 use Rattle.theory.specs.Executable.Test.{all, kind, number}
 use Rattle.theory.proofs.Executable.Test.{all_iff}
-use Rattle.text.specs.Lines.{space, newline}
+use Rattle.text.specs.Lines.{space}
 use Rattle.text.specs.Numeral.{constant_limit}
 use Rattle.text.specs.Print.{decimal}
 use Rattle.text.proofs.Each.{each_last}
@@ -28,7 +28,7 @@ use Rattle.model.proofs.Spaced.{spaced_more}
 use Rattle.model.proofs.TermFields.{variable_small}
 use Rattle.model.proofs.Terms.{terms_more, bits_more, mark_shown, mark_hidden}
 use Rattle.scan.specs.Places.{Between, NumeralThere}
-use Rattle.scan.specs.TermsAt.{TermThere, HoldsTerms, TermsThere}
+use Rattle.scan.specs.TermsAt.{TermThere, HoldsTerms}
 use Rattle.scan.specs.declared.numbers.Number.{Number}
 use Rattle.scan.specs.declared.terms.TermEnd.{TermEnd}
 use Rattle.scan.specs.declared.terms.Terms.{Terms}
@@ -83,15 +83,15 @@ term_small {r = r} t mark h e =
 
 -- ---- the terms before a place
 
--- so many terms stand before it, and r holds them
-pub record TermsTo (text : List ℕ) (start at n : ℕ) (r : Terms) : Type 0 where
+-- so many terms stand before r's place, and r holds them
+pub record TermsTo (text : List ℕ) (start n : ℕ) (r : Terms) : Type 0 where
   pub are : List Term
   pub count : length are ≡ n
   pub holds : HoldsTerms r are
-  pub there : Between text start at (spaced are)
+  pub there : Between text start r.end (spaced are)
 
 pub terms_none : {text : List ℕ} (start : ℕ) → start ≤ length text
-    → TermsTo text start start 0 (record { end = 0; terms = terms_value []; shown = 0; hidden = 0 })
+    → TermsTo text start 0 (record { end = start; terms = terms_value []; shown = 0; hidden = 0 })
 unfolding spaced all bits_of
 terms_none start h =
     record {
@@ -102,10 +102,10 @@ terms_none start h =
     }
 
 -- one term more
-pub terms_one_more : {text : List ℕ} {start at c : ℕ} {r : Terms} {t : TermEnd} (s h : ℕ) → TermsTo text start at c r → TermThere text at t
+pub terms_one_more : {text : List ℕ} {start c : ℕ} {r : Terms} {t : TermEnd} (s h : ℕ) → TermsTo text start c r → TermThere text r.end t
     → c < most_columns → s ≡ with_mark 2 r.shown t.term → h ≡ with_mark 3 r.hidden t.term
-    → TermsTo text start t.end (c + 1) (record { end = r.end; terms = set r.terms c t.term; shown = s; hidden = h })
-terms_one_more {text} {start} {at} {c} {r} {t} s h w u room es eh =
+    → TermsTo text start (c + 1) (record { end = t.end; terms = set r.terms c t.term; shown = s; hidden = h })
+terms_one_more {text} {start} {c} {r} {t} s h w u room es eh =
     let ts = w.are in
     record {
       are = ts ++ u.is ∷ [];
@@ -119,21 +119,4 @@ terms_one_more {text} {start} {at} {c} {r} {t} s h w u room es eh =
             hidden_bits = eh ∙ rw (w.holds.hidden_bits, u.value, bits_more) (mark_hidden (bits_of with_hidden 0 ts) u.is);
           };
       there = rw (spaced_more ts u.is) (between_both w.there u.there);
-    }
-
--- the line ends behind the last term
-pub terms_ended : {text : List ℕ} {start at c : ℕ} {r : Terms} (end : ℕ) → TermsTo text start at c r → Between text at end (newline ∷ [])
-    → TermsThere text start c (record { end = end; terms = r.terms; shown = r.shown; hidden = r.hidden })
-terms_ended end w e =
-    record {
-      are = w.are;
-      count = w.count;
-      holds =
-          record {
-            within = w.holds.within;
-            held = w.holds.held;
-            shown_bits = w.holds.shown_bits;
-            hidden_bits = w.holds.hidden_bits;
-          };
-      there = between_both w.there e;
     }

@@ -1,4 +1,4 @@
--- Places of a text, and what the inner functions of the pass find there. Place 0 as an end says nothing.
+-- Places of a text, and what the inner functions of the pass find there.
 use Rattle.std.specs.Prelude.{◌≡◌, Bool, true, false, List, [], ◌∷◌, ◌++◌, ℕ, ◌+◌, ◌^◌, ◌≤◌, ◌<◌, T, length, get_or, take, Option, IfSome}
 use Rattle.words.specs.Sets.{meet}
 use Rattle.text.specs.Lines.{newline}
@@ -44,13 +44,19 @@ NumberAt text at r = IfSome r (λ n. NumeralThere text at n)
 abbrev pub TableAt : List ℕ → ℕ → Option Number → Type 0
 TableAt text at r = IfSome r (λ n. NumeralThere text at n × (1 ≤ n.value))
 
--- the columns of a table that there may be; 0 says nothing
-abbrev pub WidthOf : List ℕ → ℕ → ℕ → Type 0
-WidthOf lent table width = 1 ≤ width → (table ≤ most_tables) × (width ≡ get_or lent table 0)
+-- a table that there may be has so many columns, one at least
+pub record WidthThere (lent : List ℕ) (table width : ℕ) : Type 0 where
+  pub some : 1 ≤ width
+  pub last : table ≤ most_tables
+  pub is : width ≡ get_or lent table 0
+
+-- the columns of such a table, or none
+abbrev pub WidthOf : List ℕ → ℕ → Option ℕ → Type 0
+WidthOf lent table r = IfSome r (λ width. WidthThere lent table width)
 
 -- a line ends at the place, or it does not
-abbrev pub EndAt : List ℕ → ℕ → ℕ → Type 0
-EndAt text at end = (end ≡ 0 → ⊥) → Between text at end (newline ∷ [])
+abbrev pub EndAt : List ℕ → ℕ → Option ℕ → Type 0
+EndAt text at r = IfSome r (λ end. Between text at end (newline ∷ []))
 
 -- a query with so many lines ends at the place: there is a line, and no variable of these two words has both marks
 pub record Ended (count shown hidden at end : ℕ) : Type 0 where
@@ -58,5 +64,5 @@ pub record Ended (count shown hidden at end : ℕ) : Type 0 where
   pub clear : meet 64 shown hidden ≡ false
   pub here : end ≡ at
 
-abbrev pub TextEnd : ℕ → ℕ → ℕ → ℕ → ℕ → Type 0
-TextEnd count shown hidden at end = (end ≡ 0 → ⊥) → Ended count shown hidden at end
+abbrev pub TextEnd : ℕ → ℕ → ℕ → ℕ → Option ℕ → Type 0
+TextEnd count shown hidden at r = IfSome r (λ end. Ended count shown hidden at end)

@@ -1,5 +1,5 @@
 -- What is known of the first query text of an input where the pass over it gives one.
-use Rattle.std.specs.Prelude.{◌≡◌, List, ℕ, ◌+◌, ◌<◌, T, length, get_or, take}
+use Rattle.std.specs.Prelude.{◌≡◌, List, ℕ, ◌+◌, ◌<◌, T, length, get_or, take, Option, IfSome}
 use Rattle.theory.specs.Query.{Query, ◌∈◌}
 use Rattle.model.specs.Limits.{most_tables, most_columns, up_to}
 use Rattle.model.specs.Value.{query_value}
@@ -25,6 +25,6 @@ pub record Scanned (widths input : List ℕ) (p : Piece) (rows : List ℕ) : Typ
   pub cuts : NextCut input p.end
   pub laid : Laid query rows
 
--- place 0 says nothing: the input is then read line by line
-abbrev pub ScannedUnder : List ℕ → List ℕ → Piece → List ℕ → Type 0
-ScannedUnder lent input p rows = (p.end ≡ 0 → ⊥) → (widths : List ℕ) → Widths lent widths → Scanned widths input p rows
+-- none says nothing: the input is then read line by line
+abbrev pub ScannedUnder : List ℕ → List ℕ → Option Piece → List ℕ → Type 0
+ScannedUnder lent input r rows = IfSome r (λ p. (widths : List ℕ) → Widths lent widths → Scanned widths input p rows)

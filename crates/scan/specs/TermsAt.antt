@@ -1,4 +1,4 @@
--- The terms of a line from a place of a text on. Place 0 as an end says nothing.
+-- The terms of a line from a place of a text on.
 use Rattle.std.specs.Prelude.{◌≡◌, List, [], ◌∷◌, ◌++◌, ℕ, T, length, Option, IfSome}
 use Rattle.theory.specs.Query.{Term}
 use Rattle.theory.specs.Executable.Test.{all}
@@ -37,5 +37,5 @@ pub record TermsThere (text : List ℕ) (at width : ℕ) (r : Terms) : Type 0 wh
   pub there : Between text at r.end (spaced are ++ newline ∷ [])
 
 -- such terms at the place, or none
-abbrev pub TermsAt : List ℕ → ℕ → ℕ → Terms → Type 0
-TermsAt text at width r = (r.end ≡ 0 → ⊥) → TermsThere text at width r
+abbrev pub TermsAt : List ℕ → ℕ → ℕ → Option Terms → Type 0
+TermsAt text at width r = IfSome r (λ t. TermsThere text at width t)

@@ -21,7 +21,7 @@ const NAMES: usize = NAMES_END + 1;
 
 const NAMES_END: usize = 11;
 
-// A query, and the place behind its text; place 0 where there is none.
+// A query, and the place behind its text.
 #[derive(Clone, Copy)]
 pub struct Piece {
     pub query: Query,
@@ -43,64 +43,61 @@ fn names_at(text: &[u8], at: usize) -> bool
     text::same(&rest[..NAMES_END], &text::TABLE_TERMS)
 }
 
-// The columns of a table that there may be, or 0.
-fn width_of(widths: &[u64], table: u64) -> usize
+// The columns of a table that there may be.
+fn width_of(widths: &[u64], table: u64) -> Option<usize>
     requires { most_tables < length widths.now }
     ensures { WidthOf widths.now table result }
 {
     if (MOST_TABLES as u64) < table {
-        return 0;
+        return None;
     }
-    widths[table as usize] as usize
+    let width = widths[table as usize] as usize;
+    if width == 0 {
+        return None;
+    }
+    Some(width)
 }
 
-// The place behind the text of a query with so many lines and these variables; 0 where it has no line, or a variable with both marks.
-fn text_end(count: usize, shown: u64, hidden: u64, at: usize) -> usize
+// The place behind the text of a query with so many lines and these variables; none where it has no line, or a variable with both marks.
+fn text_end(count: usize, shown: u64, hidden: u64, at: usize) -> Option<usize>
     ensures { TextEnd count shown hidden at result }
 {
     if count == 0 {
-        return 0;
+        return None;
     }
     if words::meets(shown, hidden) {
-        return 0;
+        return None;
     }
-    at
+    Some(at)
 }
 
 // The first query of an input and its lines in rows, line i in row i. The columns of table t stand at place t of `widths`, 0 where
 // there is no such table.
-pub fn first_query(widths: &[u64], input: &[u8], rows: &mut [u64]) -> Piece
+pub fn first_query(widths: &[u64], input: &[u8], rows: &mut [u64]) -> Option<Piece>
     requires { SomeWidths widths.now × (length input.now < 2 ^ 32) × (length rows.old ≡ query_rows_long) }
     ensures scanned_under { ScannedUnder widths.now input.now result rows.new }
     ensures rows_len { length rows.new ≡ query_rows_long }
 {
     let mut q = query_text::no_query();
     if !names_at(input, 0) {
-        return Piece { query: q, end: 0 };
+        return None;
     }
     let mut shown = 0;
     let mut hidden = 0;
     let mut at = NAMES;
+    // no `for`: a line has as many bytes as its terms take, and the next starts behind it
     while at < input.len() {
         if names_at(input, at) {
             break;
         }
         let count = q.count;
         if count == MOST_LINES {
-            return Piece { query: q, end: 0 };
+            return None;
         }
-        let Some(t) = table_at(input, at) else {
-            return Piece { query: q, end: 0 };
-        };
+        let t = table_at(input, at)?;
         let table = t.value;
-        let width = width_of(widths, table);
-        if width == 0 {
-            return Piece { query: q, end: 0 };
-        }
-        let r = terms_at(input, t.end, width);
-        if r.end == 0 {
-            return Piece { query: q, end: 0 };
-        }
+        let width = width_of(widths, table)?;
+        let r = terms_at(input, t.end, width)?;
         let terms = r.terms;
         q.lines[count] = Line { table, terms };
         let l = q.lines[count];
@@ -110,6 +107,6 @@ pub fn first_query(widths: &[u64], input: &[u8], rows: &mut [u64]) -> Piece
         hidden = hidden | r.hidden;
         at = r.end;
     }
-    let end = text_end(q.count, shown, hidden, at);
-    Piece { query: q, end }
+    let end = text_end(q.count, shown, hidden, at)?;
+    Some(Piece { query: q, end })
 }

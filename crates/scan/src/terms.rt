@@ -15,7 +15,7 @@ struct TermEnd {
     end: usize,
 }
 
-// The terms of a line, its shown and hidden variables as bits, and the place behind its end; place 0 where it is not as expected.
+// The terms of a line, its shown and hidden variables as bits, and the place behind its end.
 #[derive(Clone, Copy)]
 pub struct Terms {
     pub end: usize,
@@ -52,41 +52,41 @@ fn term_at(text: &[u8], at: usize) -> Option<TermEnd>
     })
 }
 
-// The place behind the byte 10 at a place, or 0 where another byte is.
-fn line_end(text: &[u8], at: usize) -> usize
+// The place behind the byte 10 at a place; none where another byte is.
+fn line_end(text: &[u8], at: usize) -> Option<usize>
     ensures { EndAt text.now at result }
 {
     if text.len() <= at {
-        return 0;
+        return None;
     }
     if text[at] != b'\n' {
-        return 0;
+        return None;
     }
-    at + 1
+    Some(at + 1)
 }
 
 // So many terms, each behind a space, and the end of their line.
-pub fn terms_at(text: &[u8], start: usize, width: usize) -> Terms
+pub fn terms_at(text: &[u8], start: usize, width: usize) -> Option<Terms>
     requires { PlaceIn text.now start × (width ≤ most_columns) }
     ensures { TermsAt text.now start width result }
 {
-    let mut r = Terms {
-        end: 0,
-        terms: [Term { mark: 0, number: 0 }; MOST_COLUMNS],
-        shown: 0,
-        hidden: 0,
-    };
+    let mut terms = [Term { mark: 0, number: 0 }; MOST_COLUMNS];
+    let mut shown = 0;
+    let mut hidden = 0;
     let mut at = start;
     for c in 0..width {
-        let Some(t) = term_at(text, at) else {
-            return r;
-        };
+        let t = term_at(text, at)?;
         let u = t.term;
-        r.terms[c] = u;
-        r.shown = model::with_mark(SHOWN, r.shown, u);
-        r.hidden = model::with_mark(HIDDEN, r.hidden, u);
+        terms[c] = u;
+        shown = model::with_mark(SHOWN, shown, u);
+        hidden = model::with_mark(HIDDEN, hidden, u);
         at = t.end;
     }
-    r.end = line_end(text, at);
-    r
+    let end = line_end(text, at)?;
+    Some(Terms {
+        end,
+        terms,
+        shown,
+        hidden,
+    })
 }
