@@ -2,13 +2,12 @@
 use mathlib.Core.Path.{◌≡◌, refl, sym, ap, ap₂, subst, ◌∙◌}
 use mathlib.Core.Logic.{◌↔◌}
 use mathlib.Core.Bool.{Bool, true, false, ◌&&◌, and_assoc}
-use mathlib.Core.List.{List, [], ◌∷◌}
-use Prim.Native.Nat.{ℕ, zero, suc, ◌+◌}
+use mathlib.Core.List.{List, [], ◌∷◌, head-eq_of_cons-eq}
+use Prim.Native.Nat.{ℕ, zero, suc, ◌+◌, ◌<◌}
 use lib.Dec.{T, eqb, eqb→eq, eqb_refl}
 use lib.ListN.{length, get_or, take, drop}
-use lib.Seq.{drop-drop, ext_get_or}
+use lib.Seq.{drop-cons, drop-drop, ext_get_or}
 use mir.Facts.{and_yes, yes_and}
-use Rattle.std.specs.Str.{bytes_eq}
 use Rattle.text.specs.Lines.{same_bytes, SameLine}
 
 same_self : (l : List ℕ) → T (same_bytes l l)
@@ -51,14 +50,6 @@ same_false l m n = go (same_bytes l m) (λ t. n ((same_bytes_iff l m).0 t))
     go true h = absurd (h tt)
     go false h = refl
 
--- `==` of slices
-pub same_is : (l m : List ℕ) → bytes_eq l m ≡ same_bytes l m
-unfolding same_bytes
-same_is [] [] = refl
-same_is [] (c ∷ m) = refl
-same_is (b ∷ l) [] = refl
-same_is (b ∷ l) (c ∷ m) = ap (λ (t : Bool). eqb b c && t) (same_is l m)
-
 -- ---- so many bytes at a time
 
 same_parted : (n : ℕ) (l m : List ℕ) → same_bytes (take n l) (take n m) && same_bytes (drop n l) (drop n m) ≡ same_bytes l m
@@ -79,3 +70,8 @@ module _ (a b : List ℕ) (i : ℕ) where
 
   pub apart_here : (n : ℕ) → (take n (drop i a) ≡ take n (drop i b) → ⊥) → false ≡ same_bytes (drop i a) (drop i b)
   apart_here n f = same_false _ _ (λ e. f (ap (λ (l : List ℕ). take n l) e))
+
+  -- the next byte
+  pub byte_iff : i < length a → i < length b → (get_or a i 0 ≡ get_or b i 0) ↔ (take 1 (drop i a) ≡ take 1 (drop i b))
+  byte_iff h k =
+      rw (drop-cons a i 0 h, drop-cons b i 0 k) (λ e. ap {B = List ℕ} (λ x. x ∷ []) e, λ e. head-eq_of_cons-eq e)

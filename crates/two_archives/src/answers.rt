@@ -59,12 +59,11 @@ fn of_view(p: Policy, k: usize, rows: &[u64], known: &List, names: &mut List)
     requires { (k ≤ 31) × (9 ≤ length rows.now) }
 {
     let line = valuations::view_rows(p, k);
-    for (number, archive) in [(1, rows), (2, &rows[ROW..])] {
+    let both: [(&[u8], &[u64]); 2] = [(b" on archive 1:", rows), (b" on archive 2:", &rows[ROW..])];
+    for (said, archive) in both {
         io::write_all(1, b"  view ");
         io::print_decimal(1, k as u64 + 1);
-        io::write_all(1, b" on archive ");
-        io::print_decimal(1, number);
-        io::write_all(1, b":");
+        io::write_all(1, said);
         print_answers(&line, archive, rows, known, names);
     }
 }
@@ -83,10 +82,12 @@ pub fn of_views(p: Policy, n: u64, rows: &[u64], known: &List, names: &mut List)
 pub fn of_query(lines: &[u64], rows: &[u64], known: &List, names: &mut List)
     requires { (length lines.now ≤ 136) × (9 ≤ length rows.now) }
 {
-    for (number, archive) in [(1, rows), (2, &rows[ROW..])] {
-        io::write_all(1, b"  query on archive ");
-        io::print_decimal(1, number);
-        io::write_all(1, b":");
+    let both: [(&[u8], &[u64]); 2] = [
+        (b"  query on archive 1:", rows),
+        (b"  query on archive 2:", &rows[ROW..]),
+    ];
+    for (said, archive) in both {
+        io::write_all(1, said);
         print_answers(lines, archive, rows, known, names);
     }
 }

@@ -61,10 +61,9 @@ fn print(p: Policy, archive: &[u64], known: &List, names: &mut List) {
 pub fn print_both(p: Policy, rows: &[u64], known: &List, names: &mut List)
     requires { 9 ≤ length rows.now }
 {
-    for (number, archive) in [(1, rows), (2, &rows[ROW..])] {
-        io::write_all(1, b"  archive ");
-        io::print_decimal(1, number);
-        io::write_all(1, b"\n");
+    let both: [(&[u8], &[u64]); 2] = [(b"  archive 1\n", rows), (b"  archive 2\n", &rows[ROW..])];
+    for (said, archive) in both {
+        io::write_all(1, said);
         print(p, archive, known, names);
     }
 }

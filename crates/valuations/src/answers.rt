@@ -83,8 +83,9 @@ fn keep(answers: &mut Answers, count: usize, shown: &[u64]) -> usize
     if MOST_ANSWERS <= count {
         return MOST_ANSWERS;
     }
-    let from = count * VARIABLES;
-    answers[from..from + VARIABLES].copy_from_slice(shown);
+    for (x, value) in shown.iter().enumerate() {
+        answers[count * VARIABLES + x] = *value;
+    }
     count + 1
 }
 

@@ -1,11 +1,11 @@
--- Laws of writing: nothing, one byte, one piece behind another.
+-- Laws of writing: nothing, one byte, one piece behind another, and a list of bytes from its front on.
 use mathlib.Core.Path.{◌≡◌, subst, refl, sym, ap, ◌∙◌}
 use mathlib.Core.List.{List, [], ◌∷◌, ◌++◌, append_assoc, append-nil}
-use Prim.Native.Nat.{ℕ, ◌+◌, ◌<◌}
+use Prim.Native.Nat.{ℕ, ◌+◌, ◌≤◌, ◌<◌}
 use native.Mathlib.Numerals.{add-one}
 use native.Mathlib.Omega.{arith}
-use lib.ListN.{length, take, drop, set, length-set, length-append}
-use lib.Seq.{take-suc-set, drop-set-lt, drop-drop}
+use lib.ListN.{length, take, drop, set, get_or, length-set, length-append}
+use lib.Seq.{take_all, take-suc, take-suc-set, drop-set-lt, drop-drop}
 use Rattle.writing.specs.Wrote.{Wrote}
 
 -- bytes under another name
@@ -32,3 +32,11 @@ wrote_more {a} {b} {bs = bs} {cs = cs} {i = i} {j = j} v w =
       rest = w.rest ∙ rw w.next (sym (drop-drop (length cs) j b) ∙ ap (drop (length cs)) v.rest ∙ drop-drop (length cs) j a);
       size = w.size ∙ v.size;
     }
+
+-- the byte of `bs` at place i behind those before it
+pub wrote_next : {a b c : List ℕ} {at j k : ℕ} (bs : List ℕ) (i : ℕ) → Wrote a at (take i bs) b j → Wrote b j (get_or bs i 0 ∷ []) c k
+    → i < length bs → Wrote a at (take (i + 1) bs) c k
+wrote_next bs i v w h = rw (add-one i, take-suc bs i 0) (wrote_more v w)
+
+pub wrote_all : {a b : List ℕ} {at j : ℕ} (bs : List ℕ) (i : ℕ) → Wrote a at (take i bs) b j → length bs ≤ i → Wrote a at bs b j
+wrote_all bs i w h = rw (take_all i bs h) at w

@@ -15,13 +15,16 @@ pub fn put_byte(out: &mut [u8], at: usize, b: u8) -> usize
     at + 1
 }
 
-// All bytes of a slice, from its first on.
+// All bytes of a slice, from its first on. Not by `copy_from_slice`: compilers make a call of `memmove` of it, and of the functions on memory
+// that come from outside `memcpy` and `memset` are to do.
 pub fn put_bytes(out: &mut [u8], at: usize, bytes: &[u8]) -> usize
     requires { at + length bytes.now ≤ length out.old }
     ensures { Wrote out.old at bytes.now out.new result }
 {
-    let to = at + bytes.len();
-    out[at..to].copy_from_slice(bytes);
+    let mut to = at;
+    for b in bytes {
+        to = put_byte(out, to, *b);
+    }
     to
 }
 

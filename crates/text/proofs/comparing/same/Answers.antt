@@ -1,10 +1,10 @@
 use mathlib.Core.Path.{◌≡◌, sym, ap, ◌∙◌}
 use native.Mathlib.Omega.{arith}
-use Prim.Native.Nat.{◌+◌, ◌*◌, ◌/◌}
-use lib.ListN.{length}
-use Rattle.std.proofs.lemmas.Slice.{between_to_end}
+use Prim.Native.Nat.{ℕ, ◌+◌, ◌*◌, ◌/◌}
+use lib.ListN.{length, drop}
 use Rattle.little_endian.proofs.LittleEndian.{WordIff, word_iff}
-use Rattle.text.proofs.Names.{same_false, same_is, same_behind, apart_here}
+use Rattle.text.specs.Lines.{same_bytes}
+use Rattle.text.proofs.Names.{same_false, same_behind, apart_here}
 use Rattle.text.proofs.comparing.same.Goals as goal
 use Rattle.text.proofs.comparing.same.Goals.{In-loop-k}
 
@@ -38,6 +38,4 @@ returns c =
     let a = c.args.a.now in
     let b = c.args.b.now in
     let end : length a / 8 ≡ c.loop-k.k = omega arith in
-    c.eq.ensures
-    ∙ rw (between_to_end a (length a / 8 * 8) (length a) (omega arith), between_to_end b (length a / 8 * 8) (length b) (omega arith), end)
-    (same_is _ _ ∙ c.loop-k.invariant)
+    c.same_from.ensures ∙ ap (λ (k : ℕ). same_bytes (drop (k * 8) a) (drop (k * 8) b)) end ∙ c.loop-k.invariant
