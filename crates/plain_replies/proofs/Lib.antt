@@ -1,2 +1,4 @@
+-- Replies by their variants.
+pub mod Tags
 -- Replies read back from their numbers.
 pub mod Told
